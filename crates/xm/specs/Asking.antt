@@ -1,0 +1,44 @@
+-- "A sample asked for by number is handed back as the very stretch of the lent file. A number at or above the rows lent, or a row whose
+-- data isn't inside the file, gives an empty stretch. A second call tells 0 from 16 for the same question."
+use Prim.Native.Nat.{ℕ, _+_, _-_, _*_, _/_}
+use mathlib.Core.List.{List, [], _∷_}
+use lib.IntN.{pos}
+use lib.ListN.{length, getD}
+use Rattle.xm.specs.Number.{part}
+use Rattle.xm.specs.Got.{got, _>>_, checked, present, _at_}
+use Rattle.xm.specs.Answer.{Answer, gives, refuses, answered, numberOf, numbers}
+use Rattle.xm.specs.Table.{SampleRow}
+
+-- Where the data lies that a row speaks of.
+pub record Lies : Type 0 where
+  pub place : ℕ
+  pub size : ℕ
+
+unfoldable pub asking : (file : List ℕ) (rows : ℕ) (number : ℕ) (row : Lies) → Answer Lies
+asking file rows number row = answered (λ lies used. lies) (do
+  checked (
+      present (number + 1) rows (16 at 0)
+      ∷ present (row .place) (length file) (16 at 0)
+      ∷ present (row .size) (length file - row .place) (16 at 0)
+      ∷ [])
+  got row 0)
+
+-- The stretch; "tells 0 from 16"; and its place and length as numbers.
+abbrev pub stretchOf : (file : List ℕ) → Answer Lies → List ℕ
+stretchOf file (gives lies) = part (lies .place) (lies .size) file
+stretchOf file (refuses r) = []
+
+abbrev pub askNumbers : Answer Lies → List ℕ
+askNumbers = numbers (Lies.place ∷ Lies.size ∷ [])
+
+-- Of a table over flat numbers, and of one of records.
+abbrev pub askingFlat : (file table : List ℕ) (number : ℕ) → Answer Lies
+askingFlat file table number =
+    asking file (length table / 4) number (record { place = getD table (4 * number + 1) 0; size = getD table (4 * number + 2) 0 })
+
+abbrev pub noRow : SampleRow
+noRow = record { headerPlace = 0; dataPlace = 0; size = 0; width = 0; finetune = pos 0; relativeNote = pos 0 }
+
+abbrev pub askingRows : (file : List ℕ) (rows : List SampleRow) (number : ℕ) → Answer Lies
+askingRows file rows number =
+    asking file (length rows) number (record { place = getD rows number noRow .dataPlace; size = getD rows number noRow .size })

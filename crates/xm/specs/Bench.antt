@@ -1,0 +1,57 @@
+-- The bench pieces that are marked P, as one table: a piece says what goes in and what comes out. `worked` puts in what the
+-- definitions give; the claim (proofs/Bench.antt) is that this changes no piece.
+use Prim.Native.Nat.{ℕ}
+use mathlib.Core.List.{List, [], _∷_}
+use lib.IntN.{ℤ, pos, negsuc}
+use lib.ListN.{length}
+use Rattle.xm.specs.Got.{Refusal, _at_}
+use Rattle.xm.specs.Answer.{Answer, gives, refuses, numberOf, placeOf}
+use Rattle.xm.specs.Cell.{cellMost}
+use Rattle.xm.specs.Stored.{writeStored}
+use Rattle.xm.specs.Packing.{cellBytes, unpacking, packing}
+use Rattle.xm.specs.Delta.{decoding}
+
+pub data Piece : Type 0 where
+  reads : (stored cell packed : List ℕ) → Piece
+  gets : (stored : List ℕ) → Refusal → Piece
+  packs : (cell packed : List ℕ) → Piece
+  decodes : (width : ℕ) (bytes : List ℕ) (values : List ℤ) → Piece
+
+-- What an answer gives, as a list; nothing if it refuses.
+abbrev pub listIn : {A B : Type 0} → (A → List B) → Answer A → List B
+listIn f (gives a) = f a
+listIn f (refuses r) = []
+
+-- "in one cell": one row and one channel, with room for a cell
+abbrev pub unpacked : List ℕ → List ℕ
+unpacked stored = listIn cellBytes (unpacking 1 1 stored cellMost)
+
+abbrev pub packedTo : List ℕ → List ℕ
+packedTo cell = listIn writeStored (packing 1 1 cell cellMost)
+
+abbrev pub refusalIn : {A : Type 0} → Answer A → Refusal
+refusalIn answer = numberOf answer at placeOf answer
+
+abbrev pub worked : Piece → Piece
+worked (reads stored cell packed) = reads stored (unpacked stored) (packedTo (unpacked stored))
+worked (gets stored r) = gets stored (refusalIn (unpacking 1 1 stored cellMost))
+worked (packs cell packed) = packs cell (packedTo cell)
+worked (decodes width bytes values) = decodes width bytes (listIn (λ vs. vs) (decoding width bytes (length bytes)))
+
+abbrev pub pieces : List Piece
+pieces =
+    reads (0x83 ∷ 0x01 ∷ 0x01 ∷ []) (0x01 ∷ 0x01 ∷ 0x00 ∷ 0x00 ∷ 0x00 ∷ []) (0x83 ∷ 0x01 ∷ 0x01 ∷ [])
+    ∷ packs (0x01 ∷ 0x01 ∷ 0x00 ∷ 0x05 ∷ 0x1F ∷ []) (0x9B ∷ 0x01 ∷ 0x01 ∷ 0x05 ∷ 0x1F ∷ [])
+    ∷ reads (0x80 ∷ []) (0x00 ∷ 0x00 ∷ 0x00 ∷ 0x00 ∷ 0x00 ∷ []) (0x80 ∷ [])
+    ∷ reads (0xE0 ∷ []) (0x00 ∷ 0x00 ∷ 0x00 ∷ 0x00 ∷ 0x00 ∷ []) (0x80 ∷ [])
+    ∷ packs (0x31 ∷ 0x02 ∷ 0x40 ∷ 0x0F ∷ 0x06 ∷ []) (0x31 ∷ 0x02 ∷ 0x40 ∷ 0x0F ∷ 0x06 ∷ [])
+    ∷ reads (0x00 ∷ 0x01 ∷ 0x40 ∷ 0x0A ∷ 0x0F ∷ []) (0x00 ∷ 0x01 ∷ 0x40 ∷ 0x0A ∷ 0x0F ∷ []) (0x9E ∷ 0x01 ∷ 0x40 ∷ 0x0A ∷ 0x0F ∷ [])
+    ∷ reads (0x81 ∷ 0x61 ∷ []) (97 ∷ 0x00 ∷ 0x00 ∷ 0x00 ∷ 0x00 ∷ []) (0x81 ∷ 0x61 ∷ [])
+    ∷ gets (0x81 ∷ 0x62 ∷ []) (9 at 0)
+    ∷ gets (0x62 ∷ 0x00 ∷ 0x00 ∷ 0x00 ∷ 0x00 ∷ []) (9 at 0)
+    ∷ gets (0x83 ∷ 0x01 ∷ []) (7 at 0)
+    ∷ gets (0x80 ∷ 0x80 ∷ []) (8 at 1)
+    ∷ decodes 8 (0x00 ∷ 0x01 ∷ 0xFF ∷ 0x02 ∷ 0x01 ∷ 0xFE ∷ []) (pos 0 ∷ pos 1 ∷ pos 0 ∷ pos 2 ∷ pos 3 ∷ pos 1 ∷ [])
+    ∷ decodes 8 (0x7F ∷ 0x01 ∷ []) (pos 127 ∷ negsuc 127 ∷ [])
+    ∷ decodes 16 (0xFF ∷ 0x7F ∷ 0x01 ∷ 0x00 ∷ []) (pos 32767 ∷ negsuc 32767 ∷ [])
+    ∷ []

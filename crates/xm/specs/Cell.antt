@@ -1,0 +1,88 @@
+-- "A cell is five bytes: note, instrument, volume, effect, parameter." How it is stored, and its shortest form.
+use Prim.Native.Nat.{ℕ, zero, suc, _+_, _*_, _/_, _%_, _≤_}
+use mathlib.Core.Bool.{Bool, cond}
+use mathlib.Core.List.{List, [], _∷_, _++_}
+use mathlib.Core.Path.{_≡_}
+use lib.Count.{ones}
+use lib.Dec.{ltb, eqb}
+use lib.ListN.{length, getD, drop}
+use Rattle.xm.specs.Number.{Bytes}
+use Rattle.xm.specs.Got.{got, Reader, _>>_, checked, present, atMost, _at_}
+use Rattle.xm.specs.Format.{Format}
+
+-- "Only the note is limited (0..97)"
+abbrev pub noteMost : ℕ
+noteMost = 97
+
+-- "From 128 up it is marked"
+abbrev pub markedFrom : ℕ
+markedFrom = 128
+
+-- The first five numbers.
+abbrev pub five : List ℕ → List ℕ
+five s = getD s 0 0 ∷ getD s 1 0 ∷ getD s 2 0 ∷ getD s 3 0 ∷ getD s 4 0 ∷ []
+
+-- "A lead byte below 128 is the note, and four bytes follow"; "A marked cell's length is one more than the number of ones in the low
+-- five bits of its lead byte."
+unfoldable pub lengthBy : ℕ → ℕ
+lengthBy lead = cond (ltb lead markedFrom) 5 (1 + ones (lead % 32))
+
+-- "bits 0 to 4 say which of the five follow, in order; the absent are 0": one field by the lowest bit, and `count` fields so.
+abbrev pub fieldBy : ℕ → List ℕ → ℕ
+fieldBy bits s = cond (eqb (bits % 2) 0) 0 (getD s 0 0)
+
+unfoldable pub fieldsBy : (count bits : ℕ) → List ℕ → List ℕ
+fieldsBy zero bits s = []
+fieldsBy (suc count) bits s = fieldBy bits s ∷ fieldsBy count (bits / 2) (drop (bits % 2) s)
+
+-- The bytes that the cell at the head of s takes, and its five bytes.
+abbrev pub needed : List ℕ → ℕ
+needed s = lengthBy (getD s 0 0)
+
+unfoldable pub cellAt : List ℕ → List ℕ
+cellAt s = cond (ltb (getD s 0 0) markedFrom) (five s) (fieldsBy 5 (getD s 0 0) (drop 1 s))
+
+-- "A cell is tried for 7, then 9", at "where the cell's lead byte stands or would stand".
+unfoldable pub readCell : Reader (List ℕ)
+readCell place s = do
+  checked (present (needed s) (length s) (7 at place) ∷ atMost noteMost (getD (cellAt s) 0 0) (9 at place) ∷ [])
+  got (cellAt s) (needed s)
+
+-- "bits 5 and 6 zero and one bit for each field that isn't 0": the bits, the first field's lowest, and those fields.
+abbrev pub bit : ℕ → ℕ
+bit zero = 0
+bit (suc x) = 1
+
+unfoldable pub kept : ℕ → List ℕ
+kept zero = []
+kept (suc x) = suc x ∷ []
+
+unfoldable pub marks : List ℕ → ℕ
+marks [] = 0
+marks (x ∷ xs) = bit x + 2 * marks xs
+
+unfoldable pub kepts : List ℕ → List ℕ
+kepts [] = []
+kepts (x ∷ xs) = kept x ++ kepts xs
+
+unfoldable pub marked : List ℕ → List ℕ
+marked cell = (markedFrom + marks cell) ∷ kepts cell
+
+-- "each cell in its shortest form; where plain and marked tie at five bytes, marked"
+unfoldable pub goesPlain : List ℕ → Bool
+goesPlain cell = ltb (length cell) (length (marked cell))
+
+unfoldable pub writeCell : List ℕ → List ℕ
+writeCell cell = cond (goesPlain cell) cell (marked cell)
+
+-- "So a cell takes 1 to 5 bytes."
+abbrev pub cellMost : ℕ
+cellMost = 5
+
+pub record GoodCell (cell : List ℕ) : Type 0 where
+  pub size : length cell ≡ 5
+  pub plain : Bytes cell
+  pub note : getD cell 0 0 ≤ noteMost
+
+abbrev pub cellFormat : Format (Unit {0}) (List ℕ) (List ℕ)
+cellFormat = record { read = λ u. readCell; view = λ cell. cell; regions = λ cell. []; Good = λ u. GoodCell; write = writeCell }

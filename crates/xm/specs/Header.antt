@@ -1,0 +1,147 @@
+-- The header of a module: where its fields stand, its refusals in order, and how it is written.
+use Prim.Native.Nat.{ℕ, _+_, _-_, _≤_, _<_}
+use mathlib.Core.Bool.{Bool, cond}
+use mathlib.Core.List.{List, [], _∷_, _++_}
+use mathlib.Core.Path.{_≡_}
+use lib.Dec.{ltb}
+use lib.ListN.{length, replicate}
+use Rattle.xm.specs.Number.{Bytes, byteAt, wordAt, longAt, part, byte, word, long}
+use Rattle.xm.specs.Got.{got, Reader, _>>_, Test, checked, present, atLeast, atMost, within, exactly, _at_, AllHold}
+use Rattle.xm.specs.Format.{Format, Region, header, flat}
+
+-- "mark 37", "version 58 (2)", and the two that the order of refusals names apart.
+abbrev pub mark : ℕ
+mark = 0x1A
+
+abbrev pub version : ℕ
+version = 0x0104
+
+-- "header size 60 (4)": "The first pattern header is at header size + 60."
+abbrev pub sizeFrom : ℕ
+sizeFrom = 60
+
+-- "order table from 80"
+abbrev pub ordersFrom : ℕ
+ordersFrom = 80
+
+-- "4 | header size below 276", which the press writes: 20 bytes of fields and 256 of orders.
+abbrev pub leastHeader : (songLength : ℕ) → ℕ
+leastHeader songLength = 276
+
+abbrev pub ordersMost : ℕ
+ordersMost = 256
+
+abbrev pub headerEnd : List ℕ → ℕ
+headerEnd s = longAt 60 s + sizeFrom
+
+-- "5 | song length or patterns not 1..256, channels not 1..64, instruments above 128"
+abbrev pub countTests : (songLength patterns channels instruments place : ℕ) → List Test
+countTests songLength patterns channels instruments place =
+    within 1 256 songLength (5 at place)
+    ∷ within 1 256 patterns (5 at place)
+    ∷ within 1 64 channels (5 at place)
+    ∷ atMost 128 instruments (5 at place)
+    ∷ []
+
+-- "the first 80 bytes present (1); 3; 4; 5; header size + 60 within the file (1)"
+abbrev pub headerTests : (place : ℕ) → List ℕ → List Test
+headerTests place s =
+    present 80 (length s) (1 at place)
+    ∷ exactly mark (byteAt 37 s) (3 at place)
+    ∷ exactly version (wordAt 58 s) (3 at place)
+    ∷ atLeast (leastHeader (wordAt 64 s)) (longAt 60 s) (4 at place)
+    ∷ countTests (wordAt 64 s) (wordAt 70 s) (wordAt 68 s) (wordAt 72 s) place
+    ++ (present (headerEnd s) (length s) (1 at place) ∷ [])
+
+-- The content of a header.
+pub record Header : Type 0 where
+  pub moduleName : List ℕ
+  pub trackerName : List ℕ
+  pub songLength : ℕ
+  pub restart : ℕ
+  pub channels : ℕ
+  pub patterns : ℕ
+  pub instruments : ℕ
+  pub flags : ℕ
+  pub tempo : ℕ
+  pub bpm : ℕ
+  pub orders : List ℕ
+
+-- "Restart at or above song length reads as 0"
+unfoldable pub restartInside : (songLength restart : ℕ) → Bool
+restartInside songLength restart = ltb restart songLength
+
+unfoldable pub restartOf : (songLength restart : ℕ) → ℕ
+restartOf songLength restart = cond (restartInside songLength restart) restart 0
+
+abbrev pub headerOf : List ℕ → Header
+headerOf s = record {
+  moduleName = part 17 20 s;
+  trackerName = part 38 20 s;
+  songLength = wordAt 64 s;
+  restart = restartOf (wordAt 64 s) (wordAt 66 s);
+  channels = wordAt 68 s;
+  patterns = wordAt 70 s;
+  instruments = wordAt 72 s;
+  flags = wordAt 74 s;
+  tempo = wordAt 76 s;
+  bpm = wordAt 78 s;
+  orders = part ordersFrom (wordAt 64 s) s;
+}
+
+pub record HeaderFound : Type 0 where
+  pub place : ℕ
+  pub size : ℕ
+  pub content : Header
+
+unfoldable pub readHeader : Reader HeaderFound
+readHeader place s = do
+  checked (headerTests place s)
+  got (record { place = place; size = headerEnd s; content = headerOf s }) (headerEnd s)
+
+-- "Extended module: " (17 bytes)
+abbrev pub idText : List ℕ
+idText = 0x45 ∷ 0x78 ∷ 0x74 ∷ 0x65 ∷ 0x6E ∷ 0x64 ∷ 0x65 ∷ 0x64 ∷ 0x20 ∷ 0x6D ∷ 0x6F ∷ 0x64 ∷ 0x75 ∷ 0x6C ∷ 0x65 ∷ 0x3A ∷ 0x20 ∷ []
+
+-- "mark 1A, version 0x0104, header size 276, order table zero-filled to 256"
+unfoldable pub writeHeader : Header → List ℕ
+writeHeader x = flat (
+    idText
+    ∷ x .moduleName
+    ∷ byte mark
+    ∷ x .trackerName
+    ∷ word version
+    ∷ long (leastHeader (x .songLength))
+    ∷ word (x .songLength)
+    ∷ word (x .restart)
+    ∷ word (x .channels)
+    ∷ word (x .patterns)
+    ∷ word (x .instruments)
+    ∷ word (x .flags)
+    ∷ word (x .tempo)
+    ∷ word (x .bpm)
+    ∷ x .orders
+    ∷ replicate (ordersMost - x .songLength) 0
+    ∷ [])
+
+pub record GoodHeader (x : Header) : Type 0 where
+  pub name-size : length (x .moduleName) ≡ 20
+  pub name-plain : Bytes (x .moduleName)
+  pub tracker-size : length (x .trackerName) ≡ 20
+  pub tracker-plain : Bytes (x .trackerName)
+  pub counts : AllHold (countTests (x .songLength) (x .patterns) (x .channels) (x .instruments) 0)
+  pub restart-low : x .restart < x .songLength
+  pub flags-high : x .flags < 65536
+  pub tempo-high : x .tempo < 65536
+  pub bpm-high : x .bpm < 65536
+  pub orders-size : length (x .orders) ≡ x .songLength
+  pub orders-plain : Bytes (x .orders)
+
+abbrev pub headerFormat : Format (Unit {0}) HeaderFound Header
+headerFormat = record {
+  read = λ u. readHeader;
+  view = λ i. i .content;
+  regions = λ i. record { kind = header; place = i .place; size = i .size } ∷ [];
+  Good = λ u. GoodHeader;
+  write = writeHeader;
+}

@@ -1,0 +1,107 @@
+-- An instrument: "size I (4), name (22), type (1), sample count k at 27 (2). If k > 0: sample header size H at 29 (4), note map 33 ..
+-- reserved 241", to 263; "Then k sample headers of H bytes each, then the k samples' data".
+use Prim.Native.Nat.{ℕ, zero, suc, _+_, _*_, _≤_, _<_}
+use mathlib.Core.List.{List, [], _∷_, _++_}
+use mathlib.Core.Path.{_≡_}
+use lib.Dec.{ltb}
+use lib.ListN.{length, drop, replicate}
+use Rattle.xm.specs.Number.{Bytes, byteAt, wordAt, longAt, part, byte, word, long}
+use Rattle.xm.specs.Got.{got, Reader, _>>=_, _>>_, Test, checked, present, atLeast, atMost, when, _at_}
+use Rattle.xm.specs.Format.{Format, Region, instrument, flat}
+use Rattle.xm.specs.Sample.{leastHead, Samples, SamplesFound, samplesFormat}
+
+-- "I = 29 or 263"
+abbrev pub leastInstrument : (k : ℕ) → ℕ
+leastInstrument zero = 29
+leastInstrument (suc k) = 263
+
+abbrev pub samplesMost : ℕ
+samplesMost = 16
+
+-- "29 bytes present (1); 10; I bytes present (1); and if k > 0: 11; all k headers present (1)", all at the instrument's start.
+-- 10: "I below 29, k above 16, or I below 263 with k above 0"
+abbrev pub instrumentTests : (place : ℕ) → List ℕ → List Test
+instrumentTests place s =
+    present (leastInstrument 0) (length s) (1 at place)
+    ∷ atLeast (leastInstrument 0) (longAt 0 s) (10 at place)
+    ∷ atMost samplesMost (wordAt 27 s) (10 at place)
+    ∷ when (ltb 0 (wordAt 27 s)) (atLeast (leastInstrument 1) (longAt 0 s) (10 at place))
+    ∷ present (longAt 0 s) (length s) (1 at place)
+    ∷ when (ltb 0 (wordAt 27 s)) (atLeast leastHead (longAt 29 s) (11 at place))
+    ∷ when (ltb 0 (wordAt 27 s)) (present (longAt 0 s + wordAt 27 s * longAt 29 s) (length s) (1 at place))
+    ∷ []
+
+-- "each instrument's name, type, k, and if k > 0 bytes 33 to 240": k is the number of samples.
+pub record Instrument : Type 0 where
+  pub name : List ℕ
+  pub type : ℕ
+  pub voice : List ℕ
+  pub samples : Samples
+
+abbrev pub voiceFrom : ℕ
+voiceFrom = 33
+
+abbrev pub voiceSize : ℕ
+voiceSize = 208
+
+abbrev pub voiceOf : (k : ℕ) → List ℕ → List ℕ
+voiceOf zero s = []
+voiceOf (suc k) s = part voiceFrom voiceSize s
+
+pub record InstrumentFound : Type 0 where
+  pub place : ℕ
+  pub size : ℕ
+  pub name : List ℕ
+  pub type : ℕ
+  pub voice : List ℕ
+  pub samples : SamplesFound
+
+unfoldable pub readInstrument : Reader InstrumentFound
+readInstrument place s = do
+  let size = longAt 0 s
+  let k = wordAt 27 s
+  checked (instrumentTests place s)
+  (samples, used) ← samplesFormat .read (replicate k (longAt 29 s)) (place + size) (drop size s)
+  got (record { place = place; size = size; name = part 4 22 s; type = byteAt 26 s; voice = voiceOf k s; samples = samples }) (size + used)
+
+-- "I = 29 or 263, reserved bytes 0, H = 40"
+unfoldable pub writeVoice : (k : ℕ) (voice : List ℕ) → List ℕ
+writeVoice zero voice = []
+writeVoice (suc k) voice = flat (long leastHead ∷ voice ∷ replicate 22 0 ∷ [])
+
+abbrev pub countOf : Instrument → ℕ
+countOf x = length (x .samples .0)
+
+unfoldable pub writeInstrument : Instrument → List ℕ
+writeInstrument x = flat (
+    long (leastInstrument (countOf x))
+    ∷ x .name
+    ∷ byte (x .type)
+    ∷ word (countOf x)
+    ∷ writeVoice (countOf x) (x .voice)
+    ∷ samplesFormat .write (x .samples)
+    ∷ [])
+
+abbrev pub GoodVoice : (k : ℕ) (voice : List ℕ) → Type 0
+GoodVoice zero voice = voice ≡ []
+GoodVoice (suc k) voice = (length voice ≡ voiceSize) × Bytes voice
+
+pub record GoodInstrument (x : Instrument) : Type 0 where
+  pub name-size : length (x .name) ≡ 22
+  pub name-plain : Bytes (x .name)
+  pub type-byte : x .type < 256
+  pub few : countOf x ≤ samplesMost
+  pub voice-good : GoodVoice (countOf x) (x .voice)
+  pub samples-good : samplesFormat .Good (replicate (countOf x) leastHead) (x .samples)
+
+abbrev pub instrumentView : InstrumentFound → Instrument
+instrumentView i = record { name = i .name; type = i .type; voice = i .voice; samples = samplesFormat .view (i .samples) }
+
+abbrev pub instrumentFormat : Format (Unit {0}) InstrumentFound Instrument
+instrumentFormat = record {
+  read = λ u. readInstrument;
+  view = instrumentView;
+  regions = λ i. record { kind = instrument; place = i .place; size = i .size } ∷ samplesFormat .regions (i .samples);
+  Good = λ u. GoodInstrument;
+  write = writeInstrument;
+}

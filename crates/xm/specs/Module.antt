@@ -1,0 +1,47 @@
+-- A whole file: "Order over a file: 2; .. Then each pattern .. Then each instrument"; and its content.
+use Prim.Native.Nat.{ℕ}
+use mathlib.Core.List.{List, [], _∷_}
+use lib.ListN.{length, getD, replicate}
+use Rattle.xm.specs.Got.{Got, _>>_, checked, atMost, _at_}
+use Rattle.xm.specs.Format.{Format, over, then, each}
+use Rattle.xm.specs.Stored.{Pattern, standard}
+use Rattle.xm.specs.Header.{Header, HeaderFound, headerFormat}
+use Rattle.xm.specs.PatternInFile.{PatternFound, patternFormat}
+use Rattle.xm.specs.Instrument.{Instrument, InstrumentFound, instrumentFormat}
+
+-- As many patterns and instruments as the header counts; a pattern's reading depends on the number of channels.
+abbrev pub patternsFor : Header → List ℕ
+patternsFor x = replicate (x .patterns) (x .channels)
+
+abbrev pub instrumentsFor : Header → List Pattern → List (Unit {0})
+instrumentsFor x patterns = replicate (x .instruments) tt
+
+abbrev pub bodyFormat : Format Header (List PatternFound × List InstrumentFound) (List Pattern × List Instrument)
+bodyFormat = then (over patternsFor (each patternFormat)) instrumentsFor (each instrumentFormat)
+
+-- What is found in a file, and its content: header, patterns, instruments.
+abbrev pub Found : Type 0
+Found = HeaderFound × (List PatternFound × List InstrumentFound)
+
+abbrev pub Content : Type 0
+Content = Header × (List Pattern × List Instrument)
+
+abbrev pub moduleFormat : Format (Unit {0}) Found Content
+moduleFormat = then headerFormat (λ u x. x) bodyFormat
+
+-- "2 | file over 16,777,216 bytes"
+abbrev pub fileMost : ℕ
+fileMost = 16777216
+
+-- A file of a format: its size first, and then its parts. "Bytes after the last instrument are ignored."
+unfoldable pub readWhole : {I A : Type 0} → Format (Unit {0}) I A → (file : List ℕ) → Got I
+readWhole F file = do
+  checked (atMost fileMost (length file) (2 at 0) ∷ [])
+  F .read tt 0 file
+
+abbrev pub readFile : (file : List ℕ) → Got Found
+readFile file = readWhole moduleFormat file
+
+-- "An order entry naming no pattern is accepted; it stands for the standard empty pattern": what an order position plays.
+unfoldable pub plays : Content → (position : ℕ) → Pattern
+plays content position = getD (content .1 .0) (getD (content .0 .orders) position 0) (standard (content .0 .channels))

@@ -1,0 +1,118 @@
+-- A sample header, the sample data, and all of an instrument's: "k sample headers of H bytes each, then the k samples' data, back to
+-- back in order".
+use Prim.Native.Nat.{ℕ, _+_, _/_, _%_}
+use mathlib.Core.Bool.{Bool, cond, _&&_, not}
+use mathlib.Core.List.{List, [], _∷_}
+use mathlib.Core.Path.{_≡_}
+use lib.Dec.{ltb, eqb}
+use lib.IntN.{ℤ}
+use lib.ListN.{length, take}
+use Rattle.xm.specs.Number.{Bytes, byteAt, longAt, signed}
+use Rattle.xm.specs.Got.{got, Reader, _>>_, Test, checked, present, atMost, unlike, even, when, _at_, AllHold}
+use Rattle.xm.specs.Format.{Format, Kind, Region, sampleHeader, sampleData, then, each}
+
+-- "11 | H below 40", which the press writes; "each sample's first 40 header bytes" are content.
+abbrev pub leastHead : ℕ
+leastHead = 40
+
+abbrev pub headBytes : (size : ℕ) → List ℕ → List ℕ
+headBytes size s = take leastHead s
+
+-- The fields in these bytes.
+abbrev pub lengthOf : List ℕ → ℕ
+lengthOf head = longAt 0 head
+
+abbrev pub loopStart : List ℕ → ℕ
+loopStart head = longAt 4 head
+
+abbrev pub loopLength : List ℕ → ℕ
+loopLength head = longAt 8 head
+
+abbrev pub finetune : List ℕ → ℤ
+finetune head = signed 8 (byteAt 13 head)
+
+abbrev pub typeOf : List ℕ → ℕ
+typeOf head = byteAt 14 head
+
+abbrev pub relativeNote : List ℕ → ℤ
+relativeNote head = signed 8 (byteAt 16 head)
+
+abbrev pub kindOf : List ℕ → ℕ
+kindOf head = byteAt 17 head
+
+-- "Type bits 0 and 1 give the loop, bit 4 means 16-bit"
+abbrev pub loopBits : List ℕ → ℕ
+loopBits head = typeOf head % 4
+
+abbrev pub isWide : List ℕ → Bool
+isWide head = eqb (typeOf head / 16 % 2) 1
+
+abbrev pub widthOf : List ℕ → ℕ
+widthOf head = cond (isWide head) 16 8
+
+-- "A sample loops only if its loop length is above 0 and bits 0 and 1 are not 0."
+abbrev pub loops : List ℕ → Bool
+loops head = ltb 0 (loopLength head) && not (eqb (loopBits head) 0)
+
+-- The bytes that its data takes.
+abbrev pub dataSize : List ℕ → ℕ
+dataSize head = lengthOf head
+
+-- "kind is AD hex (ADPCM)"
+abbrev pub adpcm : ℕ
+adpcm = 0xAD
+
+-- "each header's 12 then 13"; 13: "loop bits are 3; 16-bit length odd; or a looping sample's start + loop length above its length"
+abbrev pub headTests : (place : ℕ) → List ℕ → List Test
+headTests place head =
+    unlike adpcm (kindOf head) (12 at place)
+    ∷ unlike 3 (loopBits head) (13 at place)
+    ∷ when (isWide head) (even (lengthOf head) (13 at place))
+    ∷ when (loops head) (atMost (lengthOf head) (loopStart head + loopLength head) (13 at place))
+    ∷ []
+
+-- A stretch of the file, and what stands in it.
+pub record Stretch : Type 0 where
+  pub place : ℕ
+  pub size : ℕ
+  pub bytes : List ℕ
+
+abbrev pub stretchRegion : Kind → Stretch → List Region
+stretchRegion kind i = record { kind = kind; place = i .place; size = i .size } ∷ []
+
+-- That all headers are present is tried for the instrument, before the first of them is read.
+unfoldable pub readHead : (size : ℕ) → Reader Stretch
+readHead size place s = do
+  checked (present size (length s) (1 at place) ∷ headTests place (headBytes size s))
+  got (record { place = place; size = size; bytes = headBytes size s }) size
+
+pub record GoodHead (head : List ℕ) : Type 0 where
+  pub size : length head ≡ leastHead
+  pub plain : Bytes head
+  pub tests : AllHold (headTests 0 head)
+
+abbrev pub headFormat : Format ℕ Stretch (List ℕ)
+headFormat = record { read = readHead; view = λ i. i .bytes; regions = stretchRegion sampleHeader; Good = λ size. GoodHead; write = λ head. head }
+
+-- "each sample's data present (1)", at "where that data would begin"
+unfoldable pub readData : (head : List ℕ) → Reader Stretch
+readData head place s = do
+  checked (present (dataSize head) (length s) (1 at place) ∷ [])
+  got (record { place = place; size = dataSize head; bytes = take (dataSize head) s }) (dataSize head)
+
+pub record GoodData (head bytes : List ℕ) : Type 0 where
+  pub size : length bytes ≡ dataSize head
+  pub plain : Bytes bytes
+
+abbrev pub dataFormat : Format (List ℕ) Stretch (List ℕ)
+dataFormat = record { read = readData; view = λ i. i .bytes; regions = stretchRegion sampleData; Good = GoodData; write = λ bytes. bytes }
+
+-- All headers, and then the data of each.
+abbrev pub SamplesFound : Type 0
+SamplesFound = List Stretch × List Stretch
+
+abbrev pub Samples : Type 0
+Samples = List (List ℕ) × List (List ℕ)
+
+abbrev pub samplesFormat : Format (List ℕ) SamplesFound Samples
+samplesFormat = then (each headFormat) (λ sizes heads. heads) (each dataFormat)

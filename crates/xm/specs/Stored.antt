@@ -1,0 +1,58 @@
+-- "A stored form is a row number 1..256 with 0..65,535 data bytes."
+use Prim.Native.Nat.{ℕ, zero, suc, _+_, _*_, _-_, _≤_}
+use mathlib.Core.Bool.{Bool, true, cond, _&&_}
+use mathlib.Core.List.{List, [], _∷_}
+use lib.Dec.{eqb}
+use lib.ListN.{length, drop, replicate}
+use Rattle.xm.specs.Got.{got, Reader, _>>=_, _>>_, checked, atMost, _at_}
+use Rattle.xm.specs.Format.{each, EachGood, joined, flat}
+use Rattle.xm.specs.Cell.{five, cellFormat, writeCell}
+
+-- A pattern: "Cells run row by row, channel by channel."
+pub record Pattern : Type 0 where
+  pub rows : ℕ
+  pub cells : List (List ℕ)
+
+abbrev pub emptyRows : (channels rows : ℕ) → Pattern
+emptyRows channels rows = record { rows = rows; cells = replicate (rows * channels) (replicate 5 0) }
+
+-- "the standard empty one: 64 rows of empty cells"
+abbrev pub standard : (channels : ℕ) → Pattern
+standard channels = emptyRows channels 64
+
+-- "With S = 0 the pattern is the standard empty one, whatever row number stands there."
+abbrev pub whenNoData : (channels rows : ℕ) → Pattern
+whenNoData channels rows = standard channels
+
+-- "With S above 0 the cells must fill S exactly": 8 at "the first byte left over".
+unfoldable pub readCells : (channels rows : ℕ) → Reader Pattern
+readCells channels rows place d = do
+  (cells, used) ← each cellFormat .read (replicate (rows * channels) tt) place d
+  checked (atMost 0 (length d - used) (8 at (place + used)) ∷ [])
+  got (record { rows = rows; cells = cells }) used
+
+unfoldable pub readStored : (channels rows : ℕ) → Reader Pattern
+readStored channels rows place [] = got (whenNoData channels rows) 0
+readStored channels rows place (b ∷ d) = readCells channels rows place (b ∷ d)
+
+-- "A pattern of 64 empty rows gets row number 64 and S = 0"; any other its cells, each in its shortest form.
+unfoldable pub allZero : List ℕ → Bool
+allZero [] = true
+allZero (x ∷ xs) = eqb x 0 && allZero xs
+
+unfoldable pub needsNoData : Pattern → Bool
+needsNoData p = eqb (p .rows) 64 && allZero (flat (p .cells))
+
+unfoldable pub writeStored : Pattern → List ℕ
+writeStored p = cond (needsNoData p) [] (joined writeCell (p .cells))
+
+pub record GoodPattern (channels : ℕ) (p : Pattern) : Type 0 where
+  pub some : 1 ≤ channels
+  pub low : 1 ≤ p .rows
+  pub high : p .rows ≤ 256
+  pub good : EachGood cellFormat (replicate (p .rows * channels) tt) (p .cells)
+
+-- Cell bytes as they are lent, five to a cell.
+unfoldable pub cellsOf : ℕ → List ℕ → List (List ℕ)
+cellsOf zero bytes = []
+cellsOf (suc n) bytes = five bytes ∷ cellsOf n (drop 5 bytes)

@@ -1,0 +1,42 @@
+-- The small reader: "it hands over one structure's kind and place at a call (pattern, instrument or sample header, in file order), then
+-- says that the end is reached. On a refused file each call gives the check's refusal."
+use Prim.Native.Nat.{ℕ, _+_}
+use mathlib.Core.Bool.{Bool, true, false, cond}
+use mathlib.Core.List.{List, [], _∷_}
+use lib.Dec.{leb}
+use Rattle.xm.specs.Format.{Format, Kind, Region, header, patternHeader, patternData, instrument, sampleHeader, sampleData}
+use Rattle.xm.specs.Answer.{Answer, gives, refuses, answered}
+use Rattle.xm.specs.Module.{Found, moduleFormat, readFile}
+
+abbrev pub isStructure : Kind → Bool
+isStructure header = false
+isStructure patternHeader = true
+isStructure patternData = false
+isStructure instrument = true
+isStructure sampleHeader = true
+isStructure sampleData = false
+
+abbrev pub structuresOf : List Region → List Region
+structuresOf [] = []
+structuresOf (r ∷ rs) = cond (isStructure (r .kind)) (r ∷ structuresOf rs) (structuresOf rs)
+
+abbrev pub structures : Found → List Region
+structures found = structuresOf (moduleFormat .regions found)
+
+-- What stands at or after a place: the first structure that begins there, or the end.
+pub data Standing : Type 0 where
+  stands : Region → Standing
+  ended : Standing
+
+abbrev pub standingAt : (place : ℕ) → List Region → Standing
+standingAt place [] = ended
+standingAt place (r ∷ rs) = cond (leb place (r .place)) (stands r) (standingAt place rs)
+
+unfoldable pub reading : (file : List ℕ) (place : ℕ) → Answer Standing
+reading file place = answered (λ found end. standingAt place (structures found)) (readFile file)
+
+-- How far a reader has read then: past the place that it handed over; at the end, and on a refusal, as far as before.
+abbrev pub readUpTo : (place : ℕ) → Answer Standing → ℕ
+readUpTo place (gives (stands r)) = r .place + 1
+readUpTo place (gives ended) = place
+readUpTo place (refuses r) = place
