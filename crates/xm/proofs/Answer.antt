@@ -1,0 +1,99 @@
+-- Rules for what an answer comes to, and for what an answer says of the tests that led to it. Assumes nothing.
+use Prim.Native.Nat.{ℕ, _^_, _≤_, _<_}
+use mathlib.Core.Bool.{Bool, true, false}
+use mathlib.Core.List.{List, [], _∷_}
+use mathlib.Core.Path.{_≡_, refl, ap, _∙_}
+use native.Mathlib.Omega.{arith}
+use lib.ListN.{length, drop, length-append, length-drop}
+use lib.Seq.{take-append-seam}
+use Rattle.xm.specs.Got.{Refusal, Got, got, refused, _>>=_, _>>_, Test, passes, refusalOf, AllHold, ensure, checked}
+use Rattle.xm.specs.Format.{All}
+use Rattle.xm.specs.Answer.{Answer, gives, refuses, answered, numberOf, after, loaderNumber}
+use Rattle.xm.specs.Demands.{KeepsItsWord, reported, LoaderTells}
+use Rattle.xm.proofs.Got.{passes-holds, test-holds, passed, bind-got, refused-tests}
+
+-- An answer from its reading, and a reading from its answer
+pub answer-gives : {A B : Type 0} (f : A → ℕ → B) {g : Got A} {a : A} {n : ℕ} → g ≡ got a n → answered f g ≡ gives (f a n)
+answer-gives f e = rw e
+
+pub answer-refuses : {A B : Type 0} (f : A → ℕ → B) {g : Got A} {r : Refusal} → g ≡ refused r → answered f g ≡ refuses r
+answer-refuses f e = rw e
+
+pub refuses-refused : {A B : Type 0} (f : A → ℕ → B) (g : Got A) {r : Refusal} → answered f g ≡ refuses r → g ≡ refused r
+refuses-refused f (got a n) e = absurd (let z : _≡_ {A = ℕ} 0 1 = cc in omega arith)
+refuses-refused f (refused q) e = cc
+
+pub gives-refuses : {A : Type 0} {x : Answer A} {a : A} {r : Refusal} → x ≡ gives a → x ≡ refuses r → ⊥
+gives-refuses e d = let z : _≡_ {A = ℕ} 0 1 = cc in omega arith
+
+-- Tests that all have one refusal, and do not all hold
+pub tests-fail : {A : Type 0} (ts : List Test) (g : Got A) {r : Refusal} → All (λ (t : Test). refusalOf t ≡ r) ts → (AllHold ts → ⊥) → (checked ts >> g) ≡ refused r
+unfolding checked ensure _>>_
+tests-fail [] g a h = absurd (h tt)
+tests-fail (t ∷ ts) g {r} a h = go (λ k. tests-fail ts g (a .1) k) (passes t) refl
+  where
+    go : ((AllHold ts → ⊥) → (checked ts >> g) ≡ refused r) → (b : Bool) → passes t ≡ b → (checked (t ∷ ts) >> g) ≡ refused r
+    go rest true e = test-holds t ts g (passes-holds t e) ∙ rest (λ k. h (passes-holds t e, k))
+    go rest false e = rw e (ap refused (a .0))
+
+-- An accepted answer: its tests hold, and its steps were accepted. What is found is handed on as variables
+pub gives-got : {A B R : Type 0} (f : A → ℕ → B) (g : Got A) {b : B} → answered f g ≡ gives b → ((a : A) (n : ℕ) → g ≡ got a n → answered f (got a n) ≡ gives b → R) → R
+gives-got f (got a n) e k = k a n refl e
+gives-got f (refused r) e k = absurd (let z : _≡_ {A = ℕ} 0 1 = cc in omega arith)
+
+pub gives-passed : {A B R : Type 0} (f : A → ℕ → B) (ts : List Test) (g : Got A) {b : B} → answered f (checked ts >> g) ≡ gives b
+    → (AllHold ts → answered f g ≡ gives b → R) → R
+gives-passed f ts g e k = gives-got f (checked ts >> g) e λ a n d c. passed ts g d λ h d. k h (rw d c)
+
+pub gives-bound : {A B C R : Type 0} (f : B → ℕ → C) (g : Got A) (next : A × ℕ → Got B) {c : C} → answered f (g >>= next) ≡ gives c
+    → ((a : A) (n : ℕ) → g ≡ got a n → answered f (next (a, n)) ≡ gives c → R) → R
+gives-bound f g next e k = gives-got f (g >>= next) e λ b m d c. bind-got g next d λ a n q d. k a n q (rw d c)
+
+pub gives-same : {A : Type 0} {a b : A} → _≡_ {A = Answer A} (gives a) (gives b) → a ≡ b
+gives-same e = cc
+
+-- Tests that were passed hold
+pub checked-holds : (ts : List Test) {n : ℕ} → checked ts ≡ got tt n → AllHold ts
+unfolding _>>_
+checked-holds ts e = passed ts (got tt 0) {x = tt {0}} {n = 0} (rw e) λ h d. h
+
+-- A refusal that is none of the tests' own: they all hold, and it is that of what follows
+pub refused-passed : {A R : Type 0} (ts : List Test) (g : Got A) {r : Refusal} → All (λ (t : Test). refusalOf t ≡ r → R) ts
+    → (checked ts >> g) ≡ refused r → (AllHold ts → g ≡ refused r → R) → R
+refused-passed {R = R} ts g {r} a e k = refused-tests (λ (q : Refusal). q ≡ r → R) ts g e a (λ h d same. k h d) refl
+
+-- A call that gives only what there is room for keeps its word, if its refusals have the paper's numbers
+after-length : {A B : Type 0} (written : A → List B) (answer : Answer A) (lent : List B) → ((a : A) → answer ≡ gives a → length (written a) ≤ length lent)
+    → length (after written answer lent) ≡ length lent
+after-length written (gives a) lent h = rw (length-append, length-drop) (omega (arith, h a refl))
+after-length written (refuses r) lent h = refl
+
+pub word-kept : {A B : Type 0} (written : A → List B) (answer : ℕ → Answer A)
+    → ((room : ℕ) (r : Refusal) → answer room ≡ refuses r → (1 ≤ r .number) × (r .number ≤ 16))
+    → ((room : ℕ) (a : A) → answer room ≡ gives a → length (written a) ≤ room) → KeepsItsWord written answer
+word-kept written answer numbered fits = record {
+  numbered = numbered;
+  unchanged = λ lent r e. rw e;
+  inside = λ lent. after-length written (answer (length lent)) lent (fits (length lent));
+}
+
+-- An answer with number 0 gives something, and what it reports of what it wrote stands in front
+pub accepted-gives : {A R : Type 0} (answer : Answer A) → ((r : Refusal) → answer ≡ refuses r → 1 ≤ r .number) → numberOf answer ≡ 0
+    → ((a : A) → answer ≡ gives a → R) → R
+accepted-gives (gives a) numbered e k = k a refl
+accepted-gives (refuses r) numbered e k = absurd (omega (arith, numbered r refl))
+
+pub reported-written : {A B : Type 0} (count : A → ℕ) (written : A → List B) (answer : Answer A) (lent : List B) (a : A) → answer ≡ gives a
+    → count a ≡ length (written a) → reported count answer (after written answer lent) ≡ written a
+reported-written count written answer lent a e n = rw (e, n) (take-append-seam (written a) (drop (length (written a)) lent))
+
+-- The loader's number tells both kinds apart, if numbers and places are small
+pub loader-tells : {A : Type 0} (f : A → ℕ) (answer : Answer A) → ((a : A) → answer ≡ gives a → f a < 2 ^ 32)
+    → ((r : Refusal) → answer ≡ refuses r → (1 ≤ r .number) × (r .place < 2 ^ 32)) → LoaderTells f answer
+unfolding loaderNumber
+loader-tells f answer small told = record {
+  accepted = λ a e. rw e (small a e);
+  refused = λ r e. let h = told r e in rw e (omega arith);
+  number = λ r e. let h = told r e in rw e (omega arith);
+  place = λ r e. let h = told r e in rw e (omega arith);
+}

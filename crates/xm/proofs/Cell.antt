@@ -1,0 +1,419 @@
+-- Laws of one cell: its length and fields by its lead byte, each answer of reading it, that what is written reads back, and that
+-- what is read is kept and written in no more bytes. Assumes nothing.
+use Prim.Native.Nat.{ℕ, zero, suc, _+_, _*_, _/_, _%_, _≤_, _<_}
+use mathlib.Core.Bool.{Bool, true, false, cond}
+use mathlib.Core.List.{List, [], _∷_, _++_, append-assoc, append-nil}
+use mathlib.Core.Logic.{_↔_}
+use mathlib.Core.Path.{_≡_, refl, sym, ap, _∙_}
+use native.Mathlib.Omega.{arith}
+use borrow.Author.Tests.{ltb-true, ltb-false, lt-ltb, le-ltb, eqb-false}
+use lib.Count.{ones, onesIn, ones-step}
+use lib.Dec.{ltb, eqb}
+use lib.ListN.{length, getD, drop, length-append, List·getD-append}
+use lib.Seq.{drop-drop}
+use Rattle.xm.specs.Number.{Bytes}
+use Rattle.xm.specs.Got.{got, refused, present, atMost, _at_}
+use Rattle.xm.specs.Format.{All}
+use Rattle.xm.specs.Cell.{noteMost, five, lengthBy, fieldBy, fieldsBy, needed, cellAt, readCell, bit, kept, marks, kepts, marked, goesPlain, writeCell, cellMost, GoodCell, cellFormat}
+use Rattle.xm.proofs.Number.{bytes-drop, bytes-nil, bytes-cons, bytes-tail, bytes-append}
+use Rattle.xm.proofs.Got.{test-holds, test-fails, pass, passed, got-both, got-carry}
+use Rattle.xm.proofs.Format.{Back, Keeps, Held}
+
+-- Lists of five
+pub five-same : (cell : List ℕ) → length cell ≡ 5 → five cell ≡ cell
+five-same [] e = absurd (omega arith)
+five-same (a ∷ []) e = absurd (omega arith)
+five-same (a ∷ b ∷ []) e = absurd (omega arith)
+five-same (a ∷ b ∷ c ∷ []) e = absurd (omega arith)
+five-same (a ∷ b ∷ c ∷ d ∷ []) e = absurd (omega arith)
+five-same (a ∷ b ∷ c ∷ d ∷ f ∷ []) e = refl
+five-same (a ∷ b ∷ c ∷ d ∷ f ∷ g ∷ r) e = absurd (omega arith)
+
+pub five-front : (cell rest : List ℕ) → length cell ≡ 5 → five (cell ++ rest) ≡ cell
+five-front cell rest h = ap (λ (c : List ℕ). five (c ++ rest)) (sym (five-same cell h)) ∙ five-same cell h
+
+pub five-bytes : {s : List ℕ} → Bytes s → Bytes (five s)
+five-bytes b = bytes-cons (b .below 0) (bytes-cons (b .below 1) (bytes-cons (b .below 2) (bytes-cons (b .below 3) (bytes-cons (b .below 4) bytes-nil))))
+
+-- One field: its bit, and whether it is kept
+pub bit-most : (x : ℕ) → bit x ≤ 1
+bit-most zero = omega arith
+bit-most (suc x) = omega arith
+
+pub bit-none : (x : ℕ) → x ≡ 0 → bit x ≡ 0
+bit-none x e = rw e
+
+pub bit-some : (x : ℕ) → (x ≡ 0 → ⊥) → bit x ≡ 1
+bit-some zero h = absurd (h refl)
+bit-some (suc x) h = refl
+
+pub kept-none : (x : ℕ) → x ≡ 0 → kept x ≡ []
+unfolding kept
+kept-none x e = rw e
+
+pub kept-some : (x : ℕ) → (x ≡ 0 → ⊥) → kept x ≡ x ∷ []
+unfolding kept
+kept-some zero h = absurd (h refl)
+kept-some (suc x) h = refl
+
+pub kept-length : (x : ℕ) → length (kept x) ≡ bit x
+unfolding kept
+kept-length zero = refl
+kept-length (suc x) = refl
+
+kept-bytes : (x : ℕ) → x < 256 → Bytes (kept x)
+unfolding kept
+kept-bytes zero h = bytes-nil
+kept-bytes (suc x) h = bytes-cons h bytes-nil
+
+kepts-bytes : (cell : List ℕ) → Bytes cell → Bytes (kepts cell)
+unfolding kepts
+kepts-bytes [] b = bytes-nil
+kepts-bytes (x ∷ xs) b = bytes-append (kept-bytes x (b .below 0)) (kepts-bytes xs (bytes-tail b))
+
+-- The lead byte and the count of what is kept, as sums of bits
+pub marks-sum : (a b c d e : ℕ) → marks (a ∷ b ∷ c ∷ d ∷ e ∷ []) ≡ bit a + 2 * bit b + 4 * bit c + 8 * bit d + 16 * bit e
+unfolding marks
+marks-sum a b c d e = omega arith
+
+pub lead-sum : (s : List ℕ) → getD (marked (five s)) 0 0
+    ≡ 128 + bit (getD s 0 0) + 2 * bit (getD s 1 0) + 4 * bit (getD s 2 0) + 8 * bit (getD s 3 0) + 16 * bit (getD s 4 0)
+unfolding marked
+lead-sum s = omega (arith, marks-sum (getD s 0 0) (getD s 1 0) (getD s 2 0) (getD s 3 0) (getD s 4 0))
+
+pub kepts-sum : (a b c d e : ℕ) → length (kepts (a ∷ b ∷ c ∷ d ∷ e ∷ [])) ≡ bit a + (bit b + (bit c + (bit d + bit e)))
+unfolding kepts
+kepts-sum a b c d e = simp (length-append, append-nil, kept-length)
+
+pub marked-length : (cell : List ℕ) → length (marked cell) ≡ 1 + length (kepts cell)
+unfolding marked
+marked-length cell = omega arith
+
+marks-small : (s : List ℕ) → marks (five s) < 32
+marks-small s =
+    omega (
+      arith,
+      marks-sum (getD s 0 0) (getD s 1 0) (getD s 2 0) (getD s 3 0) (getD s 4 0),
+      bit-most (getD s 0 0),
+      bit-most (getD s 1 0),
+      bit-most (getD s 2 0),
+      bit-most (getD s 3 0),
+      bit-most (getD s 4 0),
+    )
+
+-- The ones of the low bits, one bit at a time: those of the low five are the five bits' sum
+ones-low : (b j k : ℕ) → b % j % 2 ≡ b % 2 → b % j / 2 ≡ b / 2 % k → ones (b % j) ≡ b % 2 + ones (b / 2 % k)
+ones-low b j k p q = ones-step (b % j) ∙ rw (p, q)
+
+pub ones-five : (b : ℕ) → ones (b % 32) ≡ b % 2 + (b / 2 % 2 + (b / 2 / 2 % 2 + (b / 2 / 2 / 2 % 2 + (b / 2 / 2 / 2 / 2 % 2 + 0))))
+unfolding ones
+ones-five b =
+    rw (
+      ones-low b 32 16 (omega arith) (omega arith),
+      ones-low (b / 2) 16 8 (omega arith) (omega arith),
+      ones-low (b / 2 / 2) 8 4 (omega arith) (omega arith),
+      ones-low (b / 2 / 2 / 2) 4 2 (omega arith) (omega arith),
+      ones-low (b / 2 / 2 / 2 / 2) 2 1 (omega arith) (omega arith),
+    )
+    (let e : b / 2 / 2 / 2 / 2 / 2 % 1 ≡ 0 = omega arith in rw e)
+
+ones-in : (b : ℕ) → ones (b % 32) ≡ onesIn 5 b
+unfolding onesIn
+ones-in b = ones-five b
+
+-- A plain and a marked cell: its length and its fields
+pub length-plain : (lead : ℕ) → lead < 128 → lengthBy lead ≡ 5
+unfolding lengthBy
+length-plain lead h = rw (lt-ltb lead 128 h)
+
+pub length-marked : (lead : ℕ) → 128 ≤ lead → lengthBy lead ≡ 1 + ones (lead % 32)
+unfolding lengthBy
+length-marked lead h = rw (le-ltb lead 128 h)
+
+pub cell-plain : (s : List ℕ) → getD s 0 0 < 128 → cellAt s ≡ five s
+unfolding cellAt
+cell-plain s h = rw (lt-ltb (getD s 0 0) 128 h)
+
+pub cell-marked : (s : List ℕ) → 128 ≤ getD s 0 0 → cellAt s ≡ fieldsBy 5 (getD s 0 0) (drop 1 s)
+unfolding cellAt
+cell-marked s h = rw (le-ltb (getD s 0 0) 128 h)
+
+-- Each cell stored takes one byte or more
+pub length-some : (lead : ℕ) → 1 ≤ lengthBy lead
+unfolding lengthBy
+length-some lead = go (ltb lead 128)
+  where
+    go : (t : Bool) → 1 ≤ cond t 5 (1 + ones (lead % 32))
+    go true = omega arith
+    go false = omega arith
+
+-- A marked cell's five fields, each at its place
+fields-none : (bits : ℕ) (s : List ℕ) → fieldsBy 0 bits s ≡ []
+unfolding fieldsBy
+fields-none bits s = refl
+
+pub fields-at : (count bits place : ℕ) (s : List ℕ)
+    → fieldsBy (suc count) bits (drop place s) ≡ fieldBy bits (drop place s) ∷ fieldsBy count (bits / 2) (drop (place + bits % 2) s)
+unfolding fieldsBy
+fields-at count bits place s = rw drop-drop
+
+pub fields-five : (b : ℕ) (s : List ℕ) → fieldsBy 5 b (drop 1 s)
+    ≡ fieldBy b (drop 1 s) ∷ fieldBy (b / 2) (drop (1 + b % 2) s) ∷ fieldBy (b / 2 / 2) (drop (1 + b % 2 + b / 2 % 2) s)
+    ∷ fieldBy (b / 2 / 2 / 2) (drop (1 + b % 2 + b / 2 % 2 + b / 2 / 2 % 2) s)
+    ∷ fieldBy (b / 2 / 2 / 2 / 2) (drop (1 + b % 2 + b / 2 % 2 + b / 2 / 2 % 2 + b / 2 / 2 / 2 % 2) s) ∷ []
+fields-five b s =
+    rw (
+      fields-at 4 b 1 s,
+      fields-at 3 (b / 2) (1 + b % 2) s,
+      fields-at 2 (b / 2 / 2) (1 + b % 2 + b / 2 % 2) s,
+      fields-at 1 (b / 2 / 2 / 2) (1 + b % 2 + b / 2 % 2 + b / 2 / 2 % 2) s,
+      fields-at 0 (b / 2 / 2 / 2 / 2) (1 + b % 2 + b / 2 % 2 + b / 2 / 2 % 2 + b / 2 / 2 / 2 % 2) s,
+      fields-none,
+    )
+
+fields-length : (count bits : ℕ) (s : List ℕ) → length (fieldsBy count bits s) ≡ count
+unfolding fieldsBy
+fields-length zero bits s = refl
+fields-length (suc count) bits s = ap suc (fields-length count (bits / 2) (drop (bits % 2) s))
+
+-- A cell has five fields, and they are bytes
+pub cell-length : (s : List ℕ) → length (cellAt s) ≡ 5
+unfolding cellAt
+cell-length s = go (ltb (getD s 0 0) 128)
+  where
+    go : (t : Bool) → length (cond t (five s) (fieldsBy 5 (getD s 0 0) (drop 1 s))) ≡ 5
+    go true = refl
+    go false = fields-length 5 (getD s 0 0) (drop 1 s)
+
+field-bytes : (bits : ℕ) (s : List ℕ) → Bytes s → fieldBy bits s < 256
+field-bytes bits s b = go (eqb (bits % 2) 0)
+  where
+    go : (t : Bool) → cond t 0 (getD s 0 0) < 256
+    go true = omega arith
+    go false = b .below 0
+
+fields-bytes : (count bits : ℕ) (s : List ℕ) → Bytes s → Bytes (fieldsBy count bits s)
+unfolding fieldsBy
+fields-bytes zero bits s b = bytes-nil
+fields-bytes (suc count) bits s b = bytes-cons (field-bytes bits s b) (fields-bytes count (bits / 2) (drop (bits % 2) s) (bytes-drop (bits % 2) b))
+
+pub cell-bytes : (s : List ℕ) → Bytes s → Bytes (cellAt s)
+unfolding cellAt
+cell-bytes s b = go (ltb (getD s 0 0) 128)
+  where
+    go : (t : Bool) → Bytes (cond t (five s) (fieldsBy 5 (getD s 0 0) (drop 1 s)))
+    go true = five-bytes b
+    go false = fields-bytes 5 (getD s 0 0) (drop 1 s) (bytes-drop 1 b)
+
+-- The three answers of reading a cell
+module _ (place : ℕ) (s : List ℕ) where
+  pub read-short : length s < needed s → readCell place s ≡ refused (7 at place)
+  unfolding readCell
+  read-short h = test-fails (present (needed s) (length s) (7 at place)) _ _ (λ p. omega arith)
+
+  pub read-note : needed s ≤ length s → noteMost < getD (cellAt s) 0 0 → readCell place s ≡ refused (9 at place)
+  unfolding readCell
+  read-note h n =
+      test-holds (present (needed s) (length s) (7 at place)) _ _ h
+      ∙ test-fails (atMost noteMost (getD (cellAt s) 0 0) (9 at place)) _ _ (λ p. omega arith)
+
+  pub read-got : needed s ≤ length s → getD (cellAt s) 0 0 ≤ noteMost → readCell place s ≡ got (cellAt s) (needed s)
+  unfolding readCell
+  read-got h n = pass _ (h, (n, tt)) refl
+
+-- Plain where no field is 0, else marked
+pub write-plain : (cell : List ℕ) → goesPlain cell ≡ true → writeCell cell ≡ cell
+unfolding writeCell
+write-plain cell e = rw e
+
+pub write-marked : (cell : List ℕ) → goesPlain cell ≡ false → writeCell cell ≡ marked cell
+unfolding writeCell
+write-marked cell e = rw e
+
+kepts-most : (cell : List ℕ) → length (kepts cell) ≤ length cell
+unfolding kepts
+kepts-most [] = omega arith
+kepts-most (x ∷ xs) = rw length-append (omega (arith, kepts-most xs, kept-length x, bit-most x))
+
+kepts-all : (cell : List ℕ) → All (λ (x : ℕ). x ≡ 0 → ⊥) cell → length (kepts cell) ≡ length cell
+unfolding kepts
+kepts-all [] h = refl
+kepts-all (x ∷ xs) h = rw length-append (omega (arith, kepts-all xs (h .1), kept-length x, bit-some x (h .0)))
+
+all-kept : (cell : List ℕ) → length cell ≤ length (kepts cell) → All (λ (x : ℕ). x ≡ 0 → ⊥) cell
+unfolding kepts
+all-kept [] h = tt
+all-kept (x ∷ xs) h =
+    let l = length-append (kept x) (kepts xs) in
+    let k = kept-length x in
+    (λ e. omega (arith, kepts-most xs, bit-none x e), all-kept xs (omega (arith, bit-most x)))
+
+-- It is plain if that is shorter, and else marked
+plain-shorter : (cell : List ℕ) → goesPlain cell ≡ true → length cell < length (marked cell)
+unfolding goesPlain
+plain-shorter cell e = omega (arith, ltb-true)
+
+marked-shorter : (cell : List ℕ) → goesPlain cell ≡ false → length (marked cell) ≤ length cell
+unfolding goesPlain
+marked-shorter cell e = omega (arith, ltb-false)
+
+goes-plain : (cell : List ℕ) → length cell < length (marked cell) → goesPlain cell ≡ true
+unfolding goesPlain
+goes-plain cell h = omega (arith, lt-ltb)
+
+pub plain-full : (cell : List ℕ) → (goesPlain cell ≡ true) ↔ All (λ (x : ℕ). x ≡ 0 → ⊥) cell
+plain-full cell =
+    let l = marked-length cell in (λ e. all-kept cell (omega (arith, plain-shorter cell e)), λ h. goes-plain cell (omega (arith, kepts-all cell h)))
+
+-- A cell of five fields takes 1 to 5 bytes, and one of full fields takes 5
+write-case : (P : List ℕ → Type 0) (cell : List ℕ) → (length cell < length (marked cell) → P cell) → (length (marked cell) ≤ length cell → P (marked cell)) → P (writeCell cell)
+unfolding writeCell
+write-case P cell plain mark = go (goesPlain cell) refl
+  where
+    go : (t : Bool) → goesPlain cell ≡ t → P (cond t cell (marked cell))
+    go true e = plain (plain-shorter cell e)
+    go false e = mark (marked-shorter cell e)
+
+pub write-some : (cell : List ℕ) → length cell ≡ 5 → 1 ≤ length (writeCell cell)
+write-some cell h = write-case (λ (w : List ℕ). 1 ≤ length w) cell (λ p. omega arith) (λ p. omega (arith, marked-length cell))
+
+pub write-most : (cell : List ℕ) → length cell ≡ 5 → length (writeCell cell) ≤ cellMost
+write-most cell h = write-case (λ (w : List ℕ). length w ≤ 5) cell (λ p. omega arith) (λ p. omega arith)
+
+pub write-full : (cell : List ℕ) → All (λ (x : ℕ). x ≡ 0 → ⊥) cell → writeCell cell ≡ cell
+write-full cell h = write-plain cell (plain-full cell .1 h)
+
+write-least : (cell : List ℕ) → length (writeCell cell) ≤ 1 + length (kepts cell)
+write-least cell =
+    let l = marked-length cell in
+    write-case (λ (w : List ℕ). length w ≤ 1 + length (kepts cell)) cell (λ p. omega arith) (λ p. omega arith)
+
+-- Marks with a number t above their bits: their ones are the fields kept, and these read back
+on : ℕ → List ℕ → ℕ
+on t [] = t
+on t (x ∷ xs) = bit x + 2 * on t xs
+
+on-low : (t x : ℕ) (xs : List ℕ) → on t (x ∷ xs) % 2 ≡ bit x
+unfolding on
+on-low t x xs = omega (arith, bit-most x)
+
+on-half : (t x : ℕ) (xs : List ℕ) → on t (x ∷ xs) / 2 ≡ on t xs
+unfolding on
+on-half t x xs = omega (arith, bit-most x)
+
+on-ones : (t : ℕ) (cell : List ℕ) → onesIn (length cell) (on t cell) ≡ length (kepts cell)
+unfolding onesIn kepts
+on-ones t [] = refl
+on-ones t (x ∷ xs) = rw (on-low, on-half, on-ones t xs, length-append, kept-length)
+
+field-kept : (bits x : ℕ) (s : List ℕ) → bits % 2 ≡ bit x → (fieldBy bits (kept x ++ s) ≡ x) × (drop (bits % 2) (kept x ++ s) ≡ s)
+unfolding kept
+field-kept bits zero s e = (rw e, rw e)
+field-kept bits (suc x) s e = (rw e, rw e)
+
+on-fields : (t : ℕ) (cell rest : List ℕ) → fieldsBy (length cell) (on t cell) (kepts cell ++ rest) ≡ cell
+unfolding fieldsBy kepts
+on-fields t [] rest = refl
+on-fields t (x ∷ xs) rest =
+    let h = field-kept (on t (x ∷ xs)) x (kepts xs ++ rest) (on-low t x xs) in
+    rw (append-assoc, h .0, h .1, on-half, on-fields t xs rest)
+
+-- Four above the five bits is 128
+on-five : (s : List ℕ) → 128 + marks (five s) ≡ on 4 (five s)
+unfolding on marks
+on-five s = omega arith
+
+-- A written cell reads back, with its length, whatever follows
+record WrittenBack (cell rest : List ℕ) : Type 0 where
+  long : needed (writeCell cell ++ rest) ≡ length (writeCell cell)
+  same : cellAt (writeCell cell ++ rest) ≡ cell
+
+plain-back : (cell rest : List ℕ) → length cell ≡ 5 → getD cell 0 0 < 128 → goesPlain cell ≡ true → WrittenBack cell rest
+plain-back cell rest l h e =
+    let k : getD (cell ++ rest) 0 0 < 128 = rw (List·getD-append cell rest 0 0 (omega arith)) h in
+    record {
+      long = rw (write-plain cell e) (length-plain (getD (cell ++ rest) 0 0) k ∙ sym l);
+      same = rw (write-plain cell e) (cell-plain (cell ++ rest) k ∙ five-front cell rest l);
+    }
+
+marked-back : (s rest : List ℕ) → goesPlain (five s) ≡ false → WrittenBack (five s) rest
+unfolding marked
+marked-back s rest e =
+    let lead : ℕ = 128 + marks (five s) in
+    let big : 128 ≤ lead = omega arith in
+    record {
+      long = rw (write-marked (five s) e) (length-marked lead big ∙ ap (λ (n : ℕ). 1 + n) (ones-in lead ∙ ap (onesIn 5) (on-five s) ∙ on-ones 4 (five s)) ∙ omega arith);
+      same = rw (write-marked (five s) e) (cell-marked (lead ∷ kepts (five s) ++ rest) big ∙ ap (λ (b : ℕ). fieldsBy 5 b (kepts (five s) ++ rest)) (on-five s) ∙ on-fields 4 (five s) rest);
+    }
+
+written-back : (cell rest : List ℕ) → GoodCell cell → WrittenBack cell rest
+written-back cell rest g = go (goesPlain cell) refl
+  where
+    go : (t : Bool) → goesPlain cell ≡ t → WrittenBack cell rest
+    go true e = plain-back cell rest (g .size) (omega (arith, g .note)) e
+    go false e = rw (five-same cell (g .size)) at (marked-back cell rest (rw (five-same cell (g .size)) e))
+
+-- What is written are bytes
+write-bytes : (cell : List ℕ) → GoodCell cell → Bytes (writeCell cell)
+unfolding marked
+write-bytes cell g =
+    write-case Bytes cell (λ p. g .plain)
+    (λ p. bytes-cons (omega (arith, rw (five-same cell (g .size)) at (marks-small cell))) (kepts-bytes cell (g .plain)))
+
+pub cell-back : Back cellFormat tt
+cell-back = record {
+  back = λ place cell rest g.
+      let w = written-back cell rest g in
+      record {
+        found = cell;
+        reads =
+            read-got place (writeCell cell ++ rest) (omega (arith, w .long, length-append (writeCell cell) rest)) (rw (w .same) (g .note))
+            ∙ got-both (w .same) (w .long);
+        same = refl;
+      };
+  plain = write-bytes;
+}
+
+-- No field is kept that was not stored: so what is read as a cell is no shorter than the cell written
+field-stored : (bits : ℕ) (s : List ℕ) → length (kept (fieldBy bits s)) ≤ bits % 2
+unfolding kept
+field-stored bits s = go (eqb (bits % 2) 0) refl
+  where
+    go : (t : Bool) → eqb (bits % 2) 0 ≡ t → length (kept (cond t 0 (getD s 0 0))) ≤ bits % 2
+    go true e = omega arith
+    go false e = omega (arith, eqb-false (bits % 2) 0 e, kept-length (getD s 0 0), bit-most (getD s 0 0))
+
+fields-stored : (count bits : ℕ) (s : List ℕ) → length (kepts (fieldsBy count bits s)) ≤ onesIn count bits
+unfolding fieldsBy kepts onesIn
+fields-stored zero bits s = omega arith
+fields-stored (suc count) bits s = rw length-append (omega (arith, field-stored bits s, fields-stored count (bits / 2) (drop (bits % 2) s)))
+
+pub write-short : (s : List ℕ) → length (writeCell (cellAt s)) ≤ needed s
+write-short s = go (ltb (getD s 0 0) 128) refl
+  where
+    go : (t : Bool) → ltb (getD s 0 0) 128 ≡ t → length (writeCell (cellAt s)) ≤ needed s
+    go true e = omega (arith, write-most (cellAt s) (cell-length s), length-plain (getD s 0 0) (ltb-true _ _ e))
+    go false e =
+        let h = ltb-false (getD s 0 0) 128 e in
+        omega (
+          arith,
+          write-least (cellAt s),
+          length-marked (getD s 0 0) h,
+          ones-in (getD s 0 0),
+          ap (λ (c : List ℕ). length (kepts c)) (cell-marked s h),
+          fields-stored 5 (getD s 0 0) (drop 1 s),
+        )
+
+pub cell-keeps : Keeps cellFormat tt
+unfolding readCell
+cell-keeps = record {
+  keeps = λ place s cell n b e.
+      passed _ _ e λ h e.
+      got-carry (λ (c : List ℕ) (u : ℕ). Held cellFormat tt place s c u) e
+      (record {
+        inside = h .0;
+        chain = omega arith;
+        good = record { size = cell-length s; plain = cell-bytes s b; note = h .1 .0 };
+        short = write-short s;
+      });
+}

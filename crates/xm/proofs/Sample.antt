@@ -1,0 +1,150 @@
+-- Laws of sample headers and sample data. Assumes nothing.
+use Prim.Native.Nat.{ℕ, _+_, _≤_}
+use mathlib.Core.List.{List, [], _∷_, _++_}
+use mathlib.Core.Path.{_≡_, refl, sym, ap, _∙_}
+use native.Mathlib.Omega.{arith}
+use lib.ListN.{length, take, drop, replicate, length-append}
+use lib.Seq.{length-take-le, take-at}
+use Rattle.xm.specs.Number.{Bytes, part}
+use Rattle.xm.specs.Got.{got, AllHold}
+use Rattle.xm.specs.Format.{Format, each, All}
+use Rattle.xm.specs.Sample.{leastHead, headBytes, dataSize, headTests, Stretch, readHead, headFormat, readData, dataFormat, SamplesFound, samplesFormat}
+use Rattle.xm.proofs.Number.{bytes-take, agree-take}
+use Rattle.xm.proofs.Got.{pass, passed, bind-got, got-by, got-value, got-carry}
+use Rattle.xm.proofs.Format.{Back, Keeps, Held, Firm, Tells, then-back, then-keeps, then-firm, then-tells, each-back, each-keeps, each-firm, each-tells, many-back, many-keeps, many-firm, many-tells, all}
+
+-- What is found of a stretch, at its place of the file
+pub record HeadTold (file : List ℕ) (i : Stretch) : Type 0 where
+  pub bytes : i .bytes ≡ part (i .place) leastHead file
+  pub tests : AllHold (headTests 0 (i .bytes))
+
+pub record DataTold (file : List ℕ) (i : Stretch) : Type 0 where
+  pub bytes : i .bytes ≡ part (i .place) (i .size) file
+
+-- Sample headers
+pub head-back : Back headFormat leastHead
+unfolding readHead
+head-back = record {
+  back = λ place x rest g.
+      let e = take-at x rest leastHead (g .size) in
+      record {
+        found = record { place = place; size = leastHead; bytes = take leastHead (x ++ rest) };
+        reads = pass _ (omega (arith, length-append x rest, g .size), rw e (g .tests)) (got-by (sym (g .size)));
+        same = e;
+      };
+  plain = λ x g. g .plain;
+}
+
+pub head-keeps : (size : ℕ) → leastHead ≤ size → Keeps headFormat size
+unfolding readHead
+head-keeps size l = record {
+  keeps = λ place s i n b e.
+      passed _ _ e λ h e.
+      let z : length (take leastHead s) ≡ leastHead = length-take-le leastHead s (omega (arith, h .0)) in
+      got-carry (λ (r : Stretch) (t : ℕ). Held headFormat size place s r t) e
+      (record { inside = h .0; chain = omega arith; good = record { size = z; plain = bytes-take leastHead b; tests = h .1 }; short = omega arith });
+}
+
+pub head-firm : (size : ℕ) → leastHead ≤ size → Firm headFormat size
+unfolding readHead
+head-firm size l = record {
+  firm = λ place s t i n e a.
+      passed _ _ e λ h e.
+      got-carry (λ (r : Stretch) (u : ℕ). u ≡ n → readHead size place t ≡ got r u) e
+      (λ q.
+      let z = agree-take a leastHead (omega arith) in
+      pass _ (omega (arith, a .long), rw (← z) (h .1)) (rw (← z) refl)) refl;
+}
+
+pub head-tells : (size : ℕ) → Tells headFormat size HeadTold
+unfolding readHead
+head-tells size = record {
+  tells = λ place file i n b e.
+      passed _ _ e λ h e. got-carry (λ (r : Stretch) (u : ℕ). HeadTold file r) e (record { bytes = refl; tests = h .1 });
+}
+
+-- Sample data
+pub data-back : (head : List ℕ) → Back dataFormat head
+unfolding readData
+data-back head = record {
+  back = λ place d rest g. record {
+    found = record { place = place; size = dataSize head; bytes = take (dataSize head) (d ++ rest) };
+    reads = pass _ (omega (arith, length-append d rest, g .size), tt) (got-by (sym (g .size)));
+    same = take-at d rest (dataSize head) (g .size);
+  };
+  plain = λ d g. g .plain;
+}
+
+pub data-keeps : (head : List ℕ) → Keeps dataFormat head
+unfolding readData
+data-keeps head = record {
+  keeps = λ place s i n b e.
+      passed _ _ e λ h e.
+      let z : length (take (dataSize head) s) ≡ dataSize head = length-take-le (dataSize head) s (h .0) in
+      got-carry (λ (r : Stretch) (t : ℕ). Held dataFormat head place s r t) e
+      (record { inside = h .0; chain = omega arith; good = record { size = z; plain = bytes-take (dataSize head) b }; short = omega arith });
+}
+
+pub data-firm : (head : List ℕ) → Firm dataFormat head
+unfolding readData
+data-firm head = record {
+  firm = λ place s t i n e a.
+      passed _ _ e λ h e.
+      got-carry (λ (r : Stretch) (u : ℕ). u ≡ n → readData head place t ≡ got r u) e
+      (λ q. pass _ (omega (arith, a .long), tt) (rw (← agree-take a (dataSize head) (omega arith)) refl)) refl;
+}
+
+pub data-tells : (head : List ℕ) → Tells dataFormat head DataTold
+unfolding readData
+data-tells head = record {
+  tells = λ place file i n b e.
+      passed _ _ e λ h e. got-carry (λ (r : Stretch) (u : ℕ). DataTold file r) e (record { bytes = refl });
+}
+
+-- All headers, and then the data of each
+pub samples-back : (k : ℕ) → Back samplesFormat (replicate k leastHead)
+samples-back k = then-back (λ sizes heads. heads) (many-back headFormat k head-back) (λ heads g. each-back dataFormat heads (all data-back heads))
+
+pub samples-keeps : (k size : ℕ) → leastHead ≤ size → Keeps samplesFormat (replicate k size)
+samples-keeps k size l =
+    then-keeps (λ sizes heads. heads) (many-keeps headFormat k (head-keeps size l)) (λ heads g. each-keeps dataFormat heads (all data-keeps heads))
+
+pub samples-firm : (k size : ℕ) → leastHead ≤ size → Firm samplesFormat (replicate k size)
+samples-firm k size l =
+    then-firm (λ sizes heads. heads) (many-firm headFormat k (head-firm size l)) (λ heads. each-firm dataFormat heads (all data-firm heads))
+
+-- each data has the size that its header says
+abbrev pub Sized : (heads : List (List ℕ)) → List Stretch → Type 0
+Sized [] [] = Unit {0}
+Sized [] (d ∷ ds) = ⊥
+Sized (h ∷ hs) [] = ⊥
+Sized (h ∷ hs) (d ∷ ds) = (d .size ≡ dataSize h) × Sized hs ds
+
+data-sized : (heads : List (List ℕ)) (place : ℕ) (s : List ℕ) (ds : List Stretch) (n : ℕ) → each dataFormat .read heads place s ≡ got ds n → Sized heads ds
+unfolding readData
+data-sized [] place s ds n e = got-carry (λ (r : List Stretch) (u : ℕ). Sized [] r) e tt
+data-sized (h ∷ hs) place s ds n e =
+    bind-got _ _ e λ i k ei e₁. bind-got _ _ e₁ λ js m ej e₂.
+    passed _ _ ei λ hi ei.
+    got-carry (λ (r : List Stretch) (u : ℕ). Sized (h ∷ hs) r) e₂ (ap Stretch.size (sym (got-value ei)), data-sized hs (place + k) (drop k s) js m ej)
+
+pub record SamplesTold (file : List ℕ) (v : SamplesFound) : Type 0 where
+  pub heads : All (HeadTold file) (v .0)
+  pub bytes : All (DataTold file) (v .1)
+  pub sizes : Sized (samplesFormat .view v .0) (v .1)
+
+both-tell : (k size : ℕ) → Tells samplesFormat (replicate k size) (λ file v. All (HeadTold file) (v .0) × All (DataTold file) (v .1))
+both-tell k size =
+    then-tells (λ sizes heads. heads) (many-tells headFormat k (head-tells size)) (λ heads. each-tells dataFormat heads (all data-tells heads))
+
+samples-sized : (k size place : ℕ) (s : List ℕ) (v : SamplesFound) (n : ℕ) → samplesFormat .read (replicate k size) place s ≡ got v n → Sized (samplesFormat .view v .0) (v .1)
+samples-sized k size place s v n e =
+    bind-got _ _ e λ i m ei e₁. bind-got _ _ e₁ λ j u ej e₂.
+    got-carry (λ (r : SamplesFound) (t : ℕ). Sized (samplesFormat .view r .0) (r .1)) e₂ (data-sized (each headFormat .view i) (place + m) (drop m s) j u ej)
+
+pub samples-tell : (k size : ℕ) → Tells samplesFormat (replicate k size) SamplesTold
+samples-tell k size = record {
+  tells = λ place file v n b e.
+      let t = both-tell k size .tells place file v n b e in
+      record { heads = t .0; bytes = t .1; sizes = samples-sized k size place (drop place file) v n e };
+}

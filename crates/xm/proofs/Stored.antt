@@ -1,0 +1,263 @@
+-- Laws of stored patterns: what is written reads back, what is read is kept and written in no more bytes; cells as lent bytes, and
+-- how many bytes they take. Assumes nothing.
+use Prim.Native.Nat.{ℕ, zero, suc, _+_, _*_, _≤_}
+use mathlib.Core.Bool.{Bool, true, false, cond, _&&_, and-eq-true-iff, and-assoc, and-false}
+use mathlib.Core.List.{List, [], _∷_, _++_, map, append-nil}
+use mathlib.Core.Path.{_≡_, refl, sym, ap, _∙_}
+use native.Mathlib.Nat.{mul-le-mul}
+use native.Mathlib.Omega.{arith}
+use borrow.Author.Tests.{eqb-true, ne-eqb}
+use lib.Dec.{eqb}
+use lib.ListN.{length, drop, replicate, length-append, length-drop, length-replicate}
+use lib.Seq.{drop-at}
+use Rattle.xm.specs.Number.{Bytes}
+use Rattle.xm.specs.Got.{got}
+use Rattle.xm.specs.Format.{each, eachRead, EachGood, joined, flat, All}
+use Rattle.xm.specs.Cell.{five, readCell, writeCell, cellMost, cellFormat}
+use Rattle.xm.specs.Stored.{Pattern, standard, readCells, readStored, allZero, needsNoData, writeStored, GoodPattern, cellsOf}
+use Rattle.xm.proofs.Number.{bytes-nil, bytes-zeros}
+use Rattle.xm.proofs.Got.{pass, passed, step, bind-got, got-both, got-value, got-used, got-carry}
+use Rattle.xm.proofs.Format.{cons-path, each-length, many-back, many-keeps}
+use Rattle.xm.proofs.Cell.{five-front, write-some, write-most, write-full, cell-back, cell-keeps}
+
+pub pattern-path : {r s : ℕ} {x y : List (List ℕ)} → r ≡ s → x ≡ y → _≡_ {A = Pattern} (record { rows = r; cells = x }) (record { rows = s; cells = y })
+pattern-path p q = cc
+
+-- Cells of five fields, and their bytes end to end
+abbrev pub Fives : List (List ℕ) → Type 0
+Fives cells = All (λ (c : List ℕ). length c ≡ 5) cells
+
+pub flat-length : (cells : List (List ℕ)) → Fives cells → length (flat cells) ≡ length cells * 5
+flat-length [] h = refl
+flat-length (c ∷ cells) h = rw length-append (omega (arith, h .0, flat-length cells (h .1)))
+
+five-rest : (s : List ℕ) → 5 ≤ length s → five s ++ drop 5 s ≡ s
+five-rest [] h = absurd (omega arith)
+five-rest (a ∷ []) h = absurd (omega arith)
+five-rest (a ∷ b ∷ []) h = absurd (omega arith)
+five-rest (a ∷ b ∷ c ∷ []) h = absurd (omega arith)
+five-rest (a ∷ b ∷ c ∷ d ∷ []) h = absurd (omega arith)
+five-rest (a ∷ b ∷ c ∷ d ∷ e ∷ s) h = refl
+
+none-left : (s : List ℕ) → length s ≡ 0 → [] ≡ s
+none-left [] h = refl
+none-left (x ∷ s) h = absurd (omega arith)
+
+pub cells-flat : (n : ℕ) (bytes : List ℕ) → length bytes ≡ n * 5 → flat (cellsOf n bytes) ≡ bytes
+unfolding cellsOf
+cells-flat zero bytes h = none-left bytes (omega arith)
+cells-flat (suc n) bytes h = rw (cells-flat n (drop 5 bytes) (omega (arith, length-drop 5 bytes))) (five-rest bytes (omega arith))
+
+pub flat-cells : (n : ℕ) (cells : List (List ℕ)) → length cells ≡ n → Fives cells → cellsOf n (flat cells) ≡ cells
+unfolding cellsOf
+flat-cells zero [] e h = refl
+flat-cells zero (c ∷ cells) e h = absurd (omega arith)
+flat-cells (suc n) [] e h = absurd (omega arith)
+flat-cells (suc n) (c ∷ cells) e h =
+    rw (drop-at c (flat cells) 5 (h .0)) (cons-path (five-front c (flat cells) (h .0)) (flat-cells n cells (omega arith) (h .1)))
+
+pub cells-length : (n : ℕ) (bytes : List ℕ) → length (cellsOf n bytes) ≡ n
+unfolding cellsOf
+cells-length zero bytes = refl
+cells-length (suc n) bytes = ap suc (cells-length n (drop 5 bytes))
+
+pub cells-fives : (n : ℕ) (bytes : List ℕ) → Fives (cellsOf n bytes)
+unfolding cellsOf
+cells-fives zero bytes = tt
+cells-fives (suc n) bytes = (refl, cells-fives n (drop 5 bytes))
+
+-- Good cells: there are so many, of five fields
+pub good-count : (n : ℕ) (cells : List (List ℕ)) → EachGood cellFormat (replicate n tt) cells → length cells ≡ n
+good-count n cells g = each-length cellFormat (replicate n tt) cells g ∙ length-replicate n tt
+
+pub good-fives : (n : ℕ) (cells : List (List ℕ)) → EachGood cellFormat (replicate n tt) cells → Fives cells
+good-fives zero [] g = tt
+good-fives zero (c ∷ cells) g = absurd g
+good-fives (suc n) [] g = absurd g
+good-fives (suc n) (c ∷ cells) g = (g .0 .size, good-fives n cells (g .1))
+
+-- How many bytes cells take: at most five each, and five each if no field is 0
+pub cells-most : (cells : List (List ℕ)) → Fives cells → length (joined writeCell cells) ≤ cellMost * length cells
+cells-most [] h = omega arith
+cells-most (c ∷ cells) h = rw length-append (omega (arith, write-most c (h .0), cells-most cells (h .1)))
+
+pub cells-full : (cells : List (List ℕ)) → Fives cells → All (All (λ (x : ℕ). x ≡ 0 → ⊥)) cells → length (joined writeCell cells) ≡ 5 * length cells
+cells-full [] h f = refl
+cells-full (c ∷ cells) h f = rw (length-append, write-full c (f .0)) (omega (arith, h .0, cells-full cells (h .1) (f .1)))
+
+cells-some : (n : ℕ) (cells : List (List ℕ)) → 1 ≤ n → EachGood cellFormat (replicate n tt) cells → 1 ≤ length (joined writeCell cells)
+cells-some zero cells h g = absurd (omega arith)
+cells-some (suc n) [] h g = absurd g
+cells-some (suc n) (c ∷ cells) h g = rw length-append (omega (arith, write-some c (g .0 .size)))
+
+-- Empty cells
+pub zero-append : (xs ys : List ℕ) → allZero (xs ++ ys) ≡ (allZero xs && allZero ys)
+unfolding allZero
+zero-append [] ys = refl
+zero-append (x ∷ xs) ys = ap (λ (t : Bool). eqb x 0 && t) (zero-append xs ys) ∙ sym (and-assoc (eqb x 0) (allZero xs) (allZero ys))
+
+zero-replicate : (xs : List ℕ) → allZero xs ≡ true → xs ≡ replicate (length xs) 0
+unfolding allZero
+zero-replicate [] e = refl
+zero-replicate (x ∷ xs) e =
+    let t = and-eq-true-iff (eqb x 0) (allZero xs) .0 e in cons-path (eqb-true x 0 (t .0)) (zero-replicate xs (t .1))
+
+zero-cells : (n : ℕ) (cells : List (List ℕ)) → EachGood cellFormat (replicate n tt) cells → allZero (flat cells) ≡ true → cells ≡ replicate n (replicate 5 0)
+zero-cells zero [] g e = refl
+zero-cells zero (c ∷ cells) g e = absurd g
+zero-cells (suc n) [] g e = absurd g
+zero-cells (suc n) (c ∷ cells) g e =
+    let t = and-eq-true-iff (allZero c) (allZero (flat cells)) .0 (sym (zero-append c (flat cells)) ∙ e) in
+    cons-path (zero-replicate c (t .0) ∙ ap (λ (k : ℕ). replicate k 0) (g .0 .size)) (zero-cells n cells (g .1) (t .1))
+
+empty-good : (n : ℕ) → EachGood cellFormat (replicate n tt) (replicate n (replicate 5 0))
+empty-good zero = tt
+empty-good (suc n) = (record { size = refl; plain = bytes-zeros 5; note = omega arith }, empty-good n)
+
+empty-zero : (n : ℕ) → allZero (flat (replicate n (replicate 5 0))) ≡ true
+unfolding allZero
+empty-zero zero = refl
+empty-zero (suc n) = empty-zero n
+
+-- The standard empty pattern, and no other, needs no data
+pub standard-good : (channels : ℕ) → 1 ≤ channels → GoodPattern channels (standard channels)
+standard-good channels h = record { some = h; low = omega arith; high = omega arith; good = empty-good (64 * channels) }
+
+pub standard-none : (channels : ℕ) → needsNoData (standard channels) ≡ true
+unfolding needsNoData
+standard-none channels = empty-zero (64 * channels)
+
+pub none-standard : (channels : ℕ) (p : Pattern) → GoodPattern channels p → needsNoData p ≡ true → p ≡ standard channels
+unfolding needsNoData
+none-standard channels p g e =
+    let t = and-eq-true-iff (eqb (p .rows) 64) (allZero (flat (p .cells))) .0 e in
+    let r : p .rows ≡ 64 = eqb-true (p .rows) 64 (t .0) in
+    pattern-path r (zero-cells (p .rows * channels) (p .cells) (g .good) (t .1) ∙ ap (λ (n : ℕ). replicate (n * channels) (replicate 5 0)) r)
+
+-- No bytes, or those of the cells
+pub write-none : (p : Pattern) → needsNoData p ≡ true → writeStored p ≡ []
+unfolding writeStored
+write-none p e = rw e
+
+pub write-cells : (p : Pattern) → needsNoData p ≡ false → writeStored p ≡ joined writeCell (p .cells)
+unfolding writeStored
+write-cells p e = rw e
+
+-- Each property of no bytes and of the cells' bytes is one of what is written
+write-case : (P : List ℕ → Type 0) (p : Pattern) → (needsNoData p ≡ true → P []) → (needsNoData p ≡ false → P (joined writeCell (p .cells))) → P (writeStored p)
+unfolding writeStored
+write-case P p none some = go (needsNoData p) refl
+  where
+    go : (t : Bool) → needsNoData p ≡ t → P (cond t [] (joined writeCell (p .cells)))
+    go true e = none e
+    go false e = some e
+
+pub stored-plain : (channels : ℕ) (p : Pattern) → GoodPattern channels p → Bytes (writeStored p)
+stored-plain channels p g =
+    write-case Bytes p (λ e. bytes-nil) (λ e. many-back cellFormat (p .rows * channels) cell-back .plain (p .cells) (g .good))
+
+-- No data, and some
+pub stored-none : (channels rows place : ℕ) (d : List ℕ) → length d ≡ 0 → readStored channels rows place d ≡ got (standard channels) 0
+unfolding readStored
+stored-none channels rows place [] h = refl
+stored-none channels rows place (b ∷ d) h = absurd (omega arith)
+
+pub stored-some : (channels rows place : ℕ) (d : List ℕ) → 1 ≤ length d → readStored channels rows place d ≡ readCells channels rows place d
+unfolding readStored
+stored-some channels rows place [] h = absurd (omega arith)
+stored-some channels rows place (b ∷ d) h = refl
+
+-- How many bytes a pattern takes: at most five a cell, and five a cell if no field is 0
+pub stored-most : (p : Pattern) → Fives (p .cells) → length (writeStored p) ≤ cellMost * length (p .cells)
+stored-most p h = write-case (λ (d : List ℕ). length d ≤ cellMost * length (p .cells)) p (λ e. omega arith) (λ e. cells-most (p .cells) h)
+
+full-some : (cells : List (List ℕ)) → 1 ≤ length cells → Fives cells → All (All (λ (x : ℕ). x ≡ 0 → ⊥)) cells → allZero (flat cells) ≡ false
+unfolding allZero
+full-some [] h l f = absurd (omega arith)
+full-some ([] ∷ cells) h l f = absurd (omega (arith, l .0))
+full-some ((x ∷ c) ∷ cells) h l f = rw (ne-eqb x 0 (f .0 .0))
+
+pub stored-full : (p : Pattern) → 1 ≤ length (p .cells) → Fives (p .cells) → All (All (λ (x : ℕ). x ≡ 0 → ⊥)) (p .cells)
+    → length (writeStored p) ≡ 5 * length (p .cells)
+unfolding needsNoData
+stored-full p h l f =
+    let some : needsNoData p ≡ false = rw (full-some (p .cells) h l f) (and-false (eqb (p .rows) 64)) in
+    rw (write-cells p some) (cells-full (p .cells) l f)
+
+-- What is written reads back
+map-same : (cells : List (List ℕ)) → map (λ (c : List ℕ). c) cells ≡ cells
+map-same [] = refl
+map-same (c ∷ cells) = cons-path refl (map-same cells)
+
+cells-back : (channels place : ℕ) (p : Pattern) → GoodPattern channels p
+    → readCells channels (p .rows) place (joined writeCell (p .cells)) ≡ got p (length (joined writeCell (p .cells)))
+unfolding readCells
+cells-back channels place p g =
+    let f = many-back cellFormat (p .rows * channels) cell-back .back place (p .cells) [] (g .good) in
+    let same : f .found ≡ p .cells = sym (map-same (f .found)) ∙ f .same in
+    step _ (rw (append-nil (joined writeCell (p .cells))) at (f .reads)) (pass _ (omega arith, tt) (got-both (pattern-path refl same) refl))
+
+pub product-some : (a b : ℕ) → 1 ≤ a → 1 ≤ b → 1 ≤ a * b
+product-some a b h k = omega (arith, mul-le-mul h k)
+
+pub stored-back : (channels place : ℕ) (p : Pattern) → GoodPattern channels p → readStored channels (p .rows) place (writeStored p) ≡ got p (length (writeStored p))
+stored-back channels place p g =
+    write-case (λ (d : List ℕ). readStored channels (p .rows) place d ≡ got p (length d)) p
+    (λ e. stored-none channels (p .rows) place [] refl ∙ got-both (sym (none-standard channels p g e)) refl)
+    (λ e. stored-some channels (p .rows) place _ (cells-some (p .rows * channels) (p .cells) (product-some (p .rows) channels (g .low) (g .some)) (g .good))
+    ∙ cells-back channels place p g)
+
+-- What is read is kept: it is a good pattern, and is written in no more bytes
+pub record StoredKept (channels : ℕ) (d : List ℕ) (p : Pattern) : Type 0 where
+  pub good : GoodPattern channels p
+  pub short : length (writeStored p) ≤ length d
+
+cells-keep : (channels rows place : ℕ) (d : List ℕ) (p : Pattern) (n : ℕ) → Bytes d → 1 ≤ channels → 1 ≤ rows → rows ≤ 256
+    → readCells channels rows place d ≡ got p n → StoredKept channels d p
+unfolding readCells
+cells-keep channels rows place d p n b some low high e =
+    bind-got _ _ e λ cells m ec e. passed _ _ e λ h e.
+    let w = many-keeps cellFormat (rows * channels) cell-keeps .keeps place d cells m b ec in
+    let short : length (joined writeCell cells) ≤ length d = omega (arith, rw (map-same cells) at (w .short), w .inside) in
+    got-carry (λ (q : Pattern) (u : ℕ). StoredKept channels d q) e
+    (record {
+      good = record { some = some; low = low; high = high; good = rw (map-same cells) at (w .good) };
+      short = write-case (λ (x : List ℕ). length x ≤ length d) (record { rows = rows; cells = cells }) (λ e. omega arith) (λ e. short);
+    })
+
+pub stored-keeps : (channels rows place : ℕ) (d : List ℕ) (p : Pattern) (n : ℕ) → Bytes d → 1 ≤ channels → 1 ≤ rows → rows ≤ 256
+    → readStored channels rows place d ≡ got p n → StoredKept channels d p
+unfolding readStored
+stored-keeps channels rows place [] p n b some low high e =
+    got-carry (λ (q : Pattern) (u : ℕ). StoredKept channels [] q) e
+    (record { good = standard-good channels some; short = omega (arith, ap length (write-none (standard channels) (standard-none channels))) })
+stored-keeps channels rows place (x ∷ d) p n b some low high e = cells-keep channels rows place (x ∷ d) p n b some low high e
+
+-- All of the data is used, and with some data the rows are the row number
+cells-inside : (hs : List (Unit {0})) (place : ℕ) (s : List ℕ) (cells : List (List ℕ)) (n : ℕ) → eachRead cellFormat hs place s ≡ got cells n → n ≤ length s
+unfolding readCell
+cells-inside [] place s cells n e = omega (arith, got-used e)
+cells-inside (h ∷ hs) place s cells n e =
+    bind-got (cellFormat .read h place s) _ e λ c k ec e. bind-got (eachRead cellFormat hs (place + k) (drop k s)) _ e λ cs m es e.
+    passed _ _ ec λ t ec. omega (arith, cells-inside hs (place + k) (drop k s) cs m es, got-used e, got-used ec, t .0, length-drop k s)
+
+record CellsRead (rows : ℕ) (d : List ℕ) (p : Pattern) (n : ℕ) : Type 0 where
+  same : p .rows ≡ rows
+  used : n ≡ length d
+
+cells-read : (channels rows place : ℕ) (d : List ℕ) (p : Pattern) (n : ℕ) → readCells channels rows place d ≡ got p n → CellsRead rows d p n
+unfolding readCells
+cells-read channels rows place d p n e =
+    bind-got _ _ e λ cells m ec e. passed _ _ e λ h e.
+    got-carry (CellsRead rows d) e (record { same = refl; used = omega (arith, h .0, cells-inside (replicate (rows * channels) tt) place d cells m ec) })
+
+pub stored-used : (channels rows place : ℕ) (d : List ℕ) (p : Pattern) (n : ℕ) → readStored channels rows place d ≡ got p n → n ≡ length d
+unfolding readStored
+stored-used channels rows place [] p n e = sym (got-used e)
+stored-used channels rows place (b ∷ d) p n e = cells-read channels rows place (b ∷ d) p n e .used
+
+pub stored-rows : (channels rows place : ℕ) (d : List ℕ) (p : Pattern) (n : ℕ) → 1 ≤ length d → readStored channels rows place d ≡ got p n → p .rows ≡ rows
+stored-rows channels rows place d p n h e = cells-read channels rows place d p n (sym (stored-some channels rows place d h) ∙ e) .same
+
+pub stored-empty : (channels rows place : ℕ) (d : List ℕ) (p : Pattern) (n : ℕ) → length d ≡ 0 → readStored channels rows place d ≡ got p n → p ≡ standard channels
+stored-empty channels rows place d p n h e = got-value (sym e ∙ stored-none channels rows place d h)
