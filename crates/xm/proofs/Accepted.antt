@@ -21,7 +21,7 @@ use Rattle.xm.specs.Delta.{widthTest}
 use Rattle.xm.specs.Table.{SampleRow, patternRow, sampleRow, sampleRowsOf, sampleRowsIn, sampleRows}
 use Rattle.xm.specs.Demands.{LoopInside, RowUnpacks, RowsUnpack, RowDecodes, AcceptedFile}
 use Rattle.xm.proofs.Got.{no-true, pass, step, passed, bind-got, got-carry}
-use Rattle.xm.proofs.Format.{cons-path, each-length}
+use Rattle.xm.proofs.Format.{cons-path, all-append, each-length}
 use Rattle.xm.proofs.Packing.{unpack-gives}
 use Rattle.xm.proofs.PatternInFile.{PatternTold}
 use Rattle.xm.proofs.Sample.{HeadTold, DataTold, Sized, SamplesTold}
@@ -31,10 +31,6 @@ use Rattle.xm.proofs.Table.{tables-stand, joined-same, map-joined, join
 use Rattle.xm.proofs.Delta.{decoding-never-sixteen}
 
 -- Lists of facts
-all-append : {A : Type 0} (P : A → Type 0) (xs ys : List A) → All P xs → All P ys → All P (xs ++ ys)
-all-append P [] ys p q = q
-all-append P (x ∷ xs) ys p q = (p .0, all-append P xs ys (p .1) q)
-
 all-joined : {A B : Type 0} (P : A → Type 0) (Q : B → Type 0) (f : A → List B) → ((x : A) → P x → All Q (f x)) → (xs : List A) → All P xs → All Q (joined f xs)
 all-joined P Q f h [] p = tt
 all-joined P Q f h (x ∷ xs) p = all-append Q (f x) (joined f xs) (h x (p .0)) (all-joined P Q f h xs (p .1))

@@ -412,6 +412,7 @@ cell-keeps = record {
       got-carry (λ (c : List ℕ) (u : ℕ). Held cellFormat tt place s c u) e
       (record {
         inside = h .0;
+        roomy = tt;
         chain = omega arith;
         good = record { size = cell-length s; plain = cell-bytes s b; note = h .1 .0 };
         short = write-short s;

@@ -1,5 +1,6 @@
 -- The laws of a format, and that formats put together keep them. Assumes nothing.
 use Prim.Native.Nat.{ℕ, zero, suc, _+_, _≤_}
+use mathlib.Core.Bool.{true}
 use mathlib.Core.List.{List, [], _∷_, _++_, map, append-assoc}
 use mathlib.Core.Path.{_≡_, refl, sym, ap, ap₂, _∙_}
 use native.Mathlib.Nat.{add-assoc}
@@ -9,6 +10,7 @@ use lib.Seq.{drop-append-seam, drop-drop}
 use Rattle.xm.specs.Number.{Bytes}
 use Rattle.xm.specs.Got.{Got, got, _>>=_}
 use Rattle.xm.specs.Format.{Region, Format, joined, flat, over, then, each, eachRead, EachGood, All}
+use Rattle.xm.specs.Structure.{isStructure}
 use Rattle.xm.proofs.Number.{bytes-drop, bytes-nil, bytes-append, Agree, agree-fewer, agree-drop}
 use Rattle.xm.proofs.Got.{step, bind-got, got-carry}
 
@@ -38,6 +40,14 @@ pub chain-append : (a b e : ℕ) (rs ts : List Region) → Chain a rs b → Chai
 chain-append a b e [] ts c d = chain-from a b e ts c d
 chain-append a b e (r ∷ rs) ts c d = (c .0, chain-append (r .place + r .size) b e rs ts (c .1) d)
 
+-- A region that is a structure has a byte, so that no two structures begin at one place
+abbrev pub Roomy : Region → Type 0
+Roomy r = isStructure (r .kind) ≡ true → 1 ≤ r .size
+
+pub all-append : {A : Type 0} (P : A → Type 0) (xs ys : List A) → All P xs → All P ys → All P (xs ++ ys)
+all-append P [] ys p q = q
+all-append P (x ∷ xs) ys p q = (p .0, all-append P xs ys (p .1) q)
+
 -- What is written is read back, whatever follows it, and all of it is used
 pub record ReadsBack {H I A : Type 0} (F : Format H I A) (h : H) (place : ℕ) (x : A) (rest : List ℕ) : Type 0 where
   pub found : I
@@ -52,6 +62,7 @@ pub record Back {H I A : Type 0} (F : Format H I A) (h : H) : Type 0 where
 pub record Held {H I A : Type 0} (F : Format H I A) (h : H) (place : ℕ) (s : List ℕ) (i : I) (n : ℕ) : Type 0 where
   pub inside : n ≤ length s
   pub chain : Chain place (F .regions i) (place + n)
+  pub roomy : All Roomy (F .regions i)
   pub good : F .Good h (F .view i)
   pub short : length (F .write (F .view i)) ≤ n
 
@@ -76,7 +87,7 @@ module _ {H K I A : Type 0} (f : K → H) {F : Format H I A} where
 
   pub over-keeps : (k : K) → Keeps F (f k) → Keeps (over f F) k
   over-keeps k b = record {
-    keeps = λ place s i n p e. let r = b .keeps place s i n p e in record { inside = r .inside; chain = r .chain; good = r .good; short = r .short };
+    keeps = λ place s i n p e. let r = b .keeps place s i n p e in record { inside = r .inside; chain = r .chain; roomy = r .roomy; good = r .good; short = r .short };
   }
 
   pub over-firm : (k : K) → Firm F (f k) → Firm (over f F) k
@@ -111,6 +122,7 @@ module _ {H I A K J B : Type 0} (next : H → A → K) {F : Format H I A} {G : F
         (record {
           inside = omega (arith, w .inside, z .inside, length-drop k s);
           chain = rw (← add-assoc place k m) (chain-append place (place + k) (place + k + m) (F .regions i) (G .regions j) (w .chain) (z .chain));
+          roomy = all-append Roomy (F .regions i) (G .regions j) (w .roomy) (z .roomy);
           good = (w .good, z .good);
           short = rw length-append (omega (arith, w .short, z .short));
         });
@@ -181,7 +193,7 @@ module _ {H I A : Type 0} (F : Format H I A) where
   each-held : (hs : List H) → All (Keeps F) hs → (place : ℕ) (s : List ℕ) (is : List I) (n : ℕ) → Bytes s → eachRead F hs place s ≡ got is n
       → Held (each F) hs place s is n
   each-held [] b place s is n p e =
-      got-carry (λ (r : List I) (t : ℕ). Held (each F) [] place s r t) e (record { inside = omega arith; chain = omega arith; good = tt; short = omega arith })
+      got-carry (λ (r : List I) (t : ℕ). Held (each F) [] place s r t) e (record { inside = omega arith; chain = omega arith; roomy = tt; good = tt; short = omega arith })
   each-held (h ∷ hs) b place s is n p e =
       bind-got (F .read h place s) _ e λ i k ei e₁. bind-got (eachRead F hs (place + k) (drop k s)) _ e₁ λ js m ej e₂.
       let w = b .0 .keeps place s i k p ei in
@@ -190,6 +202,7 @@ module _ {H I A : Type 0} (F : Format H I A) where
       (record {
         inside = omega (arith, w .inside, z .inside, length-drop k s);
         chain = rw (← add-assoc place k m) (chain-append place (place + k) (place + k + m) (F .regions i) (joined (F .regions) js) (w .chain) (z .chain));
+        roomy = all-append Roomy (F .regions i) (joined (F .regions) js) (w .roomy) (z .roomy);
         good = (w .good, z .good);
         short = rw length-append (omega (arith, w .short, z .short));
       })

@@ -12,7 +12,7 @@ use Rattle.xm.specs.Number.{Bytes, byteAt, wordAt, longAt, part}
 use Rattle.xm.specs.Got.{got, AllHold, present, atLeast, exactly, _at_}
 use Rattle.xm.specs.Header.{mark, version, sizeFrom, leastHeader, ordersMost, ordersFrom, headerEnd, countTests, headerTests, Header, HeaderFound, GoodHeader, restartInside, restartOf, headerOf, readHeader, idText, writeHeader, headerFormat}
 use Rattle.xm.proofs.Number.{bytes-drop, bytes-take, bytes-by, bytes-zeros, word-small, Agree}
-use Rattle.xm.proofs.Got.{pass, passed, got-by, got-both, got-carry}
+use Rattle.xm.proofs.Got.{no-true, pass, passed, got-by, got-both, got-carry}
 use Rattle.xm.proofs.Format.{Back, ReadsBack, Keeps, Held, Firm}
 use Rattle.xm.proofs.Field.{Field, byteField, wordField, longField, textField, noField, _⊗_}
 
@@ -203,7 +203,7 @@ header-keeps = record {
       passed _ _ e λ h e.
       let g = good-content s b h in
       got-carry (λ (r : HeaderFound) (t : ℕ). Held headerFormat tt place s r t) e
-      (record { inside = h .1 .1 .1 .1 .1 .1 .1 .1 .0; chain = omega arith; good = g; short = omega (arith, header-size (headerOf s) g, h .1 .1 .1 .0) });
+      (record { inside = h .1 .1 .1 .1 .1 .1 .1 .1 .0; chain = omega arith; roomy = (λ q. absurd (no-true q), tt); good = g; short = omega (arith, header-size (headerOf s) g, h .1 .1 .1 .0) });
 }
 
 same-tests : (s t : List ℕ) (n : ℕ) → AllHold (headerTests 0 s) → headerEnd s ≤ n → Agree n s t → (offsets (wordAt 64 s) s ≡ offsets (wordAt 64 s) t) → AllHold (headerTests 0 t)

@@ -17,6 +17,7 @@ pub mod Fault
 pub mod Press
 pub mod Region
 pub mod Table
+pub mod Structure
 pub mod Accepted
 pub mod Demands
 pub mod Lay

@@ -11,7 +11,7 @@ use Rattle.xm.specs.Format.{flat}
 use Rattle.xm.specs.Stored.{Pattern, GoodPattern, readStored, writeStored}
 use Rattle.xm.specs.PatternInFile.{leastPattern, dataMost, patternTests, PatternFound, GoodStored, readPattern, writePattern, patternFormat}
 use Rattle.xm.proofs.Number.{bytes-drop, bytes-take, bytes-append, bytes-nil, word-small, part-drop, Agree, agree-word, agree-long, agree-part}
-use Rattle.xm.proofs.Got.{pass, step, passed, bind-got, got-both, got-carry}
+use Rattle.xm.proofs.Got.{no-true, pass, step, passed, bind-got, got-both, got-carry}
 use Rattle.xm.proofs.Format.{Back, ReadsBack, Keeps, Held, Firm, Tells}
 use Rattle.xm.proofs.Field.{Field, byteField, wordField, longField, textField, noField, _⊗_}
 use Rattle.xm.proofs.Stored.{stored-back, stored-keeps, stored-plain}
@@ -93,6 +93,7 @@ pattern-keeps channels c = record {
       got-carry (λ (r : PatternFound) (t : ℕ). Held patternFormat channels place s r t) e
       (record {
         inside = h .1 .1 .1 .0;
+        roomy = ((λ q. omega (arith, h .1 .0)), (λ q. absurd (no-true q), tt));
         chain = (omega arith, (omega arith, omega arith));
         good = g;
         short = omega (arith, pattern-size channels p g, w .short, h .1 .0);

@@ -10,7 +10,7 @@ use Rattle.xm.specs.Got.{got, AllHold}
 use Rattle.xm.specs.Format.{Format, each, All}
 use Rattle.xm.specs.Sample.{leastHead, headBytes, dataSize, headTests, Stretch, readHead, headFormat, readData, dataFormat, SamplesFound, samplesFormat}
 use Rattle.xm.proofs.Number.{bytes-take, agree-take}
-use Rattle.xm.proofs.Got.{pass, passed, bind-got, got-by, got-value, got-carry}
+use Rattle.xm.proofs.Got.{no-true, pass, passed, bind-got, got-by, got-value, got-carry}
 use Rattle.xm.proofs.Format.{Back, Keeps, Held, Firm, Tells, then-back, then-keeps, then-firm, then-tells, each-back, each-keeps, each-firm, each-tells, many-back, many-keeps, many-firm, many-tells, all}
 
 -- What is found of a stretch, at its place of the file
@@ -42,7 +42,7 @@ head-keeps size l = record {
       passed _ _ e λ h e.
       let z : length (take leastHead s) ≡ leastHead = length-take-le leastHead s (omega (arith, h .0)) in
       got-carry (λ (r : Stretch) (t : ℕ). Held headFormat size place s r t) e
-      (record { inside = h .0; chain = omega arith; good = record { size = z; plain = bytes-take leastHead b; tests = h .1 }; short = omega arith });
+      (record { inside = h .0; chain = omega arith; roomy = (λ q. omega arith, tt); good = record { size = z; plain = bytes-take leastHead b; tests = h .1 }; short = omega arith });
 }
 
 pub head-firm : (size : ℕ) → leastHead ≤ size → Firm headFormat size
@@ -82,7 +82,7 @@ data-keeps head = record {
       passed _ _ e λ h e.
       let z : length (take (dataSize head) s) ≡ dataSize head = length-take-le (dataSize head) s (h .0) in
       got-carry (λ (r : Stretch) (t : ℕ). Held dataFormat head place s r t) e
-      (record { inside = h .0; chain = omega arith; good = record { size = z; plain = bytes-take (dataSize head) b }; short = omega arith });
+      (record { inside = h .0; chain = omega arith; roomy = (λ q. absurd (no-true q), tt); good = record { size = z; plain = bytes-take (dataSize head) b }; short = omega arith });
 }
 
 pub data-firm : (head : List ℕ) → Firm dataFormat head

@@ -7,7 +7,7 @@ use lib.ListN.{length, getD}
 use Rattle.xm.specs.Number.{part}
 use Rattle.xm.specs.Got.{got, _>>_, checked, present, _at_}
 use Rattle.xm.specs.Answer.{Answer, gives, refuses, answered, numberOf, numbers}
-use Rattle.xm.specs.Table.{SampleRow}
+use Rattle.xm.specs.Table.{SampleRow, sampleStride}
 
 -- Where the data lies that a row speaks of.
 pub record Lies : Type 0 where
@@ -34,7 +34,7 @@ askNumbers = numbers (Lies.place ∷ Lies.size ∷ [])
 -- Of a table over flat numbers, and of one of records.
 abbrev pub askingFlat : (file table : List ℕ) (number : ℕ) → Answer Lies
 askingFlat file table number =
-    asking file (length table / 4) number (record { place = getD table (4 * number + 1) 0; size = getD table (4 * number + 2) 0 })
+    asking file (length table / sampleStride) number (record { place = getD table (sampleStride * number + 1) 0; size = getD table (sampleStride * number + 2) 0 })
 
 abbrev pub noRow : SampleRow
 noRow = record { headerPlace = 0; dataPlace = 0; size = 0; width = 0; finetune = pos 0; relativeNote = pos 0 }

@@ -21,6 +21,7 @@ use Rattle.xm.specs.Module.{Found, Content, moduleFormat, fileMost, read
 use Rattle.xm.specs.Delta.{allFit, decoding, coding, written, decodeAfter, codeAfter}
 use Rattle.xm.specs.Table.{PatternRow, InstrumentRow, SampleRow, patternRows, instrumentRows, sampleRows, Checked, checking, checkingInto, Tables, roomOf, tablesAfter}
 use Rattle.xm.specs.Asking.{Lies}
+use Rattle.xm.specs.Structure.{structures, stands, ended, reading, placeAfter}
 use Rattle.xm.specs.Press.{contentOf, pressed, pressingAs, pressing, pressedLength, pressAfter}
 
 -- DEMAND 1. "Bad input gets a refusal number and a place. A refused call changes nothing in the memory it was lent", and no call writes
@@ -190,6 +191,13 @@ pub record AcceptedFile (file : List ℕ) (found : Found) (end : ℕ) : Type 0 w
 abbrev pub RestIgnored : Type 0
 RestIgnored = (file other : List ℕ) (found : Found) (end : ℕ) → readFile file ≡ got found end → length other ≤ fileMost → end ≤ length other
     → take end file ≡ take end other → readFile other ≡ got found end
+
+-- The small reader: n calls from the start hand over the first n structures, in file order; after the last, each call says that the end is
+-- reached, and the reader stays where it is.
+pub record ReaderHandsOver (file : List ℕ) (found : Found) : Type 0 where
+  pub each-one : (n : ℕ) → n < length (structures found) → reading file (placeAfter file n) ≡ gives (stands (regionAt (structures found) n))
+  pub end-then : (n : ℕ) → length (structures found) ≤ n → reading file (placeAfter file n) ≡ gives ended
+  pub stays : (n : ℕ) → length (structures found) ≤ n → placeAfter file (n + 1) ≡ placeAfter file n
 
 -- The loader's numbers: at least 2^32 exactly when refused, and then number and place come back.
 pub record LoaderTells {A : Type 0} (f : A → ℕ) (answer : Answer A) : Type 0 where

@@ -1,6 +1,6 @@
 -- The small reader: "it hands over one structure's kind and place at a call (pattern, instrument or sample header, in file order), then
 -- says that the end is reached. On a refused file each call gives the check's refusal."
-use Prim.Native.Nat.{ℕ, _+_}
+use Prim.Native.Nat.{ℕ, zero, suc, _+_}
 use mathlib.Core.Bool.{Bool, true, false, cond}
 use mathlib.Core.List.{List, [], _∷_}
 use lib.Dec.{leb}
@@ -40,3 +40,8 @@ abbrev pub readUpTo : (place : ℕ) → Answer Standing → ℕ
 readUpTo place (gives (stands r)) = r .place + 1
 readUpTo place (gives ended) = place
 readUpTo place (refuses r) = place
+
+-- Where a reader from the start stands after n calls.
+abbrev pub placeAfter : (file : List ℕ) (n : ℕ) → ℕ
+placeAfter file zero = 0
+placeAfter file (suc n) = readUpTo (placeAfter file n) (reading file (placeAfter file n))

@@ -98,6 +98,18 @@ abbrev pub checkLoader : (file : List ℕ) → ℕ
 checkLoader file = loaderNumber Checked.end (checking file)
 
 -- The tables "over flat numbers": three numbers to a pattern, three to an instrument; of a sample four, and its two tunes apart.
+abbrev pub patternStride : ℕ
+patternStride = 3
+
+abbrev pub instrumentStride : ℕ
+instrumentStride = 3
+
+abbrev pub sampleStride : ℕ
+sampleStride = 4
+
+abbrev pub tuneStride : ℕ
+tuneStride = 2
+
 abbrev pub patternNumbers : PatternRow → List ℕ
 patternNumbers r = r .dataPlace ∷ r .size ∷ r .rows ∷ []
 
@@ -138,9 +150,9 @@ checkingInto room file = answered (λ found end. record { found = found; end = e
 
 abbrev pub roomOf : Tables → Room
 roomOf lent = record {
-  patterns = length (lent .patterns) / 3;
-  instruments = length (lent .instruments) / 3;
-  samples = min (length (lent .samples) / 4) (length (lent .tunes) / 2);
+  patterns = length (lent .patterns) / patternStride;
+  instruments = length (lent .instruments) / instrumentStride;
+  samples = min (length (lent .samples) / sampleStride) (length (lent .tunes) / tuneStride);
 }
 
 -- What all the tables hold afterwards: "Rows beyond the count stay", and on a refusal every row.
