@@ -1,34 +1,37 @@
 -- What holds of every accepted file: regions, tables, rows, stretches, loops. Assumes nothing.
-use Prim.Native.Nat.{ℕ, zero, suc, _+_, _*_, _%_, _≤_}
+use Prim.Native.Nat.{ℕ, zero, suc, _+_, _*_, _/_, _%_, _≤_, _<_}
 use mathlib.Core.Bool.{Bool, true, false, cond}
-use mathlib.Core.List.{List, [], _∷_, _++_, map}
-use mathlib.Core.Path.{_≡_, refl, sym, ap, _∙_}
-use native.Mathlib.Nat.{zero-add}
+use mathlib.Core.List.{List, [], _∷_, _++_, map, append-assoc}
+use mathlib.Core.Path.{_≡_, refl, sym, ap, ap₂, _∙_, subst}
+use native.Mathlib.Nat.{zero-add, add-zero}
 use native.Mathlib.Omega.{arith}
 use lib.Dec.{eqb}
-use lib.ListN.{length, drop, replicate, length-drop, length-take, length-map, length-replicate}
-use lib.Seq.{length-take-le}
-use Rattle.xm.specs.Number.{Bytes, part}
+use lib.ListN.{length, getD, take, drop, replicate, length-append, length-take, length-map, length-replicate, List·getD-append}
+use lib.Seq.{drop-at, take-at}
+use Rattle.xm.specs.Number.{Bytes, byteAt, longAt, part, signed}
 use Rattle.xm.specs.Got.{got, Holds}
 use Rattle.xm.specs.Format.{Format, each, sampleData, joined, EachGood, All}
 use Rattle.xm.specs.Cell.{cellFormat, readCell}
 use Rattle.xm.specs.Stored.{Pattern, readCells, readStored}
 use Rattle.xm.specs.PatternInFile.{PatternFound, GoodStored, patternFormat}
-use Rattle.xm.specs.Sample.{Stretch, isWide, lengthOf}
+use Rattle.xm.specs.Sample.{leastHead, Stretch, isWide, widthOf, lengthOf}
 use Rattle.xm.specs.Instrument.{InstrumentFound, instrumentView}
 use Rattle.xm.specs.Module.{Found, patternsFor, moduleFormat, readFile}
-use Rattle.xm.specs.Delta.{widthTest}
-use Rattle.xm.specs.Table.{SampleRow, patternRow, sampleRow, sampleRowsOf, sampleRowsIn, sampleRows}
-use Rattle.xm.specs.Demands.{LoopInside, RowUnpacks, RowsUnpack, RowDecodes, AcceptedFile}
+use Rattle.xm.specs.Delta.{widthTest, decoding, valuesOf}
+use Rattle.xm.specs.Table.{SampleRow, patternRow, sampleCount, instrumentRowsFrom, sampleRow, sampleRowsOf, sampleRowsIn, sampleRows, sampleStride, sampleNumbers}
+use Rattle.xm.specs.Asking.{Lies, asking, noRow}
+use Rattle.xm.specs.Demands.{RowUnpacks, RowsUnpack, FindsRows, RowReads, RowDecodes, RowsDecode, liesAt, Asked, AsksExactly, LoopInside, AcceptedFiles}
+use Rattle.xm.proofs.Number.{byte-part, long-part}
 use Rattle.xm.proofs.Got.{no-true, pass, step, passed, bind-got, got-carry}
-use Rattle.xm.proofs.Format.{cons-path, all-append, each-length}
+use Rattle.xm.proofs.Answer.{answer-gives, answer-refuses, tests-fail}
+use Rattle.xm.proofs.Format.{joined-length, all-append, each-length}
 use Rattle.xm.proofs.Packing.{unpack-gives}
 use Rattle.xm.proofs.PatternInFile.{PatternTold}
 use Rattle.xm.proofs.Sample.{HeadTold, DataTold, Sized, SamplesTold}
-use Rattle.xm.proofs.Module.{module-keeps, module-tells, whole-read}
-use Rattle.xm.proofs.Region.{Before, chain-regions, kind-before}
-use Rattle.xm.proofs.Table.{tables-stand, joined-same, map-joined, joined-map}
-use Rattle.xm.proofs.Delta.{decoding-never-sixteen}
+use Rattle.xm.proofs.Module.{module-keeps, module-adjoins, module-tells, whole-read}
+use Rattle.xm.proofs.Region.{Before, adjoin-regions, kind-before}
+use Rattle.xm.proofs.Table.{tables-stand, joined-map}
+use Rattle.xm.proofs.Delta.{decoding-given}
 
 -- Lists of facts
 all-joined : {A B : Type 0} (P : A → Type 0) (Q : B → Type 0) (f : A → List B) → ((x : A) → P x → All Q (f x)) → (xs : List A) → All P xs → All Q (joined f xs)
@@ -43,41 +46,139 @@ all-unmap : {A B : Type 0} (Q : B → Type 0) (f : A → B) (xs : List A) → Al
 all-unmap Q f [] p = tt
 all-unmap Q f (x ∷ xs) p = (p .0, all-unmap Q f xs (p .1))
 
-all-both : {A : Type 0} (P Q R : A → Type 0) → ((x : A) → P x → Q x → R x) → (xs : List A) → All P xs → All Q xs → All R xs
-all-both P Q R h [] p q = tt
-all-both P Q R h (x ∷ xs) p q = (h x (p .0) (q .0), all-both P Q R h xs (p .1) (q .1))
+all-with : {A : Type 0} (P Q : A → Type 0) → ((x : A) → P x → Q x) → (xs : List A) → All P xs → All Q xs
+all-with P Q h [] p = tt
+all-with P Q h (x ∷ xs) p = (h x (p .0), all-with P Q h xs (p .1))
 
--- A sample row's stretch is the data that was found
-row-stretches : (file : List ℕ) (heads bytes : List Stretch) → All (DataTold file) bytes → Sized (map Stretch.bytes heads) bytes
-    → map (λ (row : SampleRow). part (row .dataPlace) (row .size) file) (sampleRowsOf heads bytes) ≡ map Stretch.bytes bytes
-row-stretches file [] [] t z = refl
-row-stretches file [] (b ∷ bs) t z = absurd z
-row-stretches file (h ∷ hs) [] t z = absurd z
-row-stretches file (h ∷ hs) (b ∷ bs) t z = cons-path (sym (t .0 .bytes)) (row-stretches file hs bs (t .1) (z .1))
+all-at : {A : Type 0} (P : A → Type 0) (xs : List A) (k : ℕ) (d : A) → All P xs → k < length xs → P (getD xs k d)
+all-at P [] k d p h = absurd (omega arith)
+all-at P (x ∷ xs) zero d p h = p .0
+all-at P (x ∷ xs) (suc k) d p h = all-at P xs k d (p .1) (omega arith)
 
--- At 16 bits a row's size is even
-EvenRow : SampleRow → Type 0
-EvenRow row = Holds (widthTest (row .width)) × (eqb (row .width) 16 ≡ true → row .size % 2 ≡ 0)
+-- A sample row says what stands in its header
+row-reads : (file : List ℕ) (h b : Stretch) → HeadTold file h → b .size ≡ lengthOf (h .bytes) → RowReads file (sampleRow h b)
+row-reads file h b t z =
+    let at : (k : ℕ) → k < leastHead → byteAt k (h .bytes) ≡ byteAt (h .place + k) file = λ k l. ap (byteAt k) (t .bytes) ∙ byte-part (h .place) leastHead k file l in (
+      z ∙ ap (longAt 0) (t .bytes) ∙ long-part (h .place) leastHead 0 file (omega arith) ∙ ap (λ (n : ℕ). longAt n file) (add-zero (h .place)),
+      ap (λ (n : ℕ). cond (eqb (n / 16 % 2) 1) 16 8) (at 14 (omega arith)),
+      ap (signed 8) (at 13 (omega arith)),
+      ap (signed 8) (at 16 (omega arith)),
+    )
 
-even-row : (file : List ℕ) (h b : Stretch) → HeadTold file h → b .size ≡ lengthOf (h .bytes) → EvenRow (sampleRow h b)
-unfolding EvenRow
-even-row file h b t z = go (isWide (h .bytes)) refl
+rows-read : (file : List ℕ) (heads bytes : List Stretch) → All (HeadTold file) heads → Sized (map Stretch.bytes heads) bytes → All (RowReads file) (sampleRowsOf heads bytes)
+rows-read file [] [] t z = tt
+rows-read file [] (b ∷ bs) t z = absurd z
+rows-read file (h ∷ hs) [] t z = absurd z
+rows-read file (h ∷ hs) (b ∷ bs) t z = (row-reads file h b (t .0) (omega (arith, z .0)), rows-read file hs bs (t .1) (z .1))
+
+-- Its stretch is the data, and decodes: at 16 bits its size is even
+width-test : (head : List ℕ) → Holds (widthTest (widthOf head))
+width-test head = go (isWide head)
   where
-    go : (w : Bool) → isWide (h .bytes) ≡ w → Holds (widthTest (cond w 16 8)) × (eqb (cond w 16 8) 16 ≡ true → b .size % 2 ≡ 0)
-    go true e = (refl, λ q. ap (λ (n : ℕ). n % 2) z ∙ t .tests .1 .1 .0 e)
-    go false e = (refl, λ q. absurd (no-true q))
+    go : (w : Bool) → Holds (widthTest (cond w 16 8))
+    go true = refl
+    go false = refl
 
-even-rows : (file : List ℕ) (heads bytes : List Stretch) → All (HeadTold file) heads → Sized (map Stretch.bytes heads) bytes → All EvenRow (sampleRowsOf heads bytes)
-even-rows file [] [] t z = tt
-even-rows file [] (b ∷ bs) t z = absurd z
-even-rows file (h ∷ hs) [] t z = absurd z
-even-rows file (h ∷ hs) (b ∷ bs) t z = (even-row file h b (t .0) (omega (arith, z .0)), even-rows file hs bs (t .1) (z .1))
+width-even : (head : List ℕ) (n : ℕ) → (isWide head ≡ true → n % 2 ≡ 0) → eqb (widthOf head) 16 ≡ true → n % 2 ≡ 0
+width-even head n h q = go (isWide head) h q
+  where
+    go : (w : Bool) → (w ≡ true → n % 2 ≡ 0) → eqb (cond w 16 8) 16 ≡ true → n % 2 ≡ 0
+    go true h q = h refl
+    go false h q = absurd (no-true q)
 
-row-decodes : (file : List ℕ) (row : SampleRow) → EvenRow row → row .dataPlace + row .size ≤ length file → RowDecodes file row
-unfolding EvenRow
-row-decodes file row e h room =
-    let l : length (part (row .dataPlace) (row .size) file) ≡ row .size = length-take-le (row .size) (drop (row .dataPlace) file) (omega (arith, length-drop (row .dataPlace) file)) in
-    decoding-never-sixteen (row .width) (part (row .dataPlace) (row .size) file) room (e .0) (λ q. ap (λ (n : ℕ). n % 2) l ∙ e .1 q)
+row-decodes : (file : List ℕ) (h b : Stretch) → HeadTold file h → DataTold file b → b .size ≡ lengthOf (h .bytes) → RowDecodes file (sampleRow h b) (h .bytes) (b .bytes)
+row-decodes file h b t d z = (
+  sym (d .bytes),
+  ap (λ (s : List ℕ). decoding (widthOf (h .bytes)) s (length (valuesOf (h .bytes) (b .bytes)))) (sym (d .bytes))
+      ∙ decoding-given (widthOf (h .bytes)) (b .bytes) (length (valuesOf (h .bytes) (b .bytes))) (width-test (h .bytes))
+      (width-even (h .bytes) (length (b .bytes)) (λ q. ap (λ (n : ℕ). n % 2) (d .long ∙ z) ∙ t .tests .1 .1 .0 q)) (omega arith),
+)
+
+rows-decode : (file : List ℕ) (heads bytes : List Stretch) → All (HeadTold file) heads → All (DataTold file) bytes → Sized (map Stretch.bytes heads) bytes
+    → RowsDecode file (sampleRowsOf heads bytes) (map Stretch.bytes heads) (map Stretch.bytes bytes)
+rows-decode file [] [] t d z = tt
+rows-decode file [] (b ∷ bs) t d z = absurd z
+rows-decode file (h ∷ hs) [] t d z = absurd z
+rows-decode file (h ∷ hs) (b ∷ bs) t d z = (row-decodes file h b (t .0) (d .0) (omega (arith, z .0)), rows-decode file hs bs (t .1) (d .1) (z .1))
+
+decode-append : (file : List ℕ) (rows rows′ : List SampleRow) (hs hs′ bs bs′ : List (List ℕ)) → RowsDecode file rows hs bs → RowsDecode file rows′ hs′ bs′
+    → RowsDecode file (rows ++ rows′) (hs ++ hs′) (bs ++ bs′)
+decode-append file [] rows′ [] hs′ [] bs′ p q = q
+decode-append file [] rows′ [] hs′ (b ∷ bs) bs′ p q = absurd p
+decode-append file [] rows′ (h ∷ hs) hs′ bs bs′ p q = absurd p
+decode-append file (row ∷ rows) rows′ [] hs′ bs bs′ p q = absurd p
+decode-append file (row ∷ rows) rows′ (h ∷ hs) hs′ [] bs′ p q = absurd p
+decode-append file (row ∷ rows) rows′ (h ∷ hs) hs′ (b ∷ bs) bs′ p q = (p .0, decode-append file rows rows′ hs hs′ bs bs′ (p .1) q)
+
+all-decode : (file : List ℕ) (is : List InstrumentFound) → All (λ (i : InstrumentFound). SamplesTold file (i .samples)) is
+    → RowsDecode file (joined sampleRowsIn is) (joined (λ (i : InstrumentFound). map Stretch.bytes (i .samples .0)) is) (joined (λ (i : InstrumentFound). map Stretch.bytes (i .samples .1)) is)
+all-decode file [] t = tt
+all-decode file (i ∷ is) t =
+    decode-append file (sampleRowsIn i) _ (map Stretch.bytes (i .samples .0)) _ (map Stretch.bytes (i .samples .1)) _
+    (rows-decode file (i .samples .0) (i .samples .1) (t .0 .heads) (t .0 .bytes) (t .0 .sizes)) (all-decode file is (t .1))
+
+-- An instrument's own rows stand where its row says
+pub rows-length : (heads bytes : List Stretch) → Sized (map Stretch.bytes heads) bytes → length (sampleRowsOf heads bytes) ≡ length heads
+rows-length [] bytes z = refl
+rows-length (h ∷ hs) [] z = absurd z
+rows-length (h ∷ hs) (b ∷ bs) z = ap suc (rows-length hs bs (z .1))
+
+finds-rows : (file : List ℕ) (before : List SampleRow) (first : ℕ) (is : List InstrumentFound) → length before ≡ first → All (λ (i : InstrumentFound). SamplesTold file (i .samples)) is
+    → FindsRows (before ++ joined sampleRowsIn is) (instrumentRowsFrom first is) is
+finds-rows file before first [] e t = tt
+finds-rows file before first (i ∷ is) e t =
+    let rest = joined sampleRowsIn is in
+    let n = rows-length (i .samples .0) (i .samples .1) (t .0 .sizes) in (
+      ap (take (sampleCount i)) (drop-at before (sampleRowsIn i ++ rest) first e) ∙ take-at (sampleRowsIn i) rest (sampleCount i) n,
+      subst (λ (all : List SampleRow). FindsRows all (instrumentRowsFrom (first + sampleCount i) is) is) (append-assoc before (sampleRowsIn i) rest)
+          (finds-rows file (before ++ sampleRowsIn i) (first + sampleCount i) is (length-append before (sampleRowsIn i) ∙ ap₂ _+_ e n) (t .1)),
+    )
+
+-- A sample asked for by number
+pub asks-exactly : AsksExactly
+unfolding asking
+asks-exactly file rows number row = (
+  λ h. answer-gives _ (pass _ (omega arith, (omega arith, (omega arith, tt))) refl),
+  λ h. answer-refuses _ (tests-fail _ _ (refl, (refl, (refl, tt))) (λ all. h (omega (arith, all .0), omega (arith, all .1 .0, all .1 .1 .0)))),
+)
+
+number-at : (rows : List SampleRow) (stale : List ℕ) (number k : ℕ) → number < length rows → k < sampleStride
+    → getD (joined sampleNumbers rows ++ stale) (sampleStride * number + k) 0 ≡ getD (sampleNumbers (getD rows number noRow)) k 0
+number-at [] stale number k h l = absurd (omega arith)
+number-at (r ∷ rs) stale zero k h l = ap (λ (i : ℕ). getD (joined sampleNumbers (r ∷ rs) ++ stale) i 0) none ∙ front k l
+  where
+    none : sampleStride * 0 + k ≡ k
+    none = omega arith
+
+    front : (k : ℕ) → k < sampleStride → getD (joined sampleNumbers (r ∷ rs) ++ stale) k 0 ≡ getD (sampleNumbers r) k 0
+    front zero l = refl
+    front (suc zero) l = refl
+    front (suc (suc zero)) l = refl
+    front (suc (suc (suc zero))) l = refl
+    front (suc (suc (suc (suc k)))) l = absurd (omega arith)
+number-at (r ∷ rs) stale (suc n) k h l = ap (λ (i : ℕ). getD (joined sampleNumbers (r ∷ rs) ++ stale) i 0) later ∙ number-at rs stale n k (omega arith) l
+  where
+    later : sampleStride * suc n + k ≡ suc (suc (suc (suc (sampleStride * n + k))))
+    later = omega arith
+
+module _ (file : List ℕ) (rows : List SampleRow) (inside : All (λ (row : SampleRow). row .dataPlace + row .size ≤ length file) rows) where
+  row-inside : (number : ℕ) → number < length rows → getD rows number noRow .dataPlace + getD rows number noRow .size ≤ length file
+  row-inside number h = all-at (λ (row : SampleRow). row .dataPlace + row .size ≤ length file) rows number noRow inside h
+
+  asked-rows : Asked file rows
+  asked-rows = record {
+    flat = λ stale number h.
+        let table = joined sampleNumbers rows ++ stale in
+        let lies : _≡_ {A = Lies} (record { place = getD table (sampleStride * number + 1) 0; size = getD table (sampleStride * number + 2) 0 }) (liesAt rows number) =
+        ap₂ (λ (p s : ℕ). record { place = p; size = s }) (number-at rows stale number 1 h (omega arith)) (number-at rows stale number 2 h (omega arith)) in
+        ap (asking file (length table / sampleStride) number) lies
+        ∙ asks-exactly file (length table / sampleStride) number (liesAt rows number) .0
+        (omega (arith, length-append (joined sampleNumbers rows) stale, joined-length sampleStride sampleNumbers (λ row. refl) rows), row-inside number h);
+    records = λ stale number h.
+        let same : getD (rows ++ stale) number noRow ≡ getD rows number noRow = List·getD-append rows stale noRow number h in
+        ap (λ (row : SampleRow). asking file (length (rows ++ stale)) number (record { place = row .dataPlace; size = row .size })) same
+        ∙ asks-exactly file (length (rows ++ stale)) number (liesAt rows number) .0 (omega (arith, length-append rows stale), row-inside number h);
+  }
 
 -- An accepted reading of cells does not depend on the place, nor on the row number that no data have
 cells-anywhere : (n place other : ℕ) (s : List ℕ) (cells : List (List ℕ)) (used : ℕ) → each cellFormat .read (replicate n tt) place s ≡ got cells used
@@ -100,11 +201,14 @@ stored-anywhere channels rows place (b ∷ d) p used e =
 
 row-unpacks : (file : List ℕ) (channels : ℕ) (i : PatternFound) → 1 ≤ channels → channels ≤ 64 → PatternTold channels file i → GoodStored channels (i .content)
     → RowUnpacks file channels (patternRow i) (i .content)
-row-unpacks file channels i low high t g room h =
-    let d = part (i .dataPlace) (i .dataSize) file in
-    unpack-gives (i .content .rows) channels d room
-    ((g .pattern .low, g .pattern .high), ((low, high), (omega (arith, length-take (i .dataSize) (drop (i .dataPlace) file), t .small), tt)))
-    (stored-anywhere channels (t .rows) (i .dataPlace) d (i .content) (t .used) (t .reads)) h
+row-unpacks file channels i low high t g = (
+  refl,
+  λ room h.
+      let d = part (i .dataPlace) (i .dataSize) file in
+      unpack-gives (i .content .rows) channels d room
+      ((g .pattern .low, g .pattern .high), ((low, high), (omega (arith, length-take (i .dataSize) (drop (i .dataPlace) file), t .small), tt)))
+      (stored-anywhere channels (t .rows) (i .dataPlace) d (i .content) (t .used) (t .reads)) h,
+)
 
 rows-unpack : (file : List ℕ) (channels : ℕ) (ps : List PatternFound) → 1 ≤ channels → channels ≤ 64 → All (PatternTold channels file) ps
     → EachGood patternFormat (replicate (length ps) channels) (map PatternFound.content ps) → RowsUnpack file channels (map patternRow ps) (map PatternFound.content ps)
@@ -115,32 +219,32 @@ rows-unpack file channels (p ∷ ps) low high t g = (row-unpacks file channels p
 loop-inside : (file : List ℕ) (head : Stretch) → HeadTold file head → LoopInside (head .bytes)
 loop-inside file head t q = omega (arith, t .tests .1 .1 .1 .0 q)
 
-pub accepted-file : (file : List ℕ) (found : Found) (end : ℕ) → Bytes file → readFile file ≡ got found end → AcceptedFile file found end
-accepted-file file found end b e =
+pub accepted-files : AcceptedFiles
+accepted-files file found end b e =
     whole-read moduleFormat file found end e λ size e.
     let w = module-keeps .keeps 0 file found end b e in
     let t = module-tells file found end b e in
     let c = w .good .0 .counts in
-    let chain = rw (zero-add end) at (w .chain) in
+    let adjoin = rw (zero-add end) at (module-adjoins .adjoins 0 file found end e) in
     let n = each-length patternFormat (patternsFor (found .0 .content)) (map PatternFound.content (found .1 .0)) (w .good .1 .0) in
     let stand = tables-stand file found (t .instruments) in
+    let before : All (λ (row : SampleRow). row .dataPlace + row .size ≤ end) (sampleRows found) =
+    all-unmap (Before end) _ (sampleRows found) (rw (stand .bytes) at (kind-before sampleData 0 end (moduleFormat .regions found) adjoin)) in
     record {
       ends-inside = w .inside;
-      regions = chain-regions file (moduleFormat .regions found) end chain (w .inside);
+      regions = adjoin-regions file (moduleFormat .regions found) end adjoin (w .inside);
       tables = stand;
       rows-unpack =
           rows-unpack file (found .0 .content .channels) (found .1 .0) (c .1 .1 .0 .0) (c .1 .1 .0 .1) (t .patterns)
           (rw (sym (length-map (found .1 .0) PatternFound.content) ∙ n ∙ length-replicate (found .0 .content .patterns) (found .0 .content .channels)) (w .good .1 .0));
-      stretches =
-          map-joined _ sampleRowsIn (found .1 .1)
-          ∙ joined-same (λ (i : InstrumentFound). SamplesTold file (i .samples)) _ (λ (i : InstrumentFound). map Stretch.bytes (i .samples .1))
-          (λ i s. row-stretches file (i .samples .0) (i .samples .1) (s .bytes) (s .sizes)) (found .1 .1) (t .instruments)
-          ∙ sym (joined-map _ instrumentView (found .1 .1));
-      rows-decode =
-          all-both EvenRow (λ (row : SampleRow). row .dataPlace + row .size ≤ end) (RowDecodes file)
-          (λ row p q. row-decodes file row p (omega (arith, q, w .inside))) (sampleRows found)
-          (all-joined (λ (i : InstrumentFound). SamplesTold file (i .samples)) EvenRow sampleRowsIn (λ i s. even-rows file (i .samples .0) (i .samples .1) (s .heads) (s .sizes)) (found .1 .1) (t .instruments))
-          (all-unmap (Before end) _ (sampleRows found) (rw (stand .bytes) at (kind-before sampleData 0 end (moduleFormat .regions found) chain)));
+      rows-found = finds-rows file [] 0 (found .1 .1) refl (t .instruments);
+      rows-read =
+          all-joined (λ (i : InstrumentFound). SamplesTold file (i .samples)) (RowReads file) sampleRowsIn
+          (λ i s. rows-read file (i .samples .0) (i .samples .1) (s .heads) (s .sizes)) (found .1 .1) (t .instruments);
+      rows-decode = rw (joined-map _ instrumentView (found .1 .1), joined-map _ instrumentView (found .1 .1)) (all-decode file (found .1 .1) (t .instruments));
+      asked =
+          asked-rows file (sampleRows found)
+          (all-with (λ (row : SampleRow). row .dataPlace + row .size ≤ end) (λ (row : SampleRow). row .dataPlace + row .size ≤ length file) (λ row h. omega (arith, h, w .inside)) (sampleRows found) before);
       loops-inside =
           all-map (λ (i : InstrumentFound). SamplesTold file (i .samples)) _ instrumentView
           (λ i s. all-map (HeadTold file) LoopInside Stretch.bytes (loop-inside file) (i .samples .0) (s .heads)) (found .1 .1) (t .instruments);

@@ -1,15 +1,15 @@
 -- Rules for what an answer comes to, and for what an answer says of the tests that led to it. Assumes nothing.
-use Prim.Native.Nat.{ℕ, _^_, _≤_, _<_}
+use Prim.Native.Nat.{ℕ, _+_, _*_, _^_, _≤_, _<_}
 use mathlib.Core.Bool.{Bool, true, false}
 use mathlib.Core.List.{List, [], _∷_}
 use mathlib.Core.Path.{_≡_, refl, ap, _∙_}
 use native.Mathlib.Omega.{arith}
-use lib.ListN.{length, drop, length-append, length-drop}
+use lib.ListN.{length, take, drop, length-append, length-drop}
 use lib.Seq.{take-append-seam}
 use Rattle.xm.specs.Got.{Refusal, Got, got, refused, _>>=_, _>>_, Test, passes, refusalOf, AllHold, ensure, checked}
 use Rattle.xm.specs.Format.{All}
-use Rattle.xm.specs.Answer.{Answer, gives, refuses, answered, numberOf, after, loaderNumber}
-use Rattle.xm.specs.Demands.{KeepsItsWord, reported, LoaderTells}
+use Rattle.xm.specs.Answer.{Answer, gives, refuses, answered, numberOf, result, after, loaderNumber}
+use Rattle.xm.specs.Demands.{refusalMost, KeepsItsWord, LoaderTells}
 use Rattle.xm.proofs.Got.{passes-holds, test-holds, passed, bind-got, refused-tests}
 
 -- An answer from its reading, and a reading from its answer
@@ -68,11 +68,16 @@ after-length : {A B : Type 0} (written : A → List B) (answer : Answer A) (lent
 after-length written (gives a) lent h = rw (length-append, length-drop) (omega (arith, h a refl))
 after-length written (refuses r) lent h = refl
 
-pub word-kept : {A B : Type 0} (written : A → List B) (answer : ℕ → Answer A)
-    → ((room : ℕ) (r : Refusal) → answer room ≡ refuses r → (1 ≤ r .number) × (r .number ≤ 16))
+pub record SoundRefusal (r : Refusal) : Type 0 where
+  pub low : 1 ≤ r .number
+  pub high : r .number ≤ refusalMost
+  pub placed : 14 ≤ r .number → r .place ≡ 0
+
+pub word-kept : {A B : Type 0} (written : A → List B) (answer : ℕ → Answer A) → ((room : ℕ) (r : Refusal) → answer room ≡ refuses r → SoundRefusal r)
     → ((room : ℕ) (a : A) → answer room ≡ gives a → length (written a) ≤ room) → KeepsItsWord written answer
-word-kept written answer numbered fits = record {
-  numbered = numbered;
+word-kept written answer sound fits = record {
+  numbered = λ room r e. let s = sound room r e in (s .low, s .high);
+  placed = λ room r e. sound room r e .placed;
   unchanged = λ lent r e. rw e;
   inside = λ lent. after-length written (answer (length lent)) lent (fits (length lent));
 }
@@ -84,16 +89,17 @@ accepted-gives (gives a) numbered e k = k a refl
 accepted-gives (refuses r) numbered e k = absurd (omega (arith, numbered r refl))
 
 pub reported-written : {A B : Type 0} (count : A → ℕ) (written : A → List B) (answer : Answer A) (lent : List B) (a : A) → answer ≡ gives a
-    → count a ≡ length (written a) → reported count answer (after written answer lent) ≡ written a
+    → count a ≡ length (written a) → take (result count answer) (after written answer lent) ≡ written a
 reported-written count written answer lent a e n = rw (e, n) (take-append-seam (written a) (drop (length (written a)) lent))
 
 -- The loader's number tells both kinds apart, if numbers and places are small
-pub loader-tells : {A : Type 0} (f : A → ℕ) (answer : Answer A) → ((a : A) → answer ≡ gives a → f a < 2 ^ 32)
-    → ((r : Refusal) → answer ≡ refuses r → (1 ≤ r .number) × (r .place < 2 ^ 32)) → LoaderTells f answer
+pub loader-tells : {A : Type 0} (f : A → ℕ) (answer : Answer A) (number : ℕ) → number ≡ loaderNumber f answer → ((a : A) → answer ≡ gives a → f a < 2 ^ 32)
+    → ((r : Refusal) → answer ≡ refuses r → (1 ≤ r .number) × (r .place < 2 ^ 32)) → LoaderTells f answer number
 unfolding loaderNumber
-loader-tells f answer small told = record {
-  accepted = λ a e. rw e (small a e);
-  refused = λ r e. let h = told r e in rw e (omega arith);
-  number = λ r e. let h = told r e in rw e (omega arith);
-  place = λ r e. let h = told r e in rw e (omega arith);
+loader-tells f answer number same small told = record {
+  accepted = λ a e. let n : number ≡ f a = same ∙ ap (loaderNumber f) e in (n, rw n (small a e));
+  refused = λ r e.
+      let h = told r e in
+      let n : number ≡ r .number * 2 ^ 32 + r .place = same ∙ ap (loaderNumber f) e in
+      rw n (omega arith, omega arith, omega arith);
 }

@@ -413,7 +413,6 @@ cell-keeps = record {
       (record {
         inside = h .0;
         roomy = tt;
-        chain = omega arith;
         good = record { size = cell-length s; plain = cell-bytes s b; note = h .1 .0 };
         short = write-short s;
       });

@@ -1,27 +1,28 @@
 -- Laws of delta coding: the one modular law over the width, the round trips over lists and over whole answers, the lengths, and what
 -- each exit of the two calls answers. Assumes nothing.
-use Prim.Native.Nat.{ℕ, suc, _+_, _-_, _*_, _/_, _%_, _^_, _≤_, _<_}
-use mathlib.Core.Bool.{Bool, true, false, _||_, and-eq-true-iff}
+use Prim.Native.Nat.{ℕ, zero, suc, _+_, _-_, _*_, _/_, _%_, _^_, _≤_, _<_}
+use mathlib.Core.Bool.{Bool, true, false, _&&_, _||_, and-eq-true-iff, and-assoc, and-true}
 use mathlib.Core.List.{List, [], _∷_, map}
 use mathlib.Core.Path.{_≡_, refl, sym, ap, _∙_, subst}
 use native.Mathlib.Nat.{mod-lt, mod-eq-of-lt, mod-add-mod, add-mod-mod, add-mod-right, pow-suc}
+use native.Mathlib.Numerals.{add-one}
 use native.Mathlib.Omega.{arith}
 use lib.Dec.{leb, ltb, eqb}
 use lib.IntN.{ℤ, pos, negsuc}
-use lib.ListN.{length, take, drop, length-map}
-use lib.Seq.{take-append-seam}
+use lib.ListN.{length, getD, drop, length-map, drop-of-length-le}
+use lib.Seq.{drop-cons}
 use lib.Pow.{pow-pos}
 use borrow.Author.Tests.{leb-true, leb-false, ltb-true, ltb-false, lt-ltb, le-ltb, eqb-true}
 use Rattle.xm.specs.Number.{Bytes, word, signed}
 use Rattle.xm.specs.Got.{Got, got, refused, _>>_, Test, checked, even, holds, when, present, _at_, refusalOf, Holds}
 use Rattle.xm.specs.Format.{joined, All}
 use Rattle.xm.specs.Answer.{Answer, gives, refuses, answered, numberOf}
-use Rattle.xm.specs.Delta.{pairs, storedNumbers, storedBytes, sums, decoded, residue, difference, differences, coded, fits, allFit, widthTest, decoding, coding, decodeAfter, codeAfter}
+use Rattle.xm.specs.Delta.{pairs, storedNumbers, storedBytes, sums, decoded, residue, difference, differences, coded, fits, allFit, widthTest, decoding, coding}
 use Rattle.xm.proofs.Number.{bytes-nil, bytes-cons, bytes-tail}
 use Rattle.xm.proofs.Got.{test-holds, test-fails, pass, passed, got-value}
 use Rattle.xm.proofs.Format.{cons-path}
 
--- The one modular law, over the width
+-- The one modular law, over the width. A difference is a number of the width
 pub difference-below : (width before value : ℕ) → difference width before value < 2 ^ width
 unfolding difference
 difference-below width before value = mod-lt _ (pow-pos width)
@@ -46,7 +47,7 @@ difference-only width before stored value b d e =
     ∙ add-mod-right stored (2 ^ width)
     ∙ mod-eq-of-lt d
 
--- Signed readings and residues undo one another
+-- Signed readings and residues undo one another: a number that is read as signed
 pub residue-signed : (width x : ℕ) → x < 2 ^ width → residue width (signed width x) ≡ x
 unfolding residue signed
 residue-signed width x below = go (ltb x (2 ^ width / 2)) refl
@@ -55,6 +56,7 @@ residue-signed width x below = go (ltb x (2 ^ width / 2)) refl
     go true e = rw e (mod-eq-of-lt below)
     go false e = rw (e, mod-eq-of-lt {n = 2 ^ width - suc x} {m = 2 ^ width} (omega arith)) (omega arith)
 
+-- And a value that fits
 pub signed-residue : (width : ℕ) (value : ℤ) → fits width value ≡ true → signed width (residue width value) ≡ value
 unfolding residue signed
 signed-residue width (pos n) f =
@@ -63,6 +65,7 @@ signed-residue width (negsuc n) f =
     let h : n < 2 ^ width / 2 = ltb-true n (2 ^ width / 2) f in
     rw (mod-eq-of-lt {n = n} {m = 2 ^ width} (omega arith), le-ltb (2 ^ width - suc n) (2 ^ width / 2) (omega arith)) (ap negsuc (omega arith))
 
+-- A residue is a number of the width
 pub residue-below : (width : ℕ) (value : ℤ) → residue width value < 2 ^ width
 unfolding residue
 residue-below width (pos n) = mod-lt n (pow-pos width)
@@ -93,11 +96,46 @@ values-wrapped width before (d ∷ ds) =
     one : (before % 2 ^ width + d) % 2 ^ width ≡ (before + d) % 2 ^ width
     one = mod-add-mod before (2 ^ width) d
 
--- One value, and those after it
+-- No values; one, and those after it
+pub values-none : (width before : ℕ) → valuesFrom width before [] ≡ []
+unfolding sums
+values-none width before = refl
+
 pub values-step : (width before d : ℕ) (ds : List ℕ) →
     valuesFrom width before (d ∷ ds) ≡ signed width ((before + d) % 2 ^ width) ∷ valuesFrom width ((before + d) % 2 ^ width) ds
 unfolding sums
 values-step width before d ds = cons-path refl (sym (values-wrapped width (before + d) ds))
+
+-- The same of what is left of some stored numbers, for a loop that keeps the wrapped sum
+pub values-next : (width sum i next : ℕ) (stored : List ℕ) → i < length stored → next ≡ (sum + getD stored i 0) % 2 ^ width →
+    valuesFrom width sum (drop i stored) ≡ signed width next ∷ valuesFrom width next (drop (i + 1) stored)
+values-next width sum i next stored h e =
+    rw (e, add-one i) (ap (valuesFrom width sum) (drop-cons stored i 0 h) ∙ values-step width sum (getD stored i 0) (drop (suc i) stored))
+
+-- No stored number is left
+pub values-end : (width sum i : ℕ) (stored : List ℕ) → length stored ≤ i → valuesFrom width sum (drop i stored) ≡ []
+unfolding sums
+values-end width sum i stored h = rw (drop-of-length-le stored h)
+
+-- And the differences of what is left of some values, for a loop that keeps the residue before
+pub differences-next : (width before i next : ℕ) (values : List ℤ) → i < length values → next ≡ residue width (getD values i (pos 0)) →
+    differences width before (map (residue width) (drop i values)) ≡ difference width before next ∷ differences width next (map (residue width) (drop (i + 1) values))
+unfolding differences
+differences-next width before i next values h e = rw (e, add-one i, drop-cons values i (pos 0) h)
+
+-- No value is left
+pub differences-end : (width before i : ℕ) (values : List ℤ) → length values ≤ i → differences width before (map (residue width) (drop i values)) ≡ []
+unfolding differences
+differences-end width before i values h = rw (drop-of-length-le values h)
+
+-- And whether what is left of some values fits, for a loop that keeps whether all before did
+pub fit-next : (width i : ℕ) (values : List ℤ) (fit : Bool) → i < length values →
+    (fit && fits width (getD values i (pos 0)) && allFit width (drop (i + 1) values)) ≡ (fit && allFit width (drop i values))
+fit-next width i values fit h = rw (add-one i, drop-cons values i (pos 0) h) (and-assoc fit (fits width (getD values i (pos 0))) (allFit width (drop (suc i) values)))
+
+-- No value is left to fit
+pub fit-end : (width i : ℕ) (values : List ℤ) (fit : Bool) → length values ≤ i → (fit && allFit width (drop i values)) ≡ fit
+fit-end width i values fit h = rw (drop-of-length-le values h) (and-true fit)
 
 -- Coded and decoded again, over the numbers
 pub values-differences : (width before : ℕ) (values : List ℤ) → before < 2 ^ width → allFit width values ≡ true →
@@ -155,6 +193,20 @@ words-pairs (low ∷ []) b e = absurd (omega arith)
 words-pairs (low ∷ high ∷ bytes) b e =
     cons-path (omega (arith, b .below 0)) (cons-path (omega (arith, b .below 0)) (words-pairs bytes (bytes-tail (bytes-tail b)) (omega arith)))
 
+-- A pair, by the place of its low byte
+pub pairs-at : (bytes : List ℕ) (i place : ℕ) → place ≡ 2 * i → place + 1 < length bytes → getD (pairs bytes) i 0 ≡ getD bytes place 0 + 256 * getD bytes (place + 1) 0
+unfolding pairs
+pairs-at [] i place e h = absurd (omega arith)
+pairs-at (low ∷ []) i place e h = absurd (omega arith)
+pairs-at (low ∷ high ∷ bytes) zero place e h = rw e
+pairs-at (low ∷ high ∷ bytes) (suc i) place e h = rw (after, twice) (pairs-at bytes i (2 * i) refl (omega arith))
+  where
+    twice : place ≡ suc (suc (2 * i))
+    twice = omega arith
+
+    after : place + 1 ≡ suc (suc (2 * i + 1))
+    after = omega arith
+
 pairs-below : (bytes : List ℕ) → Bytes bytes → All (λ n. n < 2 ^ 16) (pairs bytes)
 unfolding pairs
 pairs-below [] b = tt
@@ -186,6 +238,7 @@ module _ (width : ℕ) where
       go true e = rw e (words-pairs bytes p (paired e))
       go false e = rw e
 
+-- Stored numbers are numbers of the width
 pub stored-below : (width : ℕ) → Holds (widthTest width) → (bytes : List ℕ) → Bytes bytes → All (λ n. n < 2 ^ width) (storedNumbers width bytes)
 unfolding storedNumbers
 stored-below = by-width (λ w. (bytes : List ℕ) → Bytes bytes → All (λ n. n < 2 ^ w) (storedNumbers w bytes)) bytes-below pairs-below
@@ -212,7 +265,7 @@ unfolding differences
 differences-length width before [] = refl
 differences-length width before (v ∷ vs) = ap suc (differences-length width v vs)
 
-pairs-length : (bytes : List ℕ) → length (pairs bytes) ≡ length bytes / 2
+pub pairs-length : (bytes : List ℕ) → length (pairs bytes) ≡ length bytes / 2
 unfolding pairs
 pairs-length [] = refl
 pairs-length (low ∷ []) = refl
@@ -264,6 +317,7 @@ values-fit half before [] = refl
 values-fit half before (d ∷ ds) =
     rw (fits-signed half ((before + d) % 2 ^ suc half) (mod-lt (before + d) (pow-pos (suc half))), values-fit half (before + d) ds)
 
+-- So what is decoded fits, and can be coded again
 pub decoded-fit : (width : ℕ) (bytes : List ℕ) → Holds (widthTest width) → allFit width (decoded width bytes) ≡ true
 unfolding decoded
 decoded-fit width bytes h =

@@ -1,52 +1,74 @@
 -- The demands and the paper's further claims hold: each is put together from the laws. Assumes nothing.
-use Prim.Native.Nat.{ℕ, _+_, _*_, _≤_}
-use mathlib.Core.List.{List, [], _∷_}
+use Prim.Native.Nat.{ℕ, zero, suc, _+_, _%_, _^_, _≤_, _<_}
+use mathlib.Core.List.{List, [], _∷_, map}
 use mathlib.Core.Path.{_≡_, refl, sym, ap, ap₂, _∙_, subst}
-use native.Mathlib.Nat.{mul-zero, mul-suc, add-comm}
 use native.Mathlib.Omega.{arith}
 use lib.IntN.{ℤ}
-use lib.ListN.{length, drop, length-append, length-drop}
-use Rattle.xm.specs.Number.{Bytes}
-use Rattle.xm.specs.Got.{Refusal, got, AllHold}
-use Rattle.xm.specs.Format.{joined}
-use Rattle.xm.specs.Answer.{Answer, gives, refuses, inFront}
-use Rattle.xm.specs.Module.{Found, Content, moduleFormat, fileMost, readFile}
-use Rattle.xm.specs.Delta.{decoding, coding, written}
-use Rattle.xm.specs.Table.{Checked, checking, checkingInto, Tables, Room, roomOf, roomTests, tablesAfter, patternRows, instrumentRows, sampleRows, patternNumbers, instrumentNumbers, sampleNumbers, sampleTunes}
-use Rattle.xm.specs.Press.{pressingAs, pressing, pressedLength}
-use Rattle.xm.specs.Demands.{KeepsItsWord, TablesKept, Demand₁, Demand₂, Demand₃, PressedOnce, FileOf, RestIgnored, LoaderTells, LoadersTell}
-use Rattle.xm.proofs.Got.{refused-tests, refused-bind, got-never}
-use Rattle.xm.proofs.Answer.{gives-got, gives-passed, gives-bound, gives-same, gives-refuses, refuses-refused, word-kept, loader-tells, accepted-gives, reported-written}
-use Rattle.xm.proofs.Packing.{unpack-word, pack-word, unpacks-to-cells, pack-shortest, unpack-tells, pack-tells}
-use Rattle.xm.proofs.Delta.{decoding-gave, coding-gave, coding-decoding, decoding-coding}
+use lib.ListN.{length, getD, drop, length-append, length-drop, length-map, List·getD-eq-default}
+use Rattle.xm.specs.Number.{Bytes, signed}
+use Rattle.xm.specs.Got.{Refusal, got, refused, _at_, AllHold}
+use Rattle.xm.specs.Format.{Format, joined, All}
+use Rattle.xm.specs.Answer.{Answer, gives, refuses, numbers, inFront}
+use Rattle.xm.specs.Stored.{Pattern}
+use Rattle.xm.specs.Sample.{Stretch}
+use Rattle.xm.specs.Instrument.{Instrument, InstrumentFound, instrumentView}
+use Rattle.xm.specs.Module.{Found, Content, moduleFormat, fileMost, readFile, plays}
+use Rattle.xm.specs.Delta.{sums, storedNumbers, decoded, decoding, coding, countWritten}
+use Rattle.xm.specs.Table.{Checked, checkedAs, checkResults, checking, checkNumbers, checkLoader, checkingInto, Tables, Room, roomOf, roomTests, tablesAfter, patternRows, instrumentRows, sampleRowsIn, sampleRows, patternStride, instrumentStride, sampleStride, tuneStride, patternNumbers, instrumentNumbers, sampleNumbers, sampleTunes}
+use Rattle.xm.specs.Press.{pressed, pressingAs, pressing, pressedLength, pressLoader}
+use Rattle.xm.specs.Demands.{KeepsItsWord, TablesKept, Demand₁, Demand₂, Demand₃, CheckTells, countsOf, accepts, PressReadsBack, RunningSums, PressesOnce, FileOf, RoomFor, TablesTell, RestIgnored, PlaysOrders, LoaderTells, LoadersTell}
+use Rattle.xm.proofs.Got.{refused-tests, refused-bind, got-never, pass, step, step-refused}
+use Rattle.xm.proofs.Answer.{answer-gives, answer-refuses, gives-got, gives-passed, gives-bound, gives-same, gives-refuses, refuses-refused, tests-fail, SoundRefusal, word-kept, loader-tells, accepted-gives, reported-written}
+use Rattle.xm.proofs.Format.{joined-length, cons-path}
+use Rattle.xm.proofs.Packing.{unpack-word, pack-word, unpacks-to-cells, pack-shortest, unpack-tells, pack-tells, pack-apart}
+use Rattle.xm.proofs.Delta.{valuesFrom, values-none, values-step, decoding-gave, coding-gave, coding-decoding, decoding-coding}
 use Rattle.xm.proofs.Fault.{FileFault, module-faults, whole-faults}
-use Rattle.xm.proofs.Module.{module-back, module-keeps, module-firm, whole-read, whole-firm}
-use Rattle.xm.proofs.Press.{pressed-exactly, pressed-shortest, pressed-again}
+use Rattle.xm.proofs.Sample.{SamplesTold}
+use Rattle.xm.proofs.Module.{module-back, module-keeps, module-firm, module-tells, whole-read, whole-firm}
+use Rattle.xm.proofs.Accepted.{rows-length}
+use Rattle.xm.proofs.Press.{pressed-exactly, pressed-shortest, pressed-reads, pressed-again, pressed-ends}
 
--- A refusal's number is one of the paper's
-abbrev Numbered : Refusal → Type 0
-Numbered r = (1 ≤ r .number) × (r .number ≤ 16)
-
--- Check: its refusals, and where it ends
-file-fault : (file : List ℕ) (r : Refusal) → Bytes file → checking file ≡ refuses r → FileFault r
+-- Check: its refusals, where it ends, and what it counts
+file-fault : (file : List ℕ) (r : Refusal) → Bytes file → checking file ≡ refuses r → FileFault file r
 unfolding checking
 file-fault file r b e = whole-faults moduleFormat module-faults file r b (refuses-refused _ _ e)
 
 end-inside : (file : List ℕ) (found : Found) (end : ℕ) → Bytes file → readFile file ≡ got found end → (end ≤ length file) × (length file ≤ fileMost)
 end-inside file found end b e = whole-read moduleFormat file found end e λ size e. (module-keeps .keeps 0 file found end b e .inside, size)
 
-check-tells : (file : List ℕ) → Bytes file → LoaderTells Checked.end (checking file)
+samples-counted : (file : List ℕ) (is : List InstrumentFound) → All (λ (i : InstrumentFound). SamplesTold file (i .samples)) is
+    → length (joined sampleRowsIn is) ≡ length (joined (λ (x : Instrument). x .samples .0) (map instrumentView is))
+samples-counted file [] t = refl
+samples-counted file (i ∷ is) t =
+    length-append (sampleRowsIn i) (joined sampleRowsIn is)
+    ∙ ap₂ _+_ (rows-length (i .samples .0) (i .samples .1) (t .0 .sizes) ∙ sym (length-map (i .samples .0) Stretch.bytes)) (samples-counted file is (t .1))
+    ∙ sym (length-append (map Stretch.bytes (i .samples .0)) (joined (λ (x : Instrument). x .samples .0) (map instrumentView is)))
+
+found-counts : (file : List ℕ) (found : Found) (end : ℕ) → Bytes file → readFile file ≡ got found end → checkNumbers file ≡ 0 ∷ 0 ∷ end ∷ countsOf (moduleFormat .view found)
 unfolding checking
-check-tells file b =
-    loader-tells Checked.end (checking file)
+found-counts file found end b e =
+    whole-read moduleFormat file found end e λ size q.
+    rw e (ap {B = List ℕ} (λ (n : ℕ). 0 ∷ 0 ∷ end ∷ found .0 .content .channels ∷ found .0 .content .patterns ∷ found .0 .content .instruments ∷ n ∷ [])
+    (samples-counted file (found .1 .1) (module-tells file found end b q .instruments)))
+
+check-tells : CheckTells
+unfolding checking
+check-tells = record {
+  accepted = λ content file f. found-counts file (f .found) (f .end) (f .plain) (f .reads) ∙ ap {B = List ℕ} (λ (c : Content). 0 ∷ 0 ∷ f .end ∷ countsOf c) (f .same);
+  refused-so = λ file r e. ap (numbers checkResults) (answer-refuses checkedAs e);
+  acceptable = λ file b n.
+      accepted-gives (checking file) (λ r e. file-fault file r b e .low) n λ c e.
+      gives-got _ (readFile file) e λ found end q d. (moduleFormat .view found, record { plain = b; found = found; end = end; reads = q; same = refl });
+}
+
+check-loads : (file : List ℕ) → Bytes file → LoaderTells Checked.end (checking file) (checkLoader file)
+unfolding checking
+check-loads file b =
+    loader-tells Checked.end (checking file) (checkLoader file) refl
     (λ c e. gives-got _ (readFile file) e λ found end q d. let h = end-inside file found end b q in omega (arith, ap Checked.end (gives-same d)))
-    (λ r e. let f = file-fault file r b e in (f .low, omega (arith, f .place)))
+    (λ r e. let f = file-fault file r b e in (f .low, omega (arith, f .small)))
 
 -- The tables: what is filled is no longer than what was lent
-joined-length : {A B : Type 0} (k : ℕ) (f : A → List B) → ((x : A) → length (f x) ≡ k) → (xs : List A) → length (joined f xs) ≡ k * length xs
-joined-length k f h [] = sym (mul-zero k)
-joined-length k f h (x ∷ xs) = length-append (f x) (joined f xs) ∙ ap₂ _+_ (h x) (joined-length k f h xs) ∙ add-comm k (k * length xs) ∙ sym (mul-suc k (length xs))
-
 front-length : {B : Type 0} (written lent : List B) → length written ≤ length lent → length (inFront written lent) ≡ length lent
 front-length written lent h = length-append written (drop (length written) lent) ∙ omega (arith, length-drop (length written) lent)
 
@@ -61,10 +83,10 @@ unfolding tablesAfter
 lengths (gives c) lent h =
     let r = h c refl in
     record {
-      patterns = front-length (joined patternNumbers (patternRows (c .found))) (lent .patterns) (omega (arith, joined-length 3 patternNumbers (λ row. refl) (patternRows (c .found)), r .0));
-      instruments = front-length (joined instrumentNumbers (instrumentRows (c .found))) (lent .instruments) (omega (arith, joined-length 3 instrumentNumbers (λ row. refl) (instrumentRows (c .found)), r .1 .0));
-      samples = front-length (joined sampleNumbers (sampleRows (c .found))) (lent .samples) (omega (arith, joined-length 4 sampleNumbers (λ row. refl) (sampleRows (c .found)), r .1 .1 .0));
-      tunes = front-length (joined sampleTunes (sampleRows (c .found))) (lent .tunes) (omega (arith, joined-length 2 sampleTunes (λ row. refl) (sampleRows (c .found)), r .1 .1 .0));
+      patterns = front-length (joined patternNumbers (patternRows (c .found))) (lent .patterns) (omega (arith, joined-length patternStride patternNumbers (λ row. refl) (patternRows (c .found)), r .0));
+      instruments = front-length (joined instrumentNumbers (instrumentRows (c .found))) (lent .instruments) (omega (arith, joined-length instrumentStride instrumentNumbers (λ row. refl) (instrumentRows (c .found)), r .1 .0));
+      samples = front-length (joined sampleNumbers (sampleRows (c .found))) (lent .samples) (omega (arith, joined-length sampleStride sampleNumbers (λ row. refl) (sampleRows (c .found)), r .1 .1 .0));
+      tunes = front-length (joined sampleTunes (sampleRows (c .found))) (lent .tunes) (omega (arith, joined-length tuneStride sampleTunes (λ row. refl) (sampleRows (c .found)), r .1 .1 .0));
     }
 lengths (refuses r) lent h = record { patterns = refl; instruments = refl; samples = refl; tunes = refl }
 
@@ -90,21 +112,38 @@ tables-kept file lent =
 decode-word : (width : ℕ) (bytes : List ℕ) → KeepsItsWord (λ (values : List ℤ). values) (decoding width bytes)
 unfolding decoding
 decode-word width bytes =
-    word-kept _ (decoding width bytes) (λ room r e. refused-tests Numbered _ _ (refuses-refused _ _ e) (omega arith) λ hs e. absurd (got-never e))
+    word-kept _ (decoding width bytes) (λ room r e. refused-tests SoundRefusal _ _ (refuses-refused _ _ e) (omega arith) λ hs e. absurd (got-never e))
     (λ room values e. decoding-gave width bytes room e λ h p l q. omega (arith, ap length q))
 
 code-word : (width : ℕ) (values : List ℤ) → KeepsItsWord (λ (bytes : List ℕ). bytes) (coding width values)
 unfolding coding
 code-word width values =
-    word-kept _ (coding width values) (λ room r e. refused-tests Numbered _ _ (refuses-refused _ _ e) (omega arith) λ hs e. absurd (got-never e))
+    word-kept _ (coding width values) (λ room r e. refused-tests SoundRefusal _ _ (refuses-refused _ _ e) (omega arith) λ hs e. absurd (got-never e))
     (λ room bytes e. coding-gave width values room e λ h p l q. omega (arith, ap length q))
 
+running-sums : (width before : ℕ) (stored : List ℕ) → RunningSums width before stored (valuesFrom width before stored)
+running-sums width before [] = ends
+  where
+    ends : RunningSums width before [] (valuesFrom width before [])
+    ends = rw (values-none width before) tt
+running-sums width before (d ∷ ds) = rw (values-step width before d ds) (refl, running-sums width ((before + d) % 2 ^ width) ds)
+
+decoded-sums : (width : ℕ) (bytes : List ℕ) (values : List ℤ) (room : ℕ) → decoding width bytes room ≡ gives values → RunningSums width 0 (storedNumbers width bytes) values
+unfolding decoded
+decoded-sums width bytes values room e = decoding-gave width bytes room e λ h p l q. rw (← q) (running-sums width 0 (storedNumbers width bytes))
+
 -- Pressing
-press-fault : (file : List ℕ) (room : ℕ) (r : Refusal) → Bytes file → pressing file room ≡ refuses r → FileFault r
+record PressFault (r : Refusal) : Type 0 where
+  sound : SoundRefusal r
+  small : r .place ≤ fileMost
+
+press-fault : (file : List ℕ) (room : ℕ) (r : Refusal) → Bytes file → pressing file room ≡ refuses r → PressFault r
 unfolding pressingAs
 press-fault file room r b e =
-    refused-bind (readFile file) _ (refuses-refused _ _ e) (whole-faults moduleFormat module-faults file r b) λ found end er e.
-    refused-tests FileFault _ _ e (omega arith) λ hs e. absurd (got-never e)
+    refused-bind (readFile file) _ (refuses-refused _ _ e)
+    (λ e. let f = whole-faults moduleFormat module-faults file r b e in
+    record { sound = record { low = f .low; high = omega (arith, f .high); placed = λ h. absurd (omega (arith, f .high)) }; small = f .small })
+    λ found end er e. refused-tests PressFault _ _ e (omega arith) λ hs e. absurd (got-never e)
 
 press-file : (file : List ℕ) (room : ℕ) (bytes : List ℕ) → Bytes file → pressing file room ≡ gives bytes → (length bytes ≤ room) × (length bytes ≤ fileMost)
 unfolding pressingAs
@@ -116,13 +155,12 @@ press-file file room bytes b e =
     (omega (arith, hs .0), omega arith)
 
 press-word : (file : List ℕ) → Bytes file → KeepsItsWord (λ (bytes : List ℕ). bytes) (pressing file)
-press-word file b =
-    word-kept _ (pressing file) (λ room r e. let f = press-fault file room r b e in (f .low, f .high)) (λ room bytes e. press-file file room bytes b e .0)
+press-word file b = word-kept _ (pressing file) (λ room r e. press-fault file room r b e .sound) (λ room bytes e. press-file file room bytes b e .0)
 
-press-tells : (file : List ℕ) (room : ℕ) → Bytes file → LoaderTells pressedLength (pressing file room)
-press-tells file room b =
-    loader-tells pressedLength (pressing file room) (λ bytes e. omega (arith, press-file file room bytes b e .1))
-    (λ r e. let f = press-fault file room r b e in (f .low, omega (arith, f .place)))
+press-loads : (file : List ℕ) (room : ℕ) → Bytes file → LoaderTells length (pressing file room) (pressLoader file room)
+press-loads file room b =
+    loader-tells length (pressing file room) (pressLoader file room) refl (λ bytes e. omega (arith, press-file file room bytes b e .1))
+    (λ r e. let f = press-fault file room r b e in (f .sound .low, omega (arith, f .small)))
 
 -- The demands
 pub demand₁ : Demand₁
@@ -141,8 +179,9 @@ demand₃ = record { patterns = pack-shortest; modules = pressed-exactly moduleF
 
 pub demand₂ : Demand₂
 demand₂ = record {
+  check = check-tells;
   press = λ content file out f n.
-      accepted-gives (pressing file (length out)) (λ r e. press-fault file (length out) r (f .plain) e .low) n λ bytes e.
+      accepted-gives (pressing file (length out)) (λ r e. press-fault file (length out) r (f .plain) e .sound .low) n λ bytes e.
       let d = demand₃ .modules content file (length out) f in
       let same = gives-same (sym (d .given-else (λ q. gives-refuses e q)) ∙ e) in
       let stands = reported-written pressedLength (λ bytes. bytes) (pressing file (length out)) out bytes e (omega arith) in
@@ -150,23 +189,53 @@ demand₂ = record {
   unpack = unpacks-to-cells;
   decode = λ width values out room f n l.
       accepted-gives (coding width values (length out)) (λ r e. code-word width values .numbered (length out) r e .0) n λ bytes e.
-      let stands = reported-written written (λ bytes. bytes) (coding width values (length out)) out bytes e (omega arith) in
+      let stands = reported-written countWritten (λ bytes. bytes) (coding width values (length out)) out bytes e (omega arith) in
       ap (λ (s : List ℕ). decoding width s room) stands ∙ coding-decoding width values bytes (length out) room f e l;
   code = λ width bytes out room b n l.
       accepted-gives (decoding width bytes (length out)) (λ r e. decode-word width bytes .numbered (length out) r e .0) n λ values e.
-      let stands = reported-written written (λ values. values) (decoding width bytes (length out)) out values e (omega arith) in
+      let stands = reported-written countWritten (λ values. values) (decoding width bytes (length out)) out values e (omega arith) in
       ap (λ (s : List ℤ). coding width s room) stands ∙ decoding-coding width bytes values (length out) room b e l;
+  sums = decoded-sums;
 }
 
--- The further claims: `fifteen` stands in Packing, and `accepted-file` in Accepted
-pub pressed-once : (content : Content) (file : List ℕ) → FileOf moduleFormat content file → PressedOnce content file
-pressed-once content file f = record {
+-- The further claims: `fifteen` stands in Packing, `accepted-files` and `asks-exactly` in Accepted, `readers-tell` in Structure
+pub presses-once : PressesOnce
+presses-once content file f = record {
   no-longer = pressed-shortest moduleFormat module-back module-keeps f;
+  ends =
+      check-tells .accepted content (pressed content) (pressed-reads moduleFormat module-back module-keeps f)
+      ∙ ap {B = List ℕ} (λ (n : ℕ). 0 ∷ 0 ∷ n ∷ countsOf content) (pressed-ends moduleFormat module-back module-keeps f);
   again = pressed-again moduleFormat module-back module-keeps f;
 }
+
+pub tables-tell : (file : List ℕ) (room : Room) → TablesTell file room
+unfolding checkingInto
+tables-tell file room = record {
+  own-first = λ r e. answer-refuses _ (step-refused _ e);
+  no-room-exactly = λ found end e. (
+    λ q h. gives-refuses (filled found end e h) q,
+    λ h. answer-refuses _ (step _ e (tests-fail (roomTests room found) _ (refl, (refl, (refl, tt))) (λ all. h (all .0, all .1 .0, all .1 .1 .0)))),
+  );
+  filled-else = filled;
+}
+  where
+    filled : (found : Found) (end : ℕ) → readFile file ≡ got found end → RoomFor room found → checkingInto room file ≡ gives (checkedAs found end)
+    filled found end e h = answer-gives _ (step _ e (pass (roomTests room found) (h .0, (h .1, (h .2, tt))) refl))
 
 pub rest-ignored : RestIgnored
 rest-ignored file other found end e size l same = whole-firm moduleFormat module-firm file other found end e (record { long = l; same = same }) size
 
+default-free : {A : Type 0} (xs : List A) (k : ℕ) (a b : A) → k < length xs → getD xs k a ≡ getD xs k b
+default-free [] k a b h = absurd (omega arith)
+default-free (x ∷ xs) zero a b h = refl
+default-free (x ∷ xs) (suc k) a b h = default-free xs k a b (omega arith)
+
+pub plays-orders : (content : Content) → PlaysOrders content
+unfolding plays
+plays-orders content = record {
+  named = λ position number p e h. rw e (default-free (content .1 .0) number _ p h);
+  nameless = λ position h. List·getD-eq-default (content .1 .0) _ h;
+}
+
 pub loaders-tell : LoadersTell
-loaders-tell = record { check = check-tells; unpack = unpack-tells; pack = pack-tells; press = press-tells }
+loaders-tell = record { check = check-loads; unpack = unpack-tells; pack = pack-tells; pack-apart = pack-apart; press = press-loads }

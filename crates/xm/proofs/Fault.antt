@@ -30,7 +30,7 @@ use Rattle.xm.proofs.Instrument.{instrument-keeps}
 -- What a refusal may be, of bytes that begin at a place
 pub record Fault (place : ℕ) (s : List ℕ) (r : Refusal) : Type 0 where
   pub low : 1 ≤ r .number
-  pub high : r .number ≤ 16
+  pub high : r .number ≤ 13
   pub from : place ≤ r .place
   pub to : r .place ≤ place + length s
 
@@ -141,14 +141,15 @@ body-faults x g =
 pub module-faults : Faults moduleFormat tt
 module-faults = then-faults (λ u x. x) header-keeps header-faults body-faults
 
--- Of a whole file: the place is at most the size limit
-pub record FileFault (r : Refusal) : Type 0 where
+-- Of a whole file
+pub record FileFault (file : List ℕ) (r : Refusal) : Type 0 where
   pub low : 1 ≤ r .number
-  pub high : r .number ≤ 16
-  pub place : r .place ≤ fileMost
+  pub high : r .number ≤ 13
+  pub place : r .place ≤ length file
+  pub small : r .place ≤ fileMost
 
-pub whole-faults : {I A : Type 0} (F : Format (Unit {0}) I A) → Faults F tt → (file : List ℕ) (r : Refusal) → Bytes file → readWhole F file ≡ refused r → FileFault r
+pub whole-faults : {I A : Type 0} (F : Format (Unit {0}) I A) → Faults F tt → (file : List ℕ) (r : Refusal) → Bytes file → readWhole F file ≡ refused r → FileFault file r
 unfolding readWhole
 whole-faults F b file r p e =
-    refused-tests FileFault _ _ e (omega arith) λ hs e₁.
-    let f = b .faults 0 file r p e₁ in record { low = f .low; high = f .high; place = omega (arith, f .to, hs .0) }
+    refused-tests (FileFault file) _ _ e (omega arith) λ hs e₁.
+    let f = b .faults 0 file r p e₁ in record { low = f .low; high = f .high; place = omega (arith, f .to); small = omega (arith, f .to, hs .0) }

@@ -1,9 +1,9 @@
 -- The laws of a format, and that formats put together keep them. Assumes nothing.
-use Prim.Native.Nat.{ℕ, zero, suc, _+_, _≤_}
+use Prim.Native.Nat.{ℕ, zero, suc, _+_, _*_, _≤_}
 use mathlib.Core.Bool.{true}
 use mathlib.Core.List.{List, [], _∷_, _++_, map, append-assoc}
 use mathlib.Core.Path.{_≡_, refl, sym, ap, ap₂, _∙_}
-use native.Mathlib.Nat.{add-assoc}
+use native.Mathlib.Nat.{add-assoc, add-zero, mul-zero, mul-suc, add-comm}
 use native.Mathlib.Omega.{arith}
 use lib.ListN.{length, drop, replicate, length-append, length-drop}
 use lib.Seq.{drop-append-seam, drop-drop}
@@ -11,6 +11,7 @@ use Rattle.xm.specs.Number.{Bytes}
 use Rattle.xm.specs.Got.{Got, got, _>>=_}
 use Rattle.xm.specs.Format.{Region, Format, joined, flat, over, then, each, eachRead, EachGood, All}
 use Rattle.xm.specs.Structure.{isStructure}
+use Rattle.xm.specs.Demands.{Adjoin}
 use Rattle.xm.proofs.Number.{bytes-drop, bytes-nil, bytes-append, Agree, agree-fewer, agree-drop}
 use Rattle.xm.proofs.Got.{step, bind-got, got-carry}
 
@@ -24,21 +25,12 @@ pub joined-append : {A B : Type 0} (f : A → List B) (xs ys : List A) → joine
 joined-append f [] ys = refl
 joined-append f (x ∷ xs) ys = ap (λ (l : List _). f x ++ l) (joined-append f xs ys) ∙ sym (append-assoc (f x) (joined f xs) (joined f ys))
 
+pub joined-length : {A B : Type 0} (k : ℕ) (f : A → List B) → ((x : A) → length (f x) ≡ k) → (xs : List A) → length (joined f xs) ≡ k * length xs
+joined-length k f h [] = sym (mul-zero k)
+joined-length k f h (x ∷ xs) = length-append (f x) (joined f xs) ∙ ap₂ _+_ (h x) (joined-length k f h xs) ∙ add-comm k (k * length xs) ∙ sym (mul-suc k (length xs))
+
 pub flat-append : {A : Type 0} (xss yss : List (List A)) → flat (xss ++ yss) ≡ flat xss ++ flat yss
 flat-append xss yss = joined-append (λ xs. xs) xss yss
-
--- Regions that follow one another, none before `from` and none past `end`
-abbrev pub Chain : (from : ℕ) → List Region → (end : ℕ) → Type 0
-Chain from [] end = from ≤ end
-Chain from (r ∷ rs) end = (from ≤ r .place) × Chain (r .place + r .size) rs end
-
-pub chain-from : (a b e : ℕ) (rs : List Region) → a ≤ b → Chain b rs e → Chain a rs e
-chain-from a b e [] l c = omega arith
-chain-from a b e (r ∷ rs) l c = (omega arith, c .1)
-
-pub chain-append : (a b e : ℕ) (rs ts : List Region) → Chain a rs b → Chain b ts e → Chain a (rs ++ ts) e
-chain-append a b e [] ts c d = chain-from a b e ts c d
-chain-append a b e (r ∷ rs) ts c d = (c .0, chain-append (r .place + r .size) b e rs ts (c .1) d)
 
 -- A region that is a structure has a byte, so that no two structures begin at one place
 abbrev pub Roomy : Region → Type 0
@@ -58,16 +50,23 @@ pub record Back {H I A : Type 0} (F : Format H I A) (h : H) : Type 0 where
   pub back : (place : ℕ) (x : A) (rest : List ℕ) → F .Good h x → ReadsBack F h place x rest
   pub plain : (x : A) → F .Good h x → Bytes (F .write x)
 
--- What is read lies inside the bytes, region after region; it is good content, and is written in no more bytes than were used
+-- What is read lies inside the bytes; it is good content, and is written in no more bytes than were used
 pub record Held {H I A : Type 0} (F : Format H I A) (h : H) (place : ℕ) (s : List ℕ) (i : I) (n : ℕ) : Type 0 where
   pub inside : n ≤ length s
-  pub chain : Chain place (F .regions i) (place + n)
   pub roomy : All Roomy (F .regions i)
   pub good : F .Good h (F .view i)
   pub short : length (F .write (F .view i)) ≤ n
 
 pub record Keeps {H I A : Type 0} (F : Format H I A) (h : H) : Type 0 where
   pub keeps : (place : ℕ) (s : List ℕ) (i : I) (n : ℕ) → Bytes s → F .read h place s ≡ got i n → Held F h place s i n
+
+-- The regions of what is read adjoin, from where it begins to where it ends
+pub record Adjoins {H I A : Type 0} (F : Format H I A) (h : H) : Type 0 where
+  pub adjoins : (place : ℕ) (s : List ℕ) (i : I) (n : ℕ) → F .read h place s ≡ got i n → Adjoin place (F .regions i) (place + n)
+
+adjoin-append : (a b e : ℕ) (rs ts : List Region) → Adjoin a rs b → Adjoin b ts e → Adjoin a (rs ++ ts) e
+adjoin-append a b e [] ts c d = rw c d
+adjoin-append a b e (r ∷ rs) ts c d = (c .0, adjoin-append (r .place + r .size) b e rs ts (c .1) d)
 
 -- What follows the bytes used does not matter
 pub record Firm {H I A : Type 0} (F : Format H I A) (h : H) : Type 0 where
@@ -87,8 +86,11 @@ module _ {H K I A : Type 0} (f : K → H) {F : Format H I A} where
 
   pub over-keeps : (k : K) → Keeps F (f k) → Keeps (over f F) k
   over-keeps k b = record {
-    keeps = λ place s i n p e. let r = b .keeps place s i n p e in record { inside = r .inside; chain = r .chain; roomy = r .roomy; good = r .good; short = r .short };
+    keeps = λ place s i n p e. let r = b .keeps place s i n p e in record { inside = r .inside; roomy = r .roomy; good = r .good; short = r .short };
   }
+
+  pub over-adjoins : (k : K) → Adjoins F (f k) → Adjoins (over f F) k
+  over-adjoins k b = record { adjoins = b .adjoins }
 
   pub over-firm : (k : K) → Firm F (f k) → Firm (over f F) k
   over-firm k b = record { firm = b .firm }
@@ -121,11 +123,19 @@ module _ {H I A K J B : Type 0} (next : H → A → K) {F : Format H I A} {G : F
         got-carry (λ (r : I × J) (t : ℕ). Held (then F next G) h place s r t) e₂
         (record {
           inside = omega (arith, w .inside, z .inside, length-drop k s);
-          chain = rw (← add-assoc place k m) (chain-append place (place + k) (place + k + m) (F .regions i) (G .regions j) (w .chain) (z .chain));
           roomy = all-append Roomy (F .regions i) (G .regions j) (w .roomy) (z .roomy);
           good = (w .good, z .good);
           short = rw length-append (omega (arith, w .short, z .short));
         });
+  }
+
+  pub then-adjoins : {h : H} → Adjoins F h → ((a : A) → Adjoins G (next h a)) → Adjoins (then F next G) h
+  then-adjoins {h} b c = record {
+    adjoins = λ place s v n e.
+        bind-got (F .read h place s) _ e λ i k ei e₁. bind-got (G .read (next h (F .view i)) (place + k) (drop k s)) _ e₁ λ j m ej e₂.
+        got-carry (λ (r : I × J) (t : ℕ). Adjoin place (then F next G .regions r) (place + t)) e₂
+        (rw (← add-assoc place k m)
+        (adjoin-append place (place + k) (place + k + m) (F .regions i) (G .regions j) (b .adjoins place s i k ei) (c (F .view i) .adjoins (place + k) (drop k s) j m ej)));
   }
 
   pub then-firm : {h : H} → Firm F h → ((a : A) → Firm G (next h a)) → Firm (then F next G) h
@@ -193,7 +203,7 @@ module _ {H I A : Type 0} (F : Format H I A) where
   each-held : (hs : List H) → All (Keeps F) hs → (place : ℕ) (s : List ℕ) (is : List I) (n : ℕ) → Bytes s → eachRead F hs place s ≡ got is n
       → Held (each F) hs place s is n
   each-held [] b place s is n p e =
-      got-carry (λ (r : List I) (t : ℕ). Held (each F) [] place s r t) e (record { inside = omega arith; chain = omega arith; roomy = tt; good = tt; short = omega arith })
+      got-carry (λ (r : List I) (t : ℕ). Held (each F) [] place s r t) e (record { inside = omega arith; roomy = tt; good = tt; short = omega arith })
   each-held (h ∷ hs) b place s is n p e =
       bind-got (F .read h place s) _ e λ i k ei e₁. bind-got (eachRead F hs (place + k) (drop k s)) _ e₁ λ js m ej e₂.
       let w = b .0 .keeps place s i k p ei in
@@ -201,11 +211,19 @@ module _ {H I A : Type 0} (F : Format H I A) where
       got-carry (λ (r : List I) (t : ℕ). Held (each F) (h ∷ hs) place s r t) e₂
       (record {
         inside = omega (arith, w .inside, z .inside, length-drop k s);
-        chain = rw (← add-assoc place k m) (chain-append place (place + k) (place + k + m) (F .regions i) (joined (F .regions) js) (w .chain) (z .chain));
         roomy = all-append Roomy (F .regions i) (joined (F .regions) js) (w .roomy) (z .roomy);
         good = (w .good, z .good);
         short = rw length-append (omega (arith, w .short, z .short));
       })
+
+  each-adjoin : (hs : List H) → All (Adjoins F) hs → (place : ℕ) (s : List ℕ) (is : List I) (n : ℕ) → eachRead F hs place s ≡ got is n
+      → Adjoin place (joined (F .regions) is) (place + n)
+  each-adjoin [] b place s is n e = got-carry (λ (r : List I) (t : ℕ). Adjoin place (joined (F .regions) r) (place + t)) e (sym (add-zero place))
+  each-adjoin (h ∷ hs) b place s is n e =
+      bind-got (F .read h place s) _ e λ i k ei e₁. bind-got (eachRead F hs (place + k) (drop k s)) _ e₁ λ js m ej e₂.
+      got-carry (λ (r : List I) (t : ℕ). Adjoin place (joined (F .regions) r) (place + t)) e₂
+      (rw (← add-assoc place k m)
+      (adjoin-append place (place + k) (place + k + m) (F .regions i) (joined (F .regions) js) (b .0 .adjoins place s i k ei) (each-adjoin hs (b .1) (place + k) (drop k s) js m ej)))
 
   each-firmly : (hs : List H) → All (Firm F) hs → (place : ℕ) (s t : List ℕ) (is : List I) (n : ℕ) → eachRead F hs place s ≡ got is n → Agree n s t
       → eachRead F hs place t ≡ got is n
@@ -230,6 +248,9 @@ module _ {H I A : Type 0} (F : Format H I A) where
   pub each-keeps : (hs : List H) → All (Keeps F) hs → Keeps (each F) hs
   each-keeps hs b = record { keeps = each-held hs b }
 
+  pub each-adjoins : (hs : List H) → All (Adjoins F) hs → Adjoins (each F) hs
+  each-adjoins hs b = record { adjoins = each-adjoin hs b }
+
   pub each-firm : (hs : List H) → All (Firm F) hs → Firm (each F) hs
   each-firm hs b = record { firm = each-firmly hs b }
 
@@ -243,6 +264,9 @@ module _ {H I A : Type 0} (F : Format H I A) where
 
     pub many-keeps : Keeps F h → Keeps (each F) (replicate n h)
     many-keeps b = each-keeps (replicate n h) (all-replicate (Keeps F) h n b)
+
+    pub many-adjoins : Adjoins F h → Adjoins (each F) (replicate n h)
+    many-adjoins b = each-adjoins (replicate n h) (all-replicate (Adjoins F) h n b)
 
     pub many-firm : Firm F h → Firm (each F) (replicate n h)
     many-firm b = each-firm (replicate n h) (all-replicate (Firm F) h n b)

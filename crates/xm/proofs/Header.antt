@@ -11,9 +11,10 @@ use lib.Seq.{length-take-le}
 use Rattle.xm.specs.Number.{Bytes, byteAt, wordAt, longAt, part}
 use Rattle.xm.specs.Got.{got, AllHold, present, atLeast, exactly, _at_}
 use Rattle.xm.specs.Header.{mark, version, sizeFrom, leastHeader, ordersMost, ordersFrom, headerEnd, countTests, headerTests, Header, HeaderFound, GoodHeader, restartInside, restartOf, headerOf, readHeader, idText, writeHeader, headerFormat}
+use Rattle.xm.specs.Demands.{Adjoin}
 use Rattle.xm.proofs.Number.{bytes-drop, bytes-take, bytes-by, bytes-zeros, word-small, Agree}
 use Rattle.xm.proofs.Got.{no-true, pass, passed, got-by, got-both, got-carry}
-use Rattle.xm.proofs.Format.{Back, ReadsBack, Keeps, Held, Firm}
+use Rattle.xm.proofs.Format.{Back, ReadsBack, Keeps, Held, Adjoins, Firm}
 use Rattle.xm.proofs.Field.{Field, byteField, wordField, longField, textField, noField, _⊗_}
 
 -- Restart is below the song length, and what is below is kept
@@ -203,7 +204,7 @@ header-keeps = record {
       passed _ _ e λ h e.
       let g = good-content s b h in
       got-carry (λ (r : HeaderFound) (t : ℕ). Held headerFormat tt place s r t) e
-      (record { inside = h .1 .1 .1 .1 .1 .1 .1 .1 .0; chain = omega arith; roomy = (λ q. absurd (no-true q), tt); good = g; short = omega (arith, header-size (headerOf s) g, h .1 .1 .1 .0) });
+      (record { inside = h .1 .1 .1 .1 .1 .1 .1 .1 .0; roomy = (λ q. absurd (no-true q), tt); good = g; short = omega (arith, header-size (headerOf s) g, h .1 .1 .1 .0) });
 }
 
 same-tests : (s t : List ℕ) (n : ℕ) → AllHold (headerTests 0 s) → headerEnd s ≤ n → Agree n s t → (offsets (wordAt 64 s) s ≡ offsets (wordAt 64 s) t) → AllHold (headerTests 0 t)
@@ -224,4 +225,10 @@ header-firm = record {
       let size : headerEnd t ≡ headerEnd s = sym (ap (λ (r : Row). sizeIn r + sizeFrom) z) in
       pass (headerTests place t) (same-tests s t n h (omega arith) a z)
       (got-both (ap₂ (λ (k : ℕ) (c : Header). record { place = place; size = k; content = c }) size same) size)) refl;
+}
+
+pub header-adjoins : Adjoins headerFormat tt
+unfolding readHeader
+header-adjoins = record {
+  adjoins = λ place s i n e. passed _ _ e λ h e. got-carry (λ (r : HeaderFound) (t : ℕ). Adjoin place (headerFormat .regions r) (place + t)) e (refl, refl);
 }

@@ -14,11 +14,12 @@ use Rattle.xm.specs.Got.{got, Test, AllHold, present, atLeast, atMost, w
 use Rattle.xm.specs.Format.{Format, each, joined, flat, EachGood}
 use Rattle.xm.specs.Sample.{leastHead, Samples, SamplesFound, samplesFormat, Stretch, readHead, headFormat, dataFormat}
 use Rattle.xm.specs.Instrument.{leastInstrument, samplesMost, instrumentTests, Instrument, InstrumentFound, voiceSize, voiceOf, readInstrument, writeVoice, countOf, writeInstrument, GoodVoice, GoodInstrument, instrumentView, instrumentFormat}
+use Rattle.xm.specs.Demands.{Adjoin}
 use Rattle.xm.proofs.Number.{bytes-drop, bytes-take, bytes-append, bytes-nil, bytes-cons, bytes-zeros, word-small, long-small, Agree, agree-byte, agree-word, agree-long, agree-part, agree-drop, agree-fewer}
 use Rattle.xm.proofs.Got.{no-true, pass, step, passed, bind-got, got-used, got-both, got-carry}
-use Rattle.xm.proofs.Format.{Back, ReadsBack, Keeps, Held, Firm, Tells, each-length, flat-append}
+use Rattle.xm.proofs.Format.{Back, ReadsBack, Keeps, Held, Adjoins, Firm, Tells, each-length, flat-append}
 use Rattle.xm.proofs.Field.{Field, byteField, wordField, longField, textField, noField, _⊗_, word-plain, long-plain}
-use Rattle.xm.proofs.Sample.{samples-back, samples-keeps, samples-firm, samples-tell, SamplesTold}
+use Rattle.xm.proofs.Sample.{samples-back, samples-keeps, samples-adjoin, samples-firm, samples-tell, SamplesTold}
 
 -- The samples' laws ask nothing of H if there are none
 samples-kept : (k H : ℕ) → (ltb 0 k ≡ true → leastHead ≤ H) → Keeps samplesFormat (replicate k H)
@@ -253,10 +254,18 @@ instrument-keeps = record {
       (record {
         inside = omega (arith, w .inside, length-drop I s, h .1 .1 .1 .1 .0);
         roomy = (λ q. omega (arith, h .1 .0), w .roomy);
-        chain = (omega arith, rw (← add-assoc place I m) (w .chain));
         good = g;
         short = omega (arith, instrument-size _ g 0 [], w .short);
       });
+}
+
+pub instrument-adjoins : Adjoins instrumentFormat tt
+unfolding readInstrument
+instrument-adjoins = record {
+  adjoins = λ place s i n e.
+      passed _ _ e λ h e. bind-got _ _ e λ v m ev e.
+      got-carry (λ (r : InstrumentFound) (t : ℕ). Adjoin place (instrumentFormat .regions r) (place + t)) e
+      (refl, rw (← add-assoc place (longAt 0 s) m) (samples-adjoin (wordAt 27 s) (longAt 29 s) .adjoins (place + longAt 0 s) (drop (longAt 0 s) s) v m ev));
 }
 
 -- What follows does not matter

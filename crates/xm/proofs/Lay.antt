@@ -89,6 +89,13 @@ module _ {A : Type 0} {lent goal out : List A} {to : ℕ} {rest : List A} (l : L
         laid = ap₂ (λ (x : List A) (k : ℕ). lay x k rest′) en n ∙ lay-more out to w rest′ (omega (arith, q, l .room)) ∙ ap (lay out to) (sym e) ∙ l .laid;
       }
 
+  -- one element is stored, at `to`
+  pub laid-set : (x : A) (rest′ : List A) → rest ≡ x ∷ rest′ → Laid lent goal (set out to x) (to + 1) rest′
+  unfolding lay
+  laid-set x rest′ e =
+      laid-more (x ∷ []) rest′ (set out to x) (to + 1) e refl
+      (lay-one out to x (omega (arith, ap length e, l .room)) ∙ ap (λ (left : List A). take to out ++ x ∷ left) (sym (drop-drop 1 to out)))
+
   pub laid-done : rest ≡ [] → out ≡ inFront goal lent
   laid-done e = sym (ap (lay out to) e ∙ lay-none out to) ∙ l .laid ∙ lay-front lent goal
 

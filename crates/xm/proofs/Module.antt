@@ -13,11 +13,11 @@ use Rattle.xm.specs.Instrument.{InstrumentFound, instrumentFormat}
 use Rattle.xm.specs.Module.{patternsFor, instrumentsFor, bodyFormat, Found, moduleFormat, fileMost, readWhole}
 use Rattle.xm.proofs.Number.{Agree}
 use Rattle.xm.proofs.Got.{pass, passed, bind-got, got-carry}
-use Rattle.xm.proofs.Format.{Back, Keeps, Firm, Tells, over-back, over-keeps, over-firm, over-tells, then-back, then-keeps, then-firm, then-tells, many-back, many-keeps, many-firm, many-tells}
-use Rattle.xm.proofs.Header.{header-back, header-keeps, header-firm}
-use Rattle.xm.proofs.PatternInFile.{PatternTold, pattern-back, pattern-keeps, pattern-firm, pattern-tells}
+use Rattle.xm.proofs.Format.{Back, Keeps, Adjoins, Firm, Tells, over-back, over-keeps, over-adjoins, over-firm, over-tells, then-back, then-keeps, then-adjoins, then-firm, then-tells, many-back, many-keeps, many-adjoins, many-firm, many-tells}
+use Rattle.xm.proofs.Header.{header-back, header-keeps, header-adjoins, header-firm}
+use Rattle.xm.proofs.PatternInFile.{PatternTold, pattern-back, pattern-keeps, pattern-adjoins, pattern-firm, pattern-tells}
 use Rattle.xm.proofs.Sample.{SamplesTold}
-use Rattle.xm.proofs.Instrument.{instrument-back, instrument-keeps, instrument-firm, instrument-tells}
+use Rattle.xm.proofs.Instrument.{instrument-back, instrument-keeps, instrument-adjoins, instrument-firm, instrument-tells}
 
 -- The patterns and the instruments, after a header
 body-back : (x : Header) → Back bodyFormat x
@@ -30,6 +30,11 @@ body-keeps x g =
     then-keeps instrumentsFor (over-keeps patternsFor x (many-keeps patternFormat (x .patterns) (pattern-keeps (x .channels) (g .counts .1 .1 .0 .0))))
     (λ patterns g′. many-keeps instrumentFormat (x .instruments) instrument-keeps)
 
+body-adjoins : (x : Header) → Adjoins bodyFormat x
+body-adjoins x =
+    then-adjoins instrumentsFor (over-adjoins patternsFor x (many-adjoins patternFormat (x .patterns) (pattern-adjoins (x .channels))))
+    (λ patterns. many-adjoins instrumentFormat (x .instruments) instrument-adjoins)
+
 body-firm : (x : Header) → Firm bodyFormat x
 body-firm x =
     then-firm instrumentsFor (over-firm patternsFor x (many-firm patternFormat (x .patterns) (pattern-firm (x .channels))))
@@ -41,6 +46,9 @@ module-back = then-back (λ u x. x) header-back (λ x g. body-back x)
 
 pub module-keeps : Keeps moduleFormat tt
 module-keeps = then-keeps (λ u x. x) header-keeps body-keeps
+
+pub module-adjoins : Adjoins moduleFormat tt
+module-adjoins = then-adjoins (λ u x. x) header-adjoins body-adjoins
 
 pub module-firm : Firm moduleFormat tt
 module-firm = then-firm (λ u x. x) header-firm body-firm

@@ -1,6 +1,6 @@
 -- Laws of unpacking and packing: each exit from the tests that lead to it, that they undo one another, and that no stored form is
 -- shorter. Assumes nothing.
-use Prim.Native.Nat.{ℕ, zero, suc, _+_, _-_, _*_, _≤_, _<_}
+use Prim.Native.Nat.{ℕ, zero, suc, _+_, _-_, _*_, _/_, _%_, _≤_, _<_}
 use mathlib.Core.List.{List, [], _∷_, _++_}
 use mathlib.Core.Path.{_≡_, refl, sym, ap, _∙_}
 use native.Mathlib.Nat.{mul-le-mul, le-refl}
@@ -11,12 +11,12 @@ use lib.Seq.{drop-at, drop-drop, getD-drop}
 use Rattle.xm.specs.Number.{Bytes}
 use Rattle.xm.specs.Got.{Refusal, got, refused, _>>_, Test, present, atMost, exactly, refusalOf, AllHold, ensure, checked, _at_}
 use Rattle.xm.specs.Format.{EachGood, flat, All}
-use Rattle.xm.specs.Answer.{gives, refuses, numberOf, inFront}
+use Rattle.xm.specs.Answer.{gives, refuses, result, inFront}
 use Rattle.xm.specs.Cell.{noteMost, cellMost, cellFormat}
 use Rattle.xm.specs.Stored.{Pattern, readStored, writeStored, GoodPattern, cellsOf}
 use Rattle.xm.specs.PatternInFile.{dataMost}
-use Rattle.xm.specs.Packing.{argumentTests, cellBytes, rowsRead, unpacking, noteTests, patternOf, packing, storedLength, lengthAndRows}
-use Rattle.xm.specs.Demands.{KeepsItsWord, StoredFormOf, WellFormed, UnpacksToCells, PackedShortest, Fifteen, LoaderTells}
+use Rattle.xm.specs.Packing.{argumentTests, cellBytes, rowsRead, unpacking, unpackLoader, noteTests, patternOf, packing, storedLength, packNumbers, packAfter, packLoader}
+use Rattle.xm.specs.Demands.{refusalMost, KeepsItsWord, accepts, StoredFormOf, WellFormed, UnpacksToCells, PackedShortest, Fifteen, LoaderTells}
 use Rattle.xm.proofs.Number.{bytes-nil, bytes-append, bytes-drop, bytes-by}
 use Rattle.xm.proofs.Got.{not-both, holds-passes, test-holds, test-fails, pass, step, step-refused, refused-bind, refused-tests}
 use Rattle.xm.proofs.Cell.{five-bytes}
@@ -381,7 +381,8 @@ bytesMost = 256 * 64 * 5
 
 pub record CallFault (r : Refusal) : Type 0 where
   pub low : 1 ≤ r .number
-  pub high : r .number ≤ 16
+  pub high : r .number ≤ refusalMost
+  pub placed : 14 ≤ r .number → r .place ≡ 0
   pub place : r .place ≤ bytesMost
 
 pub unpack-faults : (rows channels : ℕ) (stored : List ℕ) (room : ℕ) (r : Refusal) → Bytes stored → unpacking rows channels stored room ≡ refuses r → CallFault r
@@ -389,12 +390,12 @@ unfolding unpacking
 unpack-faults rows channels stored room r b e =
     refused-tests CallFault _ _ (refuses-refused _ _ e) (omega arith) λ range e.
     refused-bind _ _ e
-    (λ e. let f = stored-faults channels rows 0 stored r b e in record { low = f .low; high = f .high; place = omega (arith, f .to, range .1 .1 .0) })
+    (λ e. let f = stored-faults channels rows 0 stored r b e in record { low = f .low; high = omega (arith, f .high); placed = λ h. absurd (omega (arith, f .high)); place = omega (arith, f .to, range .1 .1 .0) })
     (λ p n ep e. refused-tests CallFault _ _ e (omega arith) λ h e. absurd (not-both (sym e)))
 
 notes-faults : (n place : ℕ) (cells : List ℕ) → place + n * 5 ≤ bytesMost → All (λ (t : Test). CallFault (refusalOf t)) (noteTests n place cells)
 notes-faults zero place cells h = tt
-notes-faults (suc n) place cells h = (record { low = omega arith; high = omega arith; place = omega arith }, notes-faults n (place + 5) (drop 5 cells) (omega arith))
+notes-faults (suc n) place cells h = (record { low = omega arith; high = omega arith; placed = omega arith; place = omega arith }, notes-faults n (place + 5) (drop 5 cells) (omega arith))
 
 pub pack-faults : (rows channels : ℕ) (cells : List ℕ) (room : ℕ) (r : Refusal) → packing rows channels cells room ≡ refuses r → CallFault r
 unfolding packing
@@ -407,38 +408,58 @@ pack-faults rows channels cells room r e =
 pub unpack-word : (rows channels : ℕ) (stored : List ℕ) → Bytes stored → KeepsItsWord cellBytes (unpacking rows channels stored)
 unpack-word rows channels stored b =
     word-kept cellBytes (unpacking rows channels stored)
-    (λ room r e. let f = unpack-faults rows channels stored room r b e in (f .low, f .high))
+    (λ room r e. let f = unpack-faults rows channels stored room r b e in record { low = f .low; high = f .high; placed = f .placed })
     (λ room p e. unpack-given rows channels stored room p e .fits)
 
 pub pack-word : (rows channels : ℕ) (cells : List ℕ) → KeepsItsWord writeStored (packing rows channels cells)
 pack-word rows channels cells =
     word-kept writeStored (packing rows channels cells)
-    (λ room r e. let f = pack-faults rows channels cells room r e in (f .low, f .high))
+    (λ room r e. let f = pack-faults rows channels cells room r e in record { low = f .low; high = f .high; placed = f .placed })
     (λ room p e. pack-given rows channels cells room p e .fits)
 
-pub unpack-tells : (rows channels : ℕ) (stored : List ℕ) (room : ℕ) → Bytes stored → LoaderTells rowsRead (unpacking rows channels stored room)
+pub unpack-tells : (rows channels : ℕ) (stored : List ℕ) (room : ℕ) → Bytes stored
+    → LoaderTells Pattern.rows (unpacking rows channels stored room) (unpackLoader rows channels stored room)
 unpack-tells rows channels stored room b =
-    loader-tells rowsRead (unpacking rows channels stored room)
+    loader-tells Pattern.rows (unpacking rows channels stored room) (unpackLoader rows channels stored room) refl
     (λ p e. omega (arith, unpack-kept rows channels stored room p b e .good .high))
     (λ r e. let f = unpack-faults rows channels stored room r b e in (f .low, omega arith))
 
-pub pack-tells : (rows channels : ℕ) (cells : List ℕ) (room : ℕ) → LoaderTells lengthAndRows (packing rows channels cells room)
+-- the length and the rows in one number
+record Small (p : Pattern) : Type 0 where
+  length-small : length (writeStored p) < 65536
+  rows-small : p .rows ≤ 256
+
+given-small : (rows channels : ℕ) (cells : List ℕ) (room : ℕ) (p : Pattern) → packing rows channels cells room ≡ gives p → Small p
+given-small rows channels cells room p e =
+    let k = pack-given rows channels cells room p e in
+    record { length-small = omega (arith, k .small); rows-small = omega (arith, k .says .range .0 .1, ap (λ (q : Pattern). q .rows) (k .same)) }
+
+pub pack-tells : (rows channels : ℕ) (cells : List ℕ) (room : ℕ)
+    → LoaderTells (λ (p : Pattern). length (writeStored p) + 65536 * p .rows) (packing rows channels cells room) (packLoader rows channels cells room)
 pack-tells rows channels cells room =
-    loader-tells lengthAndRows (packing rows channels cells room)
-    (λ p e. let k = pack-given rows channels cells room p e in omega (arith, k .small, k .says .range .0 .1, ap (λ (q : Pattern). q .rows) (k .same)))
+    loader-tells (λ (p : Pattern). length (writeStored p) + 65536 * p .rows) (packing rows channels cells room) (packLoader rows channels cells room) refl
+    (λ p e. let s = given-small rows channels cells room p e in omega (arith, s .length-small, s .rows-small))
     (λ r e. let f = pack-faults rows channels cells room r e in (f .low, omega arith))
 
+pub pack-apart : (rows channels : ℕ) (cells : List ℕ) (room : ℕ) (p : Pattern) → packing rows channels cells room ≡ gives p
+    → (packLoader rows channels cells room % 65536 ≡ length (writeStored p)) × (packLoader rows channels cells room / 65536 ≡ p .rows)
+pack-apart rows channels cells room p e =
+    let s = given-small rows channels cells room p e in
+    let n = pack-tells rows channels cells room .accepted p e .0 in
+    let l = s .length-small in
+    rw n (omega arith, omega arith)
+
 -- Demand 2 of a pattern
-pub unpacks-to-cells : (rows channels : ℕ) (cells out lent : List ℕ) → Bytes cells → numberOf (packing rows channels cells (length out)) ≡ 0 → length cells ≤ length lent
-    → UnpacksToCells rows channels cells out lent
+pub unpacks-to-cells : (rows channels : ℕ) (cells out lent : List ℕ) → Bytes cells → accepts (packNumbers rows channels cells (length out)) → length cells ≤ length lent
+    → UnpacksToCells rows channels cells lent (packNumbers rows channels cells (length out)) (packAfter rows channels cells out)
 unpacks-to-cells rows channels cells out lent b accepted h =
     accepted-gives (packing rows channels cells (length out)) (λ r e. pack-faults rows channels cells (length out) r e .low) accepted λ p e.
     let back : unpacking rows channels (writeStored p) (length lent) ≡ gives p = packed-back rows channels cells (length out) (length lent) p b e h in
     let same : rows ≡ p .rows = ap Pattern.rows (pack-given rows channels cells (length out) p e .same) in
     let read : rowsRead p ≡ rows = omega arith in
+    let reported : result rowsRead (packing rows channels cells (length out)) ≡ rows = ap (result rowsRead) e ∙ read in
+    let stands = reported-written storedLength writeStored (packing rows channels cells (length out)) out p e (omega arith) in
     record {
-      stored = writeStored p;
-      stands = reported-written storedLength writeStored (packing rows channels cells (length out)) out p e (omega arith);
-      numbers-back = rw back (ap {B = List ℕ} (λ (n : ℕ). 0 ∷ 0 ∷ n ∷ []) read);
-      memory-back = rw back (ap (λ (l : List ℕ). inFront l lent) (packed-cells rows channels cells (length out) p e));
+      numbers-back = rw (reported, stands, back) (ap {B = List ℕ} (λ (n : ℕ). 0 ∷ 0 ∷ n ∷ []) read);
+      memory-back = rw (reported, stands, back) (ap (λ (l : List ℕ). inFront l lent) (packed-cells rows channels cells (length out) p e));
     }

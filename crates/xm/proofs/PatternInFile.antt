@@ -2,6 +2,7 @@
 use Prim.Native.Nat.{ℕ, _+_, _≤_, _<_}
 use mathlib.Core.List.{List, [], _∷_, _++_}
 use mathlib.Core.Path.{_≡_, refl, sym, ap, ap₂, _∙_, subst}
+use native.Mathlib.Nat.{add-assoc}
 use native.Mathlib.Omega.{arith}
 use lib.ListN.{length, take, drop, length-append, length-drop, length-take}
 use lib.Seq.{length-take-le, take-append-seam, drop-at, drop-drop}
@@ -10,9 +11,10 @@ use Rattle.xm.specs.Got.{got, AllHold, present, atLeast, within, _at_}
 use Rattle.xm.specs.Format.{flat}
 use Rattle.xm.specs.Stored.{Pattern, GoodPattern, readStored, writeStored}
 use Rattle.xm.specs.PatternInFile.{leastPattern, dataMost, patternTests, PatternFound, GoodStored, readPattern, writePattern, patternFormat}
+use Rattle.xm.specs.Demands.{Adjoin}
 use Rattle.xm.proofs.Number.{bytes-drop, bytes-take, bytes-append, bytes-nil, word-small, part-drop, Agree, agree-word, agree-long, agree-part}
 use Rattle.xm.proofs.Got.{no-true, pass, step, passed, bind-got, got-both, got-carry}
-use Rattle.xm.proofs.Format.{Back, ReadsBack, Keeps, Held, Firm, Tells}
+use Rattle.xm.proofs.Format.{Back, ReadsBack, Keeps, Held, Adjoins, Firm, Tells}
 use Rattle.xm.proofs.Field.{Field, byteField, wordField, longField, textField, noField, _⊗_}
 use Rattle.xm.proofs.Stored.{stored-back, stored-keeps, stored-plain}
 
@@ -38,7 +40,7 @@ found-path p q = cc
 
 module _ (channels : ℕ) (p : Pattern) (g : GoodStored channels p) where
   written-fits : layout (length (writeStored p)) .Fits (written p)
-  written-fits = (omega arith, (omega arith, (omega (arith, g .pattern .high), (g .room, ((refl, stored-plain channels p (g .pattern)), tt)))))
+  written-fits = (omega arith, (omega arith, (omega (arith, g .pattern .high), (omega (arith, g .room), ((refl, stored-plain channels p (g .pattern)), tt)))))
 
   pub pattern-size : length (writePattern p) ≡ leastPattern + length (writeStored p)
   unfolding writePattern
@@ -94,10 +96,17 @@ pattern-keeps channels c = record {
       (record {
         inside = h .1 .1 .1 .0;
         roomy = ((λ q. omega (arith, h .1 .0)), (λ q. absurd (no-true q), tt));
-        chain = (omega arith, (omega arith, omega arith));
         good = g;
         short = omega (arith, pattern-size channels p g, w .short, h .1 .0);
       });
+}
+
+pub pattern-adjoins : (channels : ℕ) → Adjoins patternFormat channels
+unfolding readPattern
+pattern-adjoins channels = record {
+  adjoins = λ place s i n e.
+      passed _ _ e λ h e. bind-got _ _ e λ p m ep e.
+      got-carry (λ (r : PatternFound) (t : ℕ). Adjoin place (patternFormat .regions r) (place + t)) e (refl, (refl, add-assoc place (longAt 0 s) (wordAt 7 s)));
 }
 
 pub pattern-firm : (channels : ℕ) → Firm patternFormat channels

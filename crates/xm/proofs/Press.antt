@@ -76,6 +76,11 @@ module _ {I A : Type 0} (F : Format (Unit {0}) I A) (back : Back F tt) (keeps : 
       fits (yes h) q = h
       fits (no h) q = absurd (q (press-narrow f room (omega (arith, h))))
 
+  -- and is used to its last byte
+  pub pressed-ends : {x : A} {file : List ℕ} (f : FileOf F x file) → pressed-reads f .end ≡ length (F .write x)
+  unfolding pressed-reads pressed-file
+  pressed-ends f = refl
+
   -- a pressed file presses to itself
   pub pressed-again : {x : A} {file : List ℕ} → FileOf F x file → (room : ℕ) → length (F .write x) ≤ room → pressingAs F (F .write x) room ≡ gives (F .write x)
   pressed-again f room h = press-gives (pressed-reads f) room h

@@ -8,46 +8,47 @@ use lib.Dec.{eqb}
 use lib.ListN.{length}
 use Rattle.xm.specs.Format.{Kind, Region, joined, All}
 use Rattle.xm.specs.Asking.{Lies}
-use Rattle.xm.specs.Demands.{regionAt, RegionsApart, kindNumber, ofKind}
-use Rattle.xm.proofs.Format.{Chain, cons-path}
+use Rattle.xm.specs.Demands.{Adjoin, regionAt, RegionsApart, kindNumber, ofKind}
+use Rattle.xm.proofs.Format.{cons-path}
 
--- Regions in a chain lie between its ends, and one ends before the next begins
-chain-low : (a e : ℕ) (rs : List Region) (k : ℕ) → Chain a rs e → k < length rs → a ≤ regionAt rs k .place
-chain-low a e [] k c h = absurd (omega arith)
-chain-low a e (r ∷ rs) zero c h = c .0
-chain-low a e (r ∷ rs) (suc k) c h = omega (arith, c .0, chain-low (r .place + r .size) e rs k (c .1) (omega arith))
+-- Regions that adjoin lie between their ends, and one ends before the next begins
+adjoin-low : (a e : ℕ) (rs : List Region) (k : ℕ) → Adjoin a rs e → k < length rs → a ≤ regionAt rs k .place
+adjoin-low a e [] k c h = absurd (omega arith)
+adjoin-low a e (r ∷ rs) zero c h = omega (arith, c .0)
+adjoin-low a e (r ∷ rs) (suc k) c h = omega (arith, c .0, adjoin-low (r .place + r .size) e rs k (c .1) (omega arith))
 
-chain-end : (a e : ℕ) (rs : List Region) → Chain a rs e → a ≤ e
-chain-end a e [] c = c
-chain-end a e (r ∷ rs) c = omega (arith, c .0, chain-end (r .place + r .size) e rs (c .1))
+adjoin-end : (a e : ℕ) (rs : List Region) → Adjoin a rs e → a ≤ e
+adjoin-end a e [] c = omega arith
+adjoin-end a e (r ∷ rs) c = omega (arith, c .0, adjoin-end (r .place + r .size) e rs (c .1))
 
-chain-high : (a e : ℕ) (rs : List Region) (k : ℕ) → Chain a rs e → k < length rs → regionAt rs k .place + regionAt rs k .size ≤ e
-chain-high a e [] k c h = absurd (omega arith)
-chain-high a e (r ∷ rs) zero c h = chain-end (r .place + r .size) e rs (c .1)
-chain-high a e (r ∷ rs) (suc k) c h = chain-high (r .place + r .size) e rs k (c .1) (omega arith)
+adjoin-high : (a e : ℕ) (rs : List Region) (k : ℕ) → Adjoin a rs e → k < length rs → regionAt rs k .place + regionAt rs k .size ≤ e
+adjoin-high a e [] k c h = absurd (omega arith)
+adjoin-high a e (r ∷ rs) zero c h = adjoin-end (r .place + r .size) e rs (c .1)
+adjoin-high a e (r ∷ rs) (suc k) c h = adjoin-high (r .place + r .size) e rs k (c .1) (omega arith)
 
-chain-apart : (a e : ℕ) (rs : List Region) (j k : ℕ) → Chain a rs e → j < k → k < length rs → regionAt rs j .place + regionAt rs j .size ≤ regionAt rs k .place
-chain-apart a e [] j k c h l = absurd (omega arith)
-chain-apart a e (r ∷ rs) j zero c h l = absurd (omega arith)
-chain-apart a e (r ∷ rs) zero (suc k) c h l = chain-low (r .place + r .size) e rs k (c .1) (omega arith)
-chain-apart a e (r ∷ rs) (suc j) (suc k) c h l = chain-apart (r .place + r .size) e rs j k (c .1) (omega arith) (omega arith)
+adjoin-apart : (a e : ℕ) (rs : List Region) (j k : ℕ) → Adjoin a rs e → j < k → k < length rs → regionAt rs j .place + regionAt rs j .size ≤ regionAt rs k .place
+adjoin-apart a e [] j k c h l = absurd (omega arith)
+adjoin-apart a e (r ∷ rs) j zero c h l = absurd (omega arith)
+adjoin-apart a e (r ∷ rs) zero (suc k) c h l = adjoin-low (r .place + r .size) e rs k (c .1) (omega arith)
+adjoin-apart a e (r ∷ rs) (suc j) (suc k) c h l = adjoin-apart (r .place + r .size) e rs j k (c .1) (omega arith) (omega arith)
 
-pub chain-regions : (file : List ℕ) (rs : List Region) (e : ℕ) → Chain 0 rs e → e ≤ length file → RegionsApart file rs
-chain-regions file rs e c h = record {
-  inside = λ k l. omega (arith, chain-high 0 e rs k c l);
-  apart = λ j k l m. chain-apart 0 e rs j k c l m;
+pub adjoin-regions : (file : List ℕ) (rs : List Region) (e : ℕ) → Adjoin 0 rs e → e ≤ length file → RegionsApart file rs e
+adjoin-regions file rs e c h = record {
+  adjoin = c;
+  inside = λ k l. omega (arith, adjoin-high 0 e rs k c l);
+  apart = λ j k l m. adjoin-apart 0 e rs j k c l m;
 }
 
--- All of a chain lie before its end, and so do those of one kind
+-- All lie before the end, and so do those of one kind
 abbrev pub Before : ℕ → Lies → Type 0
 Before e l = l .place + l .size ≤ e
 
-pub kind-before : (kind : Kind) (a e : ℕ) (rs : List Region) → Chain a rs e → All (Before e) (ofKind kind rs)
+pub kind-before : (kind : Kind) (a e : ℕ) (rs : List Region) → Adjoin a rs e → All (Before e) (ofKind kind rs)
 kind-before kind a e [] c = tt
 kind-before kind a e (r ∷ rs) c = go (eqb (kindNumber kind) (kindNumber (r .kind))) (kind-before kind (r .place + r .size) e rs (c .1))
   where
     go : (t : Bool) → All (Before e) (ofKind kind rs) → All (Before e) (cond t (record { place = r .place; size = r .size } ∷ ofKind kind rs) (ofKind kind rs))
-    go true h = (chain-end (r .place + r .size) e rs (c .1), h)
+    go true h = (adjoin-end (r .place + r .size) e rs (c .1), h)
     go false h = h
 
 -- The regions of a kind, part by part

@@ -9,9 +9,10 @@ use Rattle.xm.specs.Number.{Bytes, part}
 use Rattle.xm.specs.Got.{got, AllHold}
 use Rattle.xm.specs.Format.{Format, each, All}
 use Rattle.xm.specs.Sample.{leastHead, headBytes, dataSize, headTests, Stretch, readHead, headFormat, readData, dataFormat, SamplesFound, samplesFormat}
+use Rattle.xm.specs.Demands.{Adjoin}
 use Rattle.xm.proofs.Number.{bytes-take, agree-take}
 use Rattle.xm.proofs.Got.{no-true, pass, passed, bind-got, got-by, got-value, got-carry}
-use Rattle.xm.proofs.Format.{Back, Keeps, Held, Firm, Tells, then-back, then-keeps, then-firm, then-tells, each-back, each-keeps, each-firm, each-tells, many-back, many-keeps, many-firm, many-tells, all}
+use Rattle.xm.proofs.Format.{Back, Keeps, Held, Adjoins, Firm, Tells, then-back, then-keeps, then-adjoins, then-firm, then-tells, each-back, each-keeps, each-adjoins, each-firm, each-tells, many-back, many-keeps, many-adjoins, many-firm, many-tells, all}
 
 -- What is found of a stretch, at its place of the file
 pub record HeadTold (file : List ℕ) (i : Stretch) : Type 0 where
@@ -20,6 +21,7 @@ pub record HeadTold (file : List ℕ) (i : Stretch) : Type 0 where
 
 pub record DataTold (file : List ℕ) (i : Stretch) : Type 0 where
   pub bytes : i .bytes ≡ part (i .place) (i .size) file
+  pub long : length (i .bytes) ≡ i .size
 
 -- Sample headers
 pub head-back : Back headFormat leastHead
@@ -42,7 +44,13 @@ head-keeps size l = record {
       passed _ _ e λ h e.
       let z : length (take leastHead s) ≡ leastHead = length-take-le leastHead s (omega (arith, h .0)) in
       got-carry (λ (r : Stretch) (t : ℕ). Held headFormat size place s r t) e
-      (record { inside = h .0; chain = omega arith; roomy = (λ q. omega arith, tt); good = record { size = z; plain = bytes-take leastHead b; tests = h .1 }; short = omega arith });
+      (record { inside = h .0; roomy = (λ q. omega arith, tt); good = record { size = z; plain = bytes-take leastHead b; tests = h .1 }; short = omega arith });
+}
+
+pub head-adjoins : (size : ℕ) → Adjoins headFormat size
+unfolding readHead
+head-adjoins size = record {
+  adjoins = λ place s i n e. passed _ _ e λ h e. got-carry (λ (r : Stretch) (t : ℕ). Adjoin place (headFormat .regions r) (place + t)) e (refl, refl);
 }
 
 pub head-firm : (size : ℕ) → leastHead ≤ size → Firm headFormat size
@@ -82,7 +90,13 @@ data-keeps head = record {
       passed _ _ e λ h e.
       let z : length (take (dataSize head) s) ≡ dataSize head = length-take-le (dataSize head) s (h .0) in
       got-carry (λ (r : Stretch) (t : ℕ). Held dataFormat head place s r t) e
-      (record { inside = h .0; chain = omega arith; roomy = (λ q. absurd (no-true q), tt); good = record { size = z; plain = bytes-take (dataSize head) b }; short = omega arith });
+      (record { inside = h .0; roomy = (λ q. absurd (no-true q), tt); good = record { size = z; plain = bytes-take (dataSize head) b }; short = omega arith });
+}
+
+pub data-adjoins : (head : List ℕ) → Adjoins dataFormat head
+unfolding readData
+data-adjoins head = record {
+  adjoins = λ place s i n e. passed _ _ e λ h e. got-carry (λ (r : Stretch) (t : ℕ). Adjoin place (dataFormat .regions r) (place + t)) e (refl, refl);
 }
 
 pub data-firm : (head : List ℕ) → Firm dataFormat head
@@ -98,7 +112,7 @@ pub data-tells : (head : List ℕ) → Tells dataFormat head DataTold
 unfolding readData
 data-tells head = record {
   tells = λ place file i n b e.
-      passed _ _ e λ h e. got-carry (λ (r : Stretch) (u : ℕ). DataTold file r) e (record { bytes = refl });
+      passed _ _ e λ h e. got-carry (λ (r : Stretch) (u : ℕ). DataTold file r) e (record { bytes = refl; long = length-take-le (dataSize head) (drop place file) (h .0) });
 }
 
 -- All headers, and then the data of each
@@ -108,6 +122,10 @@ samples-back k = then-back (λ sizes heads. heads) (many-back headFormat k head-
 pub samples-keeps : (k size : ℕ) → leastHead ≤ size → Keeps samplesFormat (replicate k size)
 samples-keeps k size l =
     then-keeps (λ sizes heads. heads) (many-keeps headFormat k (head-keeps size l)) (λ heads g. each-keeps dataFormat heads (all data-keeps heads))
+
+pub samples-adjoin : (k size : ℕ) → Adjoins samplesFormat (replicate k size)
+samples-adjoin k size =
+    then-adjoins (λ sizes heads. heads) (many-adjoins headFormat k (head-adjoins size)) (λ heads. each-adjoins dataFormat heads (all data-adjoins heads))
 
 pub samples-firm : (k size : ℕ) → leastHead ≤ size → Firm samplesFormat (replicate k size)
 samples-firm k size l =

@@ -5,19 +5,21 @@ use mathlib.Core.List.{List, [], _∷_}
 use mathlib.Core.Path.{_≡_, refl, sym, ap, _∙_}
 use native.Mathlib.Nat.{zero-add, add-zero, add-suc, add-sub-of-le}
 use native.Mathlib.Omega.{arith}
-use lib.Dec.{leb}
-use borrow.Author.Tests.{le-leb, lt-leb}
+use lib.Dec.{eqb}
+use borrow.Author.Tests.{le-leb, lt-leb, eqb-true}
 use lib.ListN.{length}
 use Rattle.xm.specs.Number.{Bytes}
 use Rattle.xm.specs.Got.{Refusal, got, refused}
-use Rattle.xm.specs.Format.{Region, Format, All}
+use Rattle.xm.specs.Format.{Kind, header, patternHeader, patternData, instrument, sampleHeader, sampleData, Region, Format, All}
 use Rattle.xm.specs.Answer.{Answer, gives, refuses, answered}
 use Rattle.xm.specs.Module.{Found, moduleFormat, readFile}
 use Rattle.xm.specs.Structure.{isStructure, structuresOf, structures, Standing, stands, ended, standingAt, reading, readUpTo, placeAfter}
-use Rattle.xm.specs.Demands.{regionAt, ReaderHandsOver}
+use Rattle.xm.specs.Asking.{Lies}
+use Rattle.xm.specs.Demands.{Adjoin, kindNumber, ofKind, regionAt, ReaderHandsOver, ReadersTell}
+use Rattle.xm.proofs.Got.{no-true}
 use Rattle.xm.proofs.Answer.{answer-gives, answer-refuses}
-use Rattle.xm.proofs.Format.{Chain, chain-from, Roomy}
-use Rattle.xm.proofs.Module.{module-keeps, whole-read}
+use Rattle.xm.proofs.Format.{cons-path, Roomy}
+use Rattle.xm.proofs.Module.{module-keeps, module-adjoins, whole-read}
 
 -- Regions that begin at places that rise, none before `from`
 abbrev Rising : (from : ℕ) → List Region → Type 0
@@ -28,14 +30,48 @@ rising-from : (a b : ℕ) (rs : List Region) → a ≤ b → Rising b rs → Ris
 rising-from a b [] h c = tt
 rising-from a b (r ∷ rs) h c = (omega (arith, c .0), c .1)
 
--- The structures of a chain rise
-chain-rising : (a e : ℕ) (rs : List Region) → Chain a rs e → All Roomy rs → Rising a (structuresOf rs)
-chain-rising a e [] c h = tt
-chain-rising a e (r ∷ rs) c h = go (isStructure (r .kind)) refl (chain-rising (r .place + r .size) e rs (c .1) (h .1))
+-- The structures among regions that adjoin rise
+adjoin-rising : (a e : ℕ) (rs : List Region) → Adjoin a rs e → All Roomy rs → Rising a (structuresOf rs)
+adjoin-rising a e [] c h = tt
+adjoin-rising a e (r ∷ rs) c h = go (isStructure (r .kind)) refl (adjoin-rising (r .place + r .size) e rs (c .1) (h .1))
   where
     go : (t : Bool) → isStructure (r .kind) ≡ t → Rising (r .place + r .size) (structuresOf rs) → Rising a (cond t (r ∷ structuresOf rs) (structuresOf rs))
-    go true q w = (c .0, rising-from (r .place + 1) (r .place + r .size) (structuresOf rs) (omega (arith, h .0 q)) w)
+    go true q w = (omega (arith, c .0), rising-from (r .place + 1) (r .place + r .size) (structuresOf rs) (omega (arith, h .0 q)) w)
     go false q w = rising-from a (r .place + r .size) (structuresOf rs) (omega (arith, c .0)) w
+
+-- A kind is known by its number, so no structure of a kind is left out
+kindOf : ℕ → Kind
+kindOf zero = header
+kindOf (suc zero) = patternHeader
+kindOf (suc (suc zero)) = patternData
+kindOf (suc (suc (suc zero))) = instrument
+kindOf (suc (suc (suc (suc zero)))) = sampleHeader
+kindOf (suc (suc (suc (suc (suc n))))) = sampleData
+
+kind-back : (kind : Kind) → kindOf (kindNumber kind) ≡ kind
+unfolding kindOf
+kind-back header = refl
+kind-back patternHeader = refl
+kind-back patternData = refl
+kind-back instrument = refl
+kind-back sampleHeader = refl
+kind-back sampleData = refl
+
+none-left-out : (kind : Kind) (rs : List Region) → isStructure kind ≡ true → ofKind kind (structuresOf rs) ≡ ofKind kind rs
+none-left-out kind [] h = refl
+none-left-out kind (r ∷ rs) h = go (isStructure (r .kind)) refl (eqb (kindNumber kind) (kindNumber (r .kind))) refl (none-left-out kind rs h)
+  where
+    lies : Lies
+    lies = record { place = r .place; size = r .size }
+
+    go : (t : Bool) → isStructure (r .kind) ≡ t → (u : Bool) → eqb (kindNumber kind) (kindNumber (r .kind)) ≡ u → ofKind kind (structuresOf rs) ≡ ofKind kind rs
+        → ofKind kind (cond t (r ∷ structuresOf rs) (structuresOf rs)) ≡ cond u (lies ∷ ofKind kind rs) (ofKind kind rs)
+    go true p true q w = rw q (cons-path refl w)
+    go true p false q w = rw q w
+    go false p true q w =
+        let same : kind ≡ r .kind = sym (kind-back kind) ∙ ap kindOf (eqb-true (kindNumber kind) (kindNumber (r .kind)) q) ∙ kind-back (r .kind) in
+        absurd (no-true (sym p ∙ ap isStructure (sym same) ∙ h))
+    go false p false q w = w
 
 -- What stands at or after the place behind the structure before
 behind : ℕ → List Region → ℕ → ℕ
@@ -77,7 +113,7 @@ ended-next from (r ∷ rs) w =
 module _ (file : List ℕ) (found : Found) (end : ℕ) (plain : Bytes file) (reads : readFile file ≡ got found end) where
   rising : Rising 0 (structures found)
   rising = whole-read moduleFormat file found end reads λ size e.
-      let w = module-keeps .keeps 0 file found end plain e in chain-rising 0 end (moduleFormat .regions found) (rw (zero-add end) at (w .chain)) (w .roomy)
+      adjoin-rising 0 end (moduleFormat .regions found) (rw (zero-add end) at (module-adjoins .adjoins 0 file found end e)) (module-keeps .keeps 0 file found end plain e .roomy)
 
   asked : (place : ℕ) → reading file place ≡ gives (standingAt place (structures found))
   unfolding reading
@@ -106,8 +142,10 @@ module _ (file : List ℕ) (found : Found) (end : ℕ) (plain : Bytes file) (rea
   later : (n : ℕ) → length (structures found) ≤ n → placeAfter file n ≡ behind 0 (structures found) (length (structures found))
   later n h = ap (placeAfter file) (sym (add-sub-of-le h)) ∙ at-end (n - length (structures found)) ∙ stands-at (length (structures found)) (omega arith)
 
-  pub reader-hands-over : ReaderHandsOver file found
-  reader-hands-over = record {
+  hands-over : ReaderHandsOver file found
+  hands-over = record {
+    every-kind = λ kind h. none-left-out kind (moduleFormat .regions found) h;
+    three-kinds = (refl, refl, refl);
     each-one = λ n h.
         asked (placeAfter file n)
         ∙ ap (λ (place : ℕ). gives (standingAt place (structures found))) (stands-at n (omega arith))
@@ -120,6 +158,9 @@ module _ (file : List ℕ) (found : Found) (end : ℕ) (plain : Bytes file) (rea
   }
 
 -- On a refused file each call gives the check's refusal
-pub reading-refused : (file : List ℕ) (r : Refusal) (place : ℕ) → readFile file ≡ refused r → reading file place ≡ refuses r
+reading-refused : (file : List ℕ) (r : Refusal) (place : ℕ) → readFile file ≡ refused r → reading file place ≡ refuses r
 unfolding reading
 reading-refused file r place e = answer-refuses _ e
+
+pub readers-tell : ReadersTell
+readers-tell = record { hands-over = hands-over; refuses-so = reading-refused }

@@ -6,7 +6,7 @@ use lib.IntN.{pos}
 use lib.ListN.{length, getD}
 use Rattle.xm.specs.Number.{part}
 use Rattle.xm.specs.Got.{got, _>>_, checked, present, _at_}
-use Rattle.xm.specs.Answer.{Answer, gives, refuses, answered, numberOf, numbers}
+use Rattle.xm.specs.Answer.{Answer, gives, refuses, answered, numbers}
 use Rattle.xm.specs.Table.{SampleRow, sampleStride}
 
 -- Where the data lies that a row speaks of.

@@ -6,7 +6,7 @@ use lib.IntN.{ℤ, pos, negsuc}
 use lib.ListN.{length}
 use Rattle.xm.specs.Got.{Refusal, _at_}
 use Rattle.xm.specs.Answer.{Answer, gives, refuses, numberOf, placeOf}
-use Rattle.xm.specs.Cell.{cellMost}
+use Rattle.xm.specs.Cell.{cellSize, cellMost}
 use Rattle.xm.specs.Stored.{writeStored}
 use Rattle.xm.specs.Packing.{cellBytes, unpacking, packing}
 use Rattle.xm.specs.Delta.{decoding}
@@ -24,7 +24,7 @@ listIn f (refuses r) = []
 
 -- "in one cell": one row and one channel, with room for a cell
 abbrev pub unpacked : List ℕ → List ℕ
-unpacked stored = listIn cellBytes (unpacking 1 1 stored cellMost)
+unpacked stored = listIn cellBytes (unpacking 1 1 stored cellSize)
 
 abbrev pub packedTo : List ℕ → List ℕ
 packedTo cell = listIn writeStored (packing 1 1 cell cellMost)
@@ -34,7 +34,7 @@ refusalIn answer = numberOf answer at placeOf answer
 
 abbrev pub worked : Piece → Piece
 worked (reads stored cell packed) = reads stored (unpacked stored) (packedTo (unpacked stored))
-worked (gets stored r) = gets stored (refusalIn (unpacking 1 1 stored cellMost))
+worked (gets stored r) = gets stored (refusalIn (unpacking 1 1 stored cellSize))
 worked (packs cell packed) = packs cell (packedTo cell)
 worked (decodes width bytes values) = decodes width bytes (listIn (λ vs. vs) (decoding width bytes (length bytes)))
 

@@ -14,6 +14,10 @@ use Rattle.xm.specs.Format.{Format}
 abbrev pub noteMost : ℕ
 noteMost = 97
 
+-- "A cell is five bytes"
+abbrev pub cellSize : ℕ
+cellSize = 5
+
 -- "From 128 up it is marked"
 abbrev pub markedFrom : ℕ
 markedFrom = 128
@@ -25,7 +29,7 @@ five s = getD s 0 0 ∷ getD s 1 0 ∷ getD s 2 0 ∷ getD s 3 0 ∷ getD s 4 0 
 -- "A lead byte below 128 is the note, and four bytes follow"; "A marked cell's length is one more than the number of ones in the low
 -- five bits of its lead byte."
 unfoldable pub lengthBy : ℕ → ℕ
-lengthBy lead = cond (ltb lead markedFrom) 5 (1 + ones (lead % 32))
+lengthBy lead = cond (ltb lead markedFrom) cellSize (1 + ones (lead % 32))
 
 -- "bits 0 to 4 say which of the five follow, in order; the absent are 0": one field by the lowest bit, and `count` fields so.
 abbrev pub fieldBy : ℕ → List ℕ → ℕ
@@ -40,7 +44,7 @@ abbrev pub needed : List ℕ → ℕ
 needed s = lengthBy (getD s 0 0)
 
 unfoldable pub cellAt : List ℕ → List ℕ
-cellAt s = cond (ltb (getD s 0 0) markedFrom) (five s) (fieldsBy 5 (getD s 0 0) (drop 1 s))
+cellAt s = cond (ltb (getD s 0 0) markedFrom) (five s) (fieldsBy cellSize (getD s 0 0) (drop 1 s))
 
 -- "A cell is tried for 7, then 9", at "where the cell's lead byte stands or would stand".
 unfoldable pub readCell : Reader (List ℕ)
@@ -80,7 +84,7 @@ abbrev pub cellMost : ℕ
 cellMost = 5
 
 pub record GoodCell (cell : List ℕ) : Type 0 where
-  pub size : length cell ≡ 5
+  pub size : length cell ≡ cellSize
   pub plain : Bytes cell
   pub note : getD cell 0 0 ≤ noteMost
 

@@ -72,17 +72,17 @@ coding width values room = answered (λ bytes used. bytes) (do
   got (coded width values) 0)
 
 -- "The answer reports how many values or bytes it wrote; what lies beyond stays."
-abbrev pub written : {A : Type 0} → List A → ℕ
-written xs = length xs
+abbrev pub countWritten : {A : Type 0} → List A → ℕ
+countWritten xs = length xs
 
 abbrev pub decodeNumbers : (width : ℕ) (bytes : List ℕ) (room : ℕ) → List ℕ
-decodeNumbers width bytes room = numbers (written ∷ []) (decoding width bytes room)
+decodeNumbers width bytes room = numbers (countWritten ∷ []) (decoding width bytes room)
 
 abbrev pub decodeAfter : (width : ℕ) (bytes : List ℕ) (lent : List ℤ) → List ℤ
 decodeAfter width bytes lent = after (λ values. values) (decoding width bytes (length lent)) lent
 
 abbrev pub codeNumbers : (width : ℕ) (values : List ℤ) (room : ℕ) → List ℕ
-codeNumbers width values room = numbers (written ∷ []) (coding width values room)
+codeNumbers width values room = numbers (countWritten ∷ []) (coding width values room)
 
 abbrev pub codeAfter : (width : ℕ) (values : List ℤ) (lent : List ℕ) → List ℕ
 codeAfter width values lent = after (λ bytes. bytes) (coding width values (length lent)) lent

@@ -1,33 +1,37 @@
 -- The three demands, and the paper's further claims, as statements over these definitions. proofs/Demands.antt proves each of them.
-use Prim.Native.Nat.{ℕ, _+_, _*_, _/_, _%_, _^_, _≤_, _<_}
+use Prim.Native.Nat.{ℕ, _+_, _-_, _*_, _/_, _%_, _^_, _≤_, _<_}
 use mathlib.Core.Bool.{true, cond}
-use mathlib.Core.List.{List, [], _∷_, map}
+use mathlib.Core.List.{List, [], _∷_, _++_, map}
 use mathlib.Core.Logic.{_↔_}
 use mathlib.Core.Path.{_≡_}
 use lib.Dec.{eqb}
 use lib.IntN.{ℤ}
-use lib.ListN.{length, getD, take}
-use Rattle.xm.specs.Number.{Bytes, part}
-use Rattle.xm.specs.Got.{Refusal, got, _at_, AllHold}
+use lib.ListN.{length, getD, take, drop}
+use Rattle.xm.specs.Number.{Bytes, byteAt, longAt, part, signed}
+use Rattle.xm.specs.Got.{Refusal, got, refused, _at_, AllHold}
 use Rattle.xm.specs.Format.{Format, Kind, Region, header, patternHeader, patternData, instrument, sampleHeader, sampleData, joined, All}
-use Rattle.xm.specs.Answer.{Answer, gives, refuses, numberOf, result, inFront, after, loaderNumber}
-use Rattle.xm.specs.Cell.{cellMost}
-use Rattle.xm.specs.Stored.{Pattern, readStored, writeStored}
+use Rattle.xm.specs.Answer.{Answer, gives, refuses, inFront, after}
+use Rattle.xm.specs.Cell.{cellSize, cellMost}
+use Rattle.xm.specs.Stored.{rowsMost, Pattern, standard, readStored, writeStored}
 use Rattle.xm.specs.PatternInFile.{dataMost}
-use Rattle.xm.specs.Packing.{argumentTests, cellBytes, rowsRead, unpacking, unpackNumbers, unpackAfter, noteTests, patternOf, packing, storedLength, packAfter, lengthAndRows}
+use Rattle.xm.specs.Packing.{argumentTests, cellBytes, unpacking, unpackNumbers, unpackAfter, unpackLoader, noteTests, patternOf, packing, packNumbers, packAfter, packLoader}
 use Rattle.xm.specs.Sample.{lengthOf, loopStart, loopLength, loops}
-use Rattle.xm.specs.Instrument.{Instrument}
-use Rattle.xm.specs.Module.{Found, Content, moduleFormat, fileMost, readWhole, readFile}
-use Rattle.xm.specs.Delta.{allFit, decoding, coding, written, decodeAfter, codeAfter}
-use Rattle.xm.specs.Table.{PatternRow, InstrumentRow, SampleRow, patternRows, instrumentRows, sampleRows, Checked, checking, checkingInto, Tables, roomOf, tablesAfter}
-use Rattle.xm.specs.Asking.{Lies}
-use Rattle.xm.specs.Structure.{structures, stands, ended, reading, placeAfter}
-use Rattle.xm.specs.Press.{contentOf, pressed, pressingAs, pressing, pressedLength, pressAfter}
+use Rattle.xm.specs.Instrument.{Instrument, InstrumentFound}
+use Rattle.xm.specs.Module.{Found, Content, moduleFormat, fileMost, readWhole, readFile, plays}
+use Rattle.xm.specs.Delta.{storedNumbers, decoding, coding, allFit, decodeNumbers, decodeAfter, codeNumbers, codeAfter, valuesOf}
+use Rattle.xm.specs.Table.{PatternRow, InstrumentRow, SampleRow, patternRows, instrumentRows, sampleRowsIn, sampleRows, Checked, checkedAs, checking, checkNumbers, checkLoader, Room, checkingInto, Tables, roomOf, tablesAfter, sampleNumbers}
+use Rattle.xm.specs.Asking.{Lies, asking, askingFlat, askingRows, noRow}
+use Rattle.xm.specs.Structure.{isStructure, structures, stands, ended, reading, placeAfter}
+use Rattle.xm.specs.Press.{contentOf, pressed, pressingAs, pressing, pressNumbersAs, pressAfterAs, pressLoader}
 
 -- DEMAND 1. "Bad input gets a refusal number and a place. A refused call changes nothing in the memory it was lent", and no call writes
 -- past what it was lent. Of a call by what it writes and what it answers for a room:
+abbrev pub refusalMost : ℕ
+refusalMost = 16
+
 pub record KeepsItsWord {A B : Type 0} (written : A → List B) (answer : (room : ℕ) → Answer A) : Type 0 where
-  pub numbered : (room : ℕ) (r : Refusal) → answer room ≡ refuses r → (1 ≤ r .number) × (r .number ≤ 16)
+  pub numbered : (room : ℕ) (r : Refusal) → answer room ≡ refuses r → (1 ≤ r .number) × (r .number ≤ refusalMost)
+  pub placed : (room : ℕ) (r : Refusal) → answer room ≡ refuses r → 14 ≤ r .number → r .place ≡ 0
   pub unchanged : (lent : List B) (r : Refusal) → answer (length lent) ≡ refuses r → after written (answer (length lent)) lent ≡ lent
   pub inside : (lent : List B) → length (after written (answer (length lent)) lent) ≡ length lent
 
@@ -39,7 +43,7 @@ pub record TablesKept (file : List ℕ) (lent : Tables) : Type 0 where
   pub tunes : length (tablesAfter (checkingInto (roomOf lent) file) lent .tunes) ≡ length (lent .tunes)
 
 pub record Demand₁ : Type 0 where
-  pub check : (file : List ℕ) (r : Refusal) → Bytes file → checking file ≡ refuses r → (1 ≤ r .number) × (r .number ≤ 16) × (r .place ≤ fileMost)
+  pub check : (file : List ℕ) (r : Refusal) → Bytes file → checking file ≡ refuses r → (1 ≤ r .number) × (r .number ≤ 13) × (r .place ≤ length file)
   pub tables : (file : List ℕ) (lent : Tables) → TablesKept file lent
   pub unpack : (rows channels : ℕ) (stored : List ℕ) → Bytes stored → KeepsItsWord cellBytes (unpacking rows channels stored)
   pub pack : (rows channels : ℕ) (cells : List ℕ) → KeepsItsWord writeStored (packing rows channels cells)
@@ -58,7 +62,7 @@ pub record FileOf {I A : Type 0} (F : Format (Unit {0}) I A) (content : A) (file
 -- A stored form of a pattern: a row number 1..256 with at most 65,535 bytes that are read as its rows and cells.
 pub record StoredFormOf (channels : ℕ) (p : Pattern) (row : ℕ) (bytes : List ℕ) : Type 0 where
   pub low : 1 ≤ row
-  pub high : row ≤ 256
+  pub high : row ≤ rowsMost
   pub plain : Bytes bytes
   pub small : length bytes ≤ dataMost
   pub used : ℕ
@@ -67,32 +71,57 @@ pub record StoredFormOf (channels : ℕ) (p : Pattern) (row : ℕ) (bytes : List
 -- Well-formed cells, as they are lent.
 pub record WellFormed (rows channels : ℕ) (cells : List ℕ) : Type 0 where
   pub arguments : AllHold (argumentTests rows channels)
-  pub size : length cells ≡ rows * channels * 5
+  pub size : length cells ≡ rows * channels * cellSize
   pub plain : Bytes cells
   pub notes : AllHold (noteTests (rows * channels) 0 cells)
 
--- What a call that was accepted left in front of the memory it was lent, as much as it reports.
-abbrev pub reported : {A B : Type 0} → (A → ℕ) → Answer A → (after : List B) → List B
-reported count answer after = take (result count answer) after
+-- DEMAND 2, over the numbers that the calls report (number, place, and the results in order) and the memory they leave.
+abbrev pub accepts : (numbers : List ℕ) → Type 0
+accepts numbers = getD numbers 0 0 ≡ 0
 
--- DEMAND 2. "Pressing gives back a file that reads as the same content. Unpacking a packed pattern returns its cells; coding a sample as
--- deltas and back returns the sample, at 8 and 16 bits, wrapping included." Of what the calls report and leave in memory; the values are
--- lent as 16-bit numbers, and what decoding gives is stated over the sums (specs/Delta.antt).
-pub record UnpacksToCells (rows channels : ℕ) (cells out lent : List ℕ) : Type 0 where
-  pub stored : List ℕ
-  pub stands : reported storedLength (packing rows channels cells (length out)) (packAfter rows channels cells out) ≡ stored
-  pub numbers-back : unpackNumbers rows channels stored (length lent) ≡ 0 ∷ 0 ∷ rows ∷ []
-  pub memory-back : unpackAfter rows channels stored lent ≡ inFront cells lent
+abbrev pub resultIn : (numbers : List ℕ) (k : ℕ) → ℕ
+resultIn numbers k = getD numbers (2 + k) 0
+
+-- Checking: an acceptable file is accepted, with its end and the counts of its content; a refused one gets its refusal and zeros.
+abbrev pub samplesIn : Content → ℕ
+samplesIn content = length (joined (λ (x : Instrument). x .samples .0) (content .1 .1))
+
+abbrev pub countsOf : Content → List ℕ
+countsOf content = content .0 .channels ∷ content .0 .patterns ∷ content .0 .instruments ∷ samplesIn content ∷ []
+
+pub record CheckTells : Type 0 where
+  pub accepted : (content : Content) (file : List ℕ) (f : FileOf moduleFormat content file) → checkNumbers file ≡ 0 ∷ 0 ∷ f .end ∷ countsOf content
+  pub refused-so : (file : List ℕ) (r : Refusal) → readFile file ≡ refused r → checkNumbers file ≡ r .number ∷ r .place ∷ 0 ∷ 0 ∷ 0 ∷ 0 ∷ 0 ∷ []
+  pub acceptable : (file : List ℕ) → Bytes file → accepts (checkNumbers file) → (content : Content) × FileOf moduleFormat content file
+
+-- "Pressing gives back a file that reads as the same content", of any format that reads whole files.
+abbrev pub PressReadsBack : {I A : Type 0} → Format (Unit {0}) I A → Type 0
+PressReadsBack {I} {A} F = (content : A) (file out : List ℕ) → FileOf F content file → accepts (pressNumbersAs F file (length out))
+    → FileOf F content (take (resultIn (pressNumbersAs F file (length out)) 0) (pressAfterAs F file out))
+
+-- "Unpacking a packed pattern returns its cells": by the length and the rows that packing reports.
+pub record UnpacksToCells (rows channels : ℕ) (cells lent : List ℕ) (reported after : List ℕ) : Type 0 where
+  pub numbers-back : unpackNumbers (resultIn reported 1) channels (take (resultIn reported 0) after) (length lent) ≡ 0 ∷ 0 ∷ rows ∷ []
+  pub memory-back : unpackAfter (resultIn reported 1) channels (take (resultIn reported 0) after) lent ≡ inFront cells lent
+
+-- "coding a sample as deltas and back returns the sample, at 8 and 16 bits, wrapping included": the values are lent as 16-bit numbers. What
+-- decoding gives is "stated over the sums": each value is the signed reading of the wrapped sum of the one before and the stored number.
+abbrev pub RunningSums : (width before : ℕ) (stored : List ℕ) (values : List ℤ) → Type 0
+RunningSums width before [] [] = Unit {0}
+RunningSums width before [] (v ∷ vs) = ⊥
+RunningSums width before (d ∷ ds) [] = ⊥
+RunningSums width before (d ∷ ds) (v ∷ vs) = (v ≡ signed width ((before + d) % 2 ^ width)) × RunningSums width ((before + d) % 2 ^ width) ds vs
 
 pub record Demand₂ : Type 0 where
-  pub press : (content : Content) (file out : List ℕ) → FileOf moduleFormat content file → numberOf (pressing file (length out)) ≡ 0
-      → FileOf moduleFormat content (reported pressedLength (pressing file (length out)) (pressAfter file out))
-  pub unpack : (rows channels : ℕ) (cells out lent : List ℕ) → Bytes cells → numberOf (packing rows channels cells (length out)) ≡ 0 → length cells ≤ length lent
-      → UnpacksToCells rows channels cells out lent
-  pub decode : (width : ℕ) (values : List ℤ) (out : List ℕ) (room : ℕ) → allFit 16 values ≡ true → numberOf (coding width values (length out)) ≡ 0
-      → length values ≤ room → decoding width (reported written (coding width values (length out)) (codeAfter width values out)) room ≡ gives values
-  pub code : (width : ℕ) (bytes : List ℕ) (out : List ℤ) (room : ℕ) → Bytes bytes → numberOf (decoding width bytes (length out)) ≡ 0
-      → length bytes ≤ room → coding width (reported written (decoding width bytes (length out)) (decodeAfter width bytes out)) room ≡ gives bytes
+  pub check : CheckTells
+  pub press : PressReadsBack moduleFormat
+  pub unpack : (rows channels : ℕ) (cells out lent : List ℕ) → Bytes cells → accepts (packNumbers rows channels cells (length out)) → length cells ≤ length lent
+      → UnpacksToCells rows channels cells lent (packNumbers rows channels cells (length out)) (packAfter rows channels cells out)
+  pub decode : (width : ℕ) (values : List ℤ) (out : List ℕ) (room : ℕ) → allFit 16 values ≡ true → accepts (codeNumbers width values (length out))
+      → length values ≤ room → decoding width (take (resultIn (codeNumbers width values (length out)) 0) (codeAfter width values out)) room ≡ gives values
+  pub code : (width : ℕ) (bytes : List ℕ) (out : List ℤ) (room : ℕ) → Bytes bytes → accepts (decodeNumbers width bytes (length out))
+      → length bytes ≤ room → coding width (take (resultIn (decodeNumbers width bytes (length out)) 0) (decodeAfter width bytes out)) room ≡ gives bytes
+  pub sums : (width : ℕ) (bytes : List ℕ) (values : List ℤ) (room : ℕ) → decoding width bytes room ≡ gives values → RunningSums width 0 (storedNumbers width bytes) values
 
 -- DEMAND 3. "For well-formed cells, a pattern is refused as too large exactly when no stored form of at most 65,535 bytes reads back as
 -- those cells"; if it is not, it is refused for room exactly when none is as short as the room; otherwise what is written is one, and
@@ -124,20 +153,40 @@ pub record Demand₃ : Type 0 where
 
 -- "At 51 channels number 15 never occurs (256 rows: 65,280 at most); at 52 it can (66,560)."
 pub record Fifteen : Type 0 where
-  pub never : (rows channels : ℕ) (cells : List ℕ) (room : ℕ) → 256 * channels * cellMost ≤ dataMost → packing rows channels cells room ≡ refuses (15 at 0) → ⊥
-  pub at-51 : 256 * 51 * cellMost ≤ dataMost
-  pub at-52 : (cells : List ℕ) × WellFormed 256 52 cells × ((room : ℕ) → packing 256 52 cells room ≡ refuses (15 at 0))
+  pub never : (rows channels : ℕ) (cells : List ℕ) (room : ℕ) → rowsMost * channels * cellMost ≤ dataMost → packing rows channels cells room ≡ refuses (15 at 0) → ⊥
+  pub at-51 : rowsMost * 51 * cellMost ≤ dataMost
+  pub at-52 : (cells : List ℕ) × WellFormed rowsMost 52 cells × ((room : ℕ) → packing rowsMost 52 cells room ≡ refuses (15 at 0))
 
--- The pressed length "never exceeds the input's", and pressing a pressed file changes nothing.
+-- The pressed length "never exceeds the input's"; the pressed file is used to its last byte, and pressing it changes nothing.
 pub record PressedOnce (content : Content) (file : List ℕ) : Type 0 where
   pub no-longer : length (pressed content) ≤ length file
+  pub ends : checkNumbers (pressed content) ≡ 0 ∷ 0 ∷ length (pressed content) ∷ countsOf content
   pub again : (room : ℕ) → length (pressed content) ≤ room → pressing (pressed content) room ≡ gives (pressed content)
 
--- "The regions of an accepted file (header, patterns, instruments, sample headers, sample data) lie inside it and never overlap."
+abbrev pub PressesOnce : Type 0
+PressesOnce = (content : Content) (file : List ℕ) → FileOf moduleFormat content file → PressedOnce content file
+
+-- The check that fills tables: the file's own refusal first, then 14 exactly when a count is above the rows lent.
+abbrev pub RoomFor : Room → Found → Type 0
+RoomFor room found =
+    (length (patternRows found) ≤ room .patterns) × (length (instrumentRows found) ≤ room .instruments) × (length (sampleRows found) ≤ room .samples)
+
+pub record TablesTell (file : List ℕ) (room : Room) : Type 0 where
+  pub own-first : (r : Refusal) → readFile file ≡ refused r → checkingInto room file ≡ refuses r
+  pub no-room-exactly : (found : Found) (end : ℕ) → readFile file ≡ got found end → (checkingInto room file ≡ refuses (14 at 0)) ↔ (RoomFor room found → ⊥)
+  pub filled-else : (found : Found) (end : ℕ) → readFile file ≡ got found end → RoomFor room found → checkingInto room file ≡ gives (checkedAs found end)
+
+-- "The regions of an accepted file (header, patterns, instruments, sample headers, sample data) lie inside it and never overlap"; each
+-- begins where the one before ends, from 0 to the end.
+abbrev pub Adjoin : (from : ℕ) → List Region → (end : ℕ) → Type 0
+Adjoin from [] end = from ≡ end
+Adjoin from (r ∷ rs) end = (r .place ≡ from) × Adjoin (r .place + r .size) rs end
+
 abbrev pub regionAt : List Region → ℕ → Region
 regionAt rs k = getD rs k (record { kind = header; place = 0; size = 0 })
 
-pub record RegionsApart (file : List ℕ) (rs : List Region) : Type 0 where
+pub record RegionsApart (file : List ℕ) (rs : List Region) (end : ℕ) : Type 0 where
+  pub adjoin : Adjoin 0 rs end
   pub inside : (k : ℕ) → k < length rs → regionAt rs k .place + regionAt rs k .size ≤ length file
   pub apart : (j k : ℕ) → j < k → k < length rs → regionAt rs j .place + regionAt rs j .size ≤ regionAt rs k .place
 
@@ -160,13 +209,10 @@ pub record TablesStand (found : Found) : Type 0 where
   pub heads : map Lies.place (ofKind sampleHeader (moduleFormat .regions found)) ≡ map SampleRow.headerPlace (sampleRows found)
   pub bytes : ofKind sampleData (moduleFormat .regions found) ≡ map (λ (row : SampleRow). record { place = row .dataPlace; size = row .size }) (sampleRows found)
 
--- "Adding loop start and loop length in 32 bits, where they wrap" is ruled out: of each sample of an accepted file that loops.
-abbrev pub LoopInside : List ℕ → Type 0
-LoopInside head = loops head ≡ true → loopStart head + loopLength head ≤ lengthOf head
-
--- A pattern row and its data unpack to the content's cells; a sample row's stretch is the content's data, and is never refused 16.
+-- A pattern row and its data unpack to the content's rows and cells.
 abbrev pub RowUnpacks : (file : List ℕ) (channels : ℕ) → PatternRow → Pattern → Type 0
-RowUnpacks file channels row p = (room : ℕ) → length (cellBytes p) ≤ room → unpacking (row .rows) channels (part (row .dataPlace) (row .size) file) room ≡ gives p
+RowUnpacks file channels row p =
+    (row .rows ≡ p .rows) × ((room : ℕ) → length (cellBytes p) ≤ room → unpacking (row .rows) channels (part (row .dataPlace) (row .size) file) room ≡ gives p)
 
 abbrev pub RowsUnpack : (file : List ℕ) (channels : ℕ) → List PatternRow → List Pattern → Type 0
 RowsUnpack file channels [] [] = Unit {0}
@@ -174,17 +220,65 @@ RowsUnpack file channels [] (p ∷ ps) = ⊥
 RowsUnpack file channels (row ∷ rows) [] = ⊥
 RowsUnpack file channels (row ∷ rows) (p ∷ ps) = RowUnpacks file channels row p × RowsUnpack file channels rows ps
 
-abbrev pub RowDecodes : (file : List ℕ) → SampleRow → Type 0
-RowDecodes file row = (room : ℕ) → numberOf (decoding (row .width) (part (row .dataPlace) (row .size) file) room) ≡ 16 → ⊥
+-- An instrument row finds the instrument's own sample rows.
+abbrev pub FindsRows : List SampleRow → List InstrumentRow → List InstrumentFound → Type 0
+FindsRows all [] [] = Unit {0}
+FindsRows all [] (i ∷ is) = ⊥
+FindsRows all (row ∷ rows) [] = ⊥
+FindsRows all (row ∷ rows) (i ∷ is) = (take (row .samples) (drop (row .first) all) ≡ sampleRowsIn i) × FindsRows all rows is
+
+-- A sample row says what stands in its header; its stretch is the content's data, which decodes at the row's width.
+abbrev pub RowReads : (file : List ℕ) → SampleRow → Type 0
+RowReads file row =
+    (row .size ≡ longAt (row .headerPlace) file)
+    × (row .width ≡ cond (eqb (byteAt (row .headerPlace + 14) file / 16 % 2) 1) 16 8)
+    × (row .finetune ≡ signed 8 (byteAt (row .headerPlace + 13) file))
+    × (row .relativeNote ≡ signed 8 (byteAt (row .headerPlace + 16) file))
+
+abbrev pub RowDecodes : (file : List ℕ) → SampleRow → (head bytes : List ℕ) → Type 0
+RowDecodes file row head bytes =
+    (part (row .dataPlace) (row .size) file ≡ bytes)
+    × (decoding (row .width) (part (row .dataPlace) (row .size) file) (length (valuesOf head bytes)) ≡ gives (valuesOf head bytes))
+
+abbrev pub RowsDecode : (file : List ℕ) → List SampleRow → (heads bytes : List (List ℕ)) → Type 0
+RowsDecode file [] [] [] = Unit {0}
+RowsDecode file [] [] (b ∷ bs) = ⊥
+RowsDecode file [] (h ∷ hs) bytes = ⊥
+RowsDecode file (row ∷ rows) [] bytes = ⊥
+RowsDecode file (row ∷ rows) (h ∷ hs) [] = ⊥
+RowsDecode file (row ∷ rows) (h ∷ hs) (b ∷ bs) = RowDecodes file row h b × RowsDecode file rows hs bs
+
+-- A sample asked for by number, of the tables as the check leaves them, whatever stood in them beyond: the row's stretch.
+abbrev pub liesAt : List SampleRow → ℕ → Lies
+liesAt rows number = record { place = getD rows number noRow .dataPlace; size = getD rows number noRow .size }
+
+pub record Asked (file : List ℕ) (rows : List SampleRow) : Type 0 where
+  pub flat : (stale : List ℕ) (number : ℕ) → number < length rows → askingFlat file (joined sampleNumbers rows ++ stale) number ≡ gives (liesAt rows number)
+  pub records : (stale : List SampleRow) (number : ℕ) → number < length rows → askingRows file (rows ++ stale) number ≡ gives (liesAt rows number)
+
+-- and of any row at all: 16 exactly when the number is at or above the rows lent, or the data isn't inside the file.
+abbrev pub AsksExactly : Type 0
+AsksExactly = (file : List ℕ) (rows number : ℕ) (row : Lies)
+    → ((number < rows) × (row .place + row .size ≤ length file) → asking file rows number row ≡ gives row)
+    × (((number < rows) × (row .place + row .size ≤ length file) → ⊥) → asking file rows number row ≡ refuses (16 at 0))
+
+-- "Adding loop start and loop length in 32 bits, where they wrap" is ruled out: of each sample of an accepted file that loops.
+abbrev pub LoopInside : List ℕ → Type 0
+LoopInside head = loops head ≡ true → loopStart head + loopLength head ≤ lengthOf head
 
 pub record AcceptedFile (file : List ℕ) (found : Found) (end : ℕ) : Type 0 where
   pub ends-inside : end ≤ length file
-  pub regions : RegionsApart file (moduleFormat .regions found)
+  pub regions : RegionsApart file (moduleFormat .regions found) end
   pub tables : TablesStand found
   pub rows-unpack : RowsUnpack file (found .0 .content .channels) (patternRows found) (contentOf found .1 .0)
-  pub stretches : map (λ (row : SampleRow). part (row .dataPlace) (row .size) file) (sampleRows found) ≡ joined (λ (x : Instrument). x .samples .1) (contentOf found .1 .1)
-  pub rows-decode : All (RowDecodes file) (sampleRows found)
+  pub rows-found : FindsRows (sampleRows found) (instrumentRows found) (found .1 .1)
+  pub rows-read : All (RowReads file) (sampleRows found)
+  pub rows-decode : RowsDecode file (sampleRows found) (joined (λ (x : Instrument). x .samples .0) (contentOf found .1 .1)) (joined (λ (x : Instrument). x .samples .1) (contentOf found .1 .1))
+  pub asked : Asked file (sampleRows found)
   pub loops-inside : All (λ (x : Instrument). All LoopInside (x .samples .0)) (contentOf found .1 .1)
+
+abbrev pub AcceptedFiles : Type 0
+AcceptedFiles = (file : List ℕ) (found : Found) (end : ℕ) → Bytes file → readFile file ≡ got found end → AcceptedFile file found end
 
 -- "Bytes after the last instrument are ignored": a file within the limit that agrees up to the end has the same answer, tables and
 -- content, since all of them are of what is found.
@@ -192,22 +286,34 @@ abbrev pub RestIgnored : Type 0
 RestIgnored = (file other : List ℕ) (found : Found) (end : ℕ) → readFile file ≡ got found end → length other ≤ fileMost → end ≤ length other
     → take end file ≡ take end other → readFile other ≡ got found end
 
+-- "An order entry naming no pattern .. stands for the standard empty pattern", and any other for the pattern it names.
+pub record PlaysOrders (content : Content) : Type 0 where
+  pub named : (position number : ℕ) (p : Pattern) → getD (content .0 .orders) position 0 ≡ number → number < length (content .1 .0) → plays content position ≡ getD (content .1 .0) number p
+  pub nameless : (position : ℕ) → length (content .1 .0) ≤ getD (content .0 .orders) position 0 → plays content position ≡ standard (content .0 .channels)
+
 -- The small reader: n calls from the start hand over the first n structures, in file order; after the last, each call says that the end is
 -- reached, and the reader stays where it is.
 pub record ReaderHandsOver (file : List ℕ) (found : Found) : Type 0 where
+  pub every-kind : (kind : Kind) → isStructure kind ≡ true → ofKind kind (structures found) ≡ ofKind kind (moduleFormat .regions found)
+  pub three-kinds : (isStructure patternHeader ≡ true) × (isStructure instrument ≡ true) × (isStructure sampleHeader ≡ true)
   pub each-one : (n : ℕ) → n < length (structures found) → reading file (placeAfter file n) ≡ gives (stands (regionAt (structures found) n))
   pub end-then : (n : ℕ) → length (structures found) ≤ n → reading file (placeAfter file n) ≡ gives ended
   pub stays : (n : ℕ) → length (structures found) ≤ n → placeAfter file (n + 1) ≡ placeAfter file n
 
--- The loader's numbers: at least 2^32 exactly when refused, and then number and place come back.
-pub record LoaderTells {A : Type 0} (f : A → ℕ) (answer : Answer A) : Type 0 where
-  pub accepted : (a : A) → answer ≡ gives a → loaderNumber f answer < 2 ^ 32
-  pub refused : (r : Refusal) → answer ≡ refuses r → 2 ^ 32 ≤ loaderNumber f answer
-  pub number : (r : Refusal) → answer ≡ refuses r → loaderNumber f answer / 2 ^ 32 ≡ r .number
-  pub place : (r : Refusal) → answer ≡ refuses r → loaderNumber f answer % 2 ^ 32 ≡ r .place
+pub record ReadersTell : Type 0 where
+  pub hands-over : (file : List ℕ) (found : Found) (end : ℕ) → Bytes file → readFile file ≡ got found end → ReaderHandsOver file found
+  pub refuses-so : (file : List ℕ) (r : Refusal) (place : ℕ) → readFile file ≡ refused r → reading file place ≡ refuses r
+
+-- The loader's numbers: the value that the paper names, below 2^32; at least 2^32 when refused, and then number and place come back.
+pub record LoaderTells {A : Type 0} (f : A → ℕ) (answer : Answer A) (number : ℕ) : Type 0 where
+  pub accepted : (a : A) → answer ≡ gives a → (number ≡ f a) × (number < 2 ^ 32)
+  pub refused : (r : Refusal) → answer ≡ refuses r → (2 ^ 32 ≤ number) × (number / 2 ^ 32 ≡ r .number) × (number % 2 ^ 32 ≡ r .place)
 
 pub record LoadersTell : Type 0 where
-  pub check : (file : List ℕ) → Bytes file → LoaderTells Checked.end (checking file)
-  pub unpack : (rows channels : ℕ) (stored : List ℕ) (room : ℕ) → Bytes stored → LoaderTells rowsRead (unpacking rows channels stored room)
-  pub pack : (rows channels : ℕ) (cells : List ℕ) (room : ℕ) → LoaderTells lengthAndRows (packing rows channels cells room)
-  pub press : (file : List ℕ) (room : ℕ) → Bytes file → LoaderTells pressedLength (pressing file room)
+  pub check : (file : List ℕ) → Bytes file → LoaderTells Checked.end (checking file) (checkLoader file)
+  pub unpack : (rows channels : ℕ) (stored : List ℕ) (room : ℕ) → Bytes stored → LoaderTells Pattern.rows (unpacking rows channels stored room) (unpackLoader rows channels stored room)
+  pub pack : (rows channels : ℕ) (cells : List ℕ) (room : ℕ)
+      → LoaderTells (λ (p : Pattern). length (writeStored p) + 65536 * p .rows) (packing rows channels cells room) (packLoader rows channels cells room)
+  pub pack-apart : (rows channels : ℕ) (cells : List ℕ) (room : ℕ) (p : Pattern) → packing rows channels cells room ≡ gives p
+      → (packLoader rows channels cells room % 65536 ≡ length (writeStored p)) × (packLoader rows channels cells room / 65536 ≡ p .rows)
+  pub press : (file : List ℕ) (room : ℕ) → Bytes file → LoaderTells length (pressing file room) (pressLoader file room)

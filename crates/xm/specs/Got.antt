@@ -1,4 +1,5 @@
--- What a reading step gives: "either a value with the next place, or a refusal with its number"; and the tests that decide it.
+-- What a reading step gives: "either a value with the next place, or a refusal with its number"; and the tests that decide it. The next
+-- place is said by the count of bytes used.
 use Prim.Native.Nat.{ℕ, _%_, _≤_}
 use mathlib.Core.Bool.{Bool, true, false, not, _&&_}
 use mathlib.Core.List.{List, [], _∷_}

@@ -8,8 +8,9 @@ use lib.ListN.{length, replicate}
 use Rattle.xm.specs.Number.{Bytes, byteAt, wordAt, longAt, part, byte, word, long}
 use Rattle.xm.specs.Got.{got, Reader, _>>_, Test, checked, present, atLeast, atMost, within, exactly, _at_, AllHold}
 use Rattle.xm.specs.Format.{Format, Region, header, flat}
+use Rattle.xm.specs.Stored.{channelsMost}
 
--- "mark 37", "version 58 (2)", and the two that the order of refusals names apart.
+-- "byte 37 not 1A hex, or version not 0x0104"
 abbrev pub mark : ℕ
 mark = 0x1A
 
@@ -20,37 +21,59 @@ version = 0x0104
 abbrev pub sizeFrom : ℕ
 sizeFrom = 60
 
--- "order table from 80"
+-- "order table from 80", zero-filled to 256 by the press
 abbrev pub ordersFrom : ℕ
 ordersFrom = 80
-
--- "4 | header size below 276", which the press writes: 20 bytes of fields and 256 of orders.
-abbrev pub leastHeader : (songLength : ℕ) → ℕ
-leastHeader songLength = 276
 
 abbrev pub ordersMost : ℕ
 ordersMost = 256
 
+-- "4 | header size below 276", which the press writes
+abbrev pub leastHeader : (songLength : ℕ) → ℕ
+leastHeader songLength = 276
+
+-- The fields that are tested, at their offsets.
+abbrev pub markAt : List ℕ → ℕ
+markAt s = byteAt 37 s
+
+abbrev pub versionAt : List ℕ → ℕ
+versionAt s = wordAt 58 s
+
+abbrev pub sizeAt : List ℕ → ℕ
+sizeAt s = longAt sizeFrom s
+
+abbrev pub songLengthAt : List ℕ → ℕ
+songLengthAt s = wordAt 64 s
+
+abbrev pub channelsAt : List ℕ → ℕ
+channelsAt s = wordAt 68 s
+
+abbrev pub patternsAt : List ℕ → ℕ
+patternsAt s = wordAt 70 s
+
+abbrev pub instrumentsAt : List ℕ → ℕ
+instrumentsAt s = wordAt 72 s
+
 abbrev pub headerEnd : List ℕ → ℕ
-headerEnd s = longAt 60 s + sizeFrom
+headerEnd s = sizeAt s + sizeFrom
 
 -- "5 | song length or patterns not 1..256, channels not 1..64, instruments above 128"
 abbrev pub countTests : (songLength patterns channels instruments place : ℕ) → List Test
 countTests songLength patterns channels instruments place =
-    within 1 256 songLength (5 at place)
+    within 1 ordersMost songLength (5 at place)
     ∷ within 1 256 patterns (5 at place)
-    ∷ within 1 64 channels (5 at place)
+    ∷ within 1 channelsMost channels (5 at place)
     ∷ atMost 128 instruments (5 at place)
     ∷ []
 
 -- "the first 80 bytes present (1); 3; 4; 5; header size + 60 within the file (1)"
 abbrev pub headerTests : (place : ℕ) → List ℕ → List Test
 headerTests place s =
-    present 80 (length s) (1 at place)
-    ∷ exactly mark (byteAt 37 s) (3 at place)
-    ∷ exactly version (wordAt 58 s) (3 at place)
-    ∷ atLeast (leastHeader (wordAt 64 s)) (longAt 60 s) (4 at place)
-    ∷ countTests (wordAt 64 s) (wordAt 70 s) (wordAt 68 s) (wordAt 72 s) place
+    present ordersFrom (length s) (1 at place)
+    ∷ exactly mark (markAt s) (3 at place)
+    ∷ exactly version (versionAt s) (3 at place)
+    ∷ atLeast (leastHeader (songLengthAt s)) (sizeAt s) (4 at place)
+    ∷ countTests (songLengthAt s) (patternsAt s) (channelsAt s) (instrumentsAt s) place
     ++ (present (headerEnd s) (length s) (1 at place) ∷ [])
 
 -- The content of a header.
@@ -78,15 +101,15 @@ abbrev pub headerOf : List ℕ → Header
 headerOf s = record {
   moduleName = part 17 20 s;
   trackerName = part 38 20 s;
-  songLength = wordAt 64 s;
-  restart = restartOf (wordAt 64 s) (wordAt 66 s);
-  channels = wordAt 68 s;
-  patterns = wordAt 70 s;
-  instruments = wordAt 72 s;
+  songLength = songLengthAt s;
+  restart = restartOf (songLengthAt s) (wordAt 66 s);
+  channels = channelsAt s;
+  patterns = patternsAt s;
+  instruments = instrumentsAt s;
   flags = wordAt 74 s;
   tempo = wordAt 76 s;
   bpm = wordAt 78 s;
-  orders = part ordersFrom (wordAt 64 s) s;
+  orders = part ordersFrom (songLengthAt s) s;
 }
 
 pub record HeaderFound : Type 0 where

@@ -18,17 +18,27 @@ leastInstrument (suc k) = 263
 abbrev pub samplesMost : ℕ
 samplesMost = 16
 
+-- The fields that are tested, at their offsets: I, k and H.
+abbrev pub instrumentSizeAt : List ℕ → ℕ
+instrumentSizeAt s = longAt 0 s
+
+abbrev pub countAt : List ℕ → ℕ
+countAt s = wordAt 27 s
+
+abbrev pub headerSizeAt : List ℕ → ℕ
+headerSizeAt s = longAt 29 s
+
 -- "29 bytes present (1); 10; I bytes present (1); and if k > 0: 11; all k headers present (1)", all at the instrument's start.
 -- 10: "I below 29, k above 16, or I below 263 with k above 0"
 abbrev pub instrumentTests : (place : ℕ) → List ℕ → List Test
 instrumentTests place s =
     present (leastInstrument 0) (length s) (1 at place)
-    ∷ atLeast (leastInstrument 0) (longAt 0 s) (10 at place)
-    ∷ atMost samplesMost (wordAt 27 s) (10 at place)
-    ∷ when (ltb 0 (wordAt 27 s)) (atLeast (leastInstrument 1) (longAt 0 s) (10 at place))
-    ∷ present (longAt 0 s) (length s) (1 at place)
-    ∷ when (ltb 0 (wordAt 27 s)) (atLeast leastHead (longAt 29 s) (11 at place))
-    ∷ when (ltb 0 (wordAt 27 s)) (present (longAt 0 s + wordAt 27 s * longAt 29 s) (length s) (1 at place))
+    ∷ atLeast (leastInstrument 0) (instrumentSizeAt s) (10 at place)
+    ∷ atMost samplesMost (countAt s) (10 at place)
+    ∷ when (ltb 0 (countAt s)) (atLeast (leastInstrument 1) (instrumentSizeAt s) (10 at place))
+    ∷ present (instrumentSizeAt s) (length s) (1 at place)
+    ∷ when (ltb 0 (countAt s)) (atLeast leastHead (headerSizeAt s) (11 at place))
+    ∷ when (ltb 0 (countAt s)) (present (instrumentSizeAt s + countAt s * headerSizeAt s) (length s) (1 at place))
     ∷ []
 
 -- "each instrument's name, type, k, and if k > 0 bytes 33 to 240": k is the number of samples.
@@ -58,10 +68,10 @@ pub record InstrumentFound : Type 0 where
 
 unfoldable pub readInstrument : Reader InstrumentFound
 readInstrument place s = do
-  let size = longAt 0 s
-  let k = wordAt 27 s
+  let size = instrumentSizeAt s
+  let k = countAt s
   checked (instrumentTests place s)
-  (samples, used) ← samplesFormat .read (replicate k (longAt 29 s)) (place + size) (drop size s)
+  (samples, used) ← samplesFormat .read (replicate k (headerSizeAt s)) (place + size) (drop size s)
   got (record { place = place; size = size; name = part 4 22 s; type = byteAt 26 s; voice = voiceOf k s; samples = samples }) (size + used)
 
 -- "I = 29 or 263, reserved bytes 0, H = 40"

@@ -42,6 +42,7 @@ readWhole F file = do
 abbrev pub readFile : (file : List ℕ) → Got Found
 readFile file = readWhole moduleFormat file
 
--- "An order entry naming no pattern is accepted; it stands for the standard empty pattern": what an order position plays.
+-- "An order entry naming no pattern is accepted; it stands for the standard empty pattern": what an order position within the song length
+-- plays.
 unfoldable pub plays : Content → (position : ℕ) → Pattern
 plays content position = getD (content .1 .0) (getD (content .0 .orders) position 0) (standard (content .0 .channels))

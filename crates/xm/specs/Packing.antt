@@ -5,12 +5,12 @@ use lib.ListN.{length, getD, drop}
 use Rattle.xm.specs.Got.{got, _>>=_, _>>_, Test, checked, present, atMost, within, exactly, _at_}
 use Rattle.xm.specs.Format.{flat}
 use Rattle.xm.specs.Answer.{Answer, answered, result, numbers, after, loaderNumber}
-use Rattle.xm.specs.Cell.{noteMost}
-use Rattle.xm.specs.Stored.{Pattern, readStored, writeStored, cellsOf}
+use Rattle.xm.specs.Cell.{noteMost, cellSize}
+use Rattle.xm.specs.Stored.{rowsMost, channelsMost, Pattern, readStored, writeStored, cellsOf}
 use Rattle.xm.specs.PatternInFile.{dataMost}
 
 abbrev pub argumentTests : (rows channels : ℕ) → List Test
-argumentTests rows channels = within 1 256 rows (16 at 0) ∷ within 1 64 channels (16 at 0) ∷ []
+argumentTests rows channels = within 1 rowsMost rows (16 at 0) ∷ within 1 channelsMost channels (16 at 0) ∷ []
 
 -- "fills five bytes a cell"
 abbrev pub cellBytes : Pattern → List ℕ
@@ -37,7 +37,7 @@ unpackAfter rows channels stored cells = after cellBytes (unpacking rows channel
 -- "9 in packing gives the cell's first byte"
 abbrev pub noteTests : (count place : ℕ) (cells : List ℕ) → List Test
 noteTests zero place cells = []
-noteTests (suc count) place cells = atMost noteMost (getD cells 0 0) (9 at place) ∷ noteTests count (place + 5) (drop 5 cells)
+noteTests (suc count) place cells = atMost noteMost (getD cells 0 0) (9 at place) ∷ noteTests count (place + cellSize) (drop cellSize cells)
 
 -- The pattern that lent cell bytes stand for.
 abbrev pub patternOf : (rows channels : ℕ) (cells : List ℕ) → Pattern
@@ -47,7 +47,7 @@ patternOf rows channels cells = record { rows = rows; cells = cellsOf (rows * ch
 unfoldable pub packing : (rows channels : ℕ) (cells : List ℕ) (room : ℕ) → Answer Pattern
 packing rows channels cells room = answered (λ p used. p) (do
   let p = patternOf rows channels cells
-  checked (argumentTests rows channels ++ (exactly (rows * channels * 5) (length cells) (16 at 0) ∷ []))
+  checked (argumentTests rows channels ++ (exactly (rows * channels * cellSize) (length cells) (16 at 0) ∷ []))
   checked (noteTests (rows * channels) 0 cells)
   checked (atMost dataMost (length (writeStored p)) (15 at 0) ∷ present (length (writeStored p)) room (14 at 0) ∷ [])
   got p 0)

@@ -27,11 +27,17 @@ pressing file room = pressingAs moduleFormat file room
 abbrev pub pressedLength : List ℕ → ℕ
 pressedLength bytes = length bytes
 
+abbrev pub pressNumbersAs : {I A : Type 0} → Format (Unit {0}) I A → (file : List ℕ) (room : ℕ) → List ℕ
+pressNumbersAs F file room = numbers (pressedLength ∷ []) (pressingAs F file room)
+
+abbrev pub pressAfterAs : {I A : Type 0} → Format (Unit {0}) I A → (file out : List ℕ) → List ℕ
+pressAfterAs F file out = after (λ bytes. bytes) (pressingAs F file (length out)) out
+
 abbrev pub pressNumbers : (file : List ℕ) (room : ℕ) → List ℕ
-pressNumbers file room = numbers (pressedLength ∷ []) (pressing file room)
+pressNumbers file room = pressNumbersAs moduleFormat file room
 
 abbrev pub pressAfter : (file out : List ℕ) → List ℕ
-pressAfter file out = after (λ bytes. bytes) (pressing file (length out)) out
+pressAfter file out = pressAfterAs moduleFormat file out
 
 abbrev pub pressLoader : (file : List ℕ) (room : ℕ) → ℕ
 pressLoader file room = loaderNumber pressedLength (pressing file room)

@@ -6,7 +6,14 @@ use lib.Dec.{eqb}
 use lib.ListN.{length, drop, replicate}
 use Rattle.xm.specs.Got.{got, Reader, _>>=_, _>>_, checked, atMost, _at_}
 use Rattle.xm.specs.Format.{each, EachGood, joined, flat}
-use Rattle.xm.specs.Cell.{five, cellFormat, writeCell}
+use Rattle.xm.specs.Cell.{cellSize, five, cellFormat, writeCell}
+
+-- "rows not 1..256", "channels not 1..64"
+abbrev pub rowsMost : ℕ
+rowsMost = 256
+
+abbrev pub channelsMost : ℕ
+channelsMost = 64
 
 -- A pattern: "Cells run row by row, channel by channel."
 pub record Pattern : Type 0 where
@@ -14,11 +21,14 @@ pub record Pattern : Type 0 where
   pub cells : List (List ℕ)
 
 abbrev pub emptyRows : (channels rows : ℕ) → Pattern
-emptyRows channels rows = record { rows = rows; cells = replicate (rows * channels) (replicate 5 0) }
+emptyRows channels rows = record { rows = rows; cells = replicate (rows * channels) (replicate cellSize 0) }
 
 -- "the standard empty one: 64 rows of empty cells"
+abbrev pub standardRows : ℕ
+standardRows = 64
+
 abbrev pub standard : (channels : ℕ) → Pattern
-standard channels = emptyRows channels 64
+standard channels = emptyRows channels standardRows
 
 -- "With S = 0 the pattern is the standard empty one, whatever row number stands there."
 abbrev pub whenNoData : (channels rows : ℕ) → Pattern
@@ -41,7 +51,7 @@ allZero [] = true
 allZero (x ∷ xs) = eqb x 0 && allZero xs
 
 unfoldable pub needsNoData : Pattern → Bool
-needsNoData p = eqb (p .rows) 64 && allZero (flat (p .cells))
+needsNoData p = eqb (p .rows) standardRows && allZero (flat (p .cells))
 
 unfoldable pub writeStored : Pattern → List ℕ
 writeStored p = cond (needsNoData p) [] (joined writeCell (p .cells))
@@ -49,10 +59,10 @@ writeStored p = cond (needsNoData p) [] (joined writeCell (p .cells))
 pub record GoodPattern (channels : ℕ) (p : Pattern) : Type 0 where
   pub some : 1 ≤ channels
   pub low : 1 ≤ p .rows
-  pub high : p .rows ≤ 256
+  pub high : p .rows ≤ rowsMost
   pub good : EachGood cellFormat (replicate (p .rows * channels) tt) (p .cells)
 
 -- Cell bytes as they are lent, five to a cell.
 unfoldable pub cellsOf : ℕ → List ℕ → List (List ℕ)
 cellsOf zero bytes = []
-cellsOf (suc n) bytes = five bytes ∷ cellsOf n (drop 5 bytes)
+cellsOf (suc n) bytes = five bytes ∷ cellsOf n (drop cellSize bytes)

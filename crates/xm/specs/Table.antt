@@ -6,7 +6,7 @@ use lib.IntN.{ℤ}
 use lib.ListN.{length}
 use Rattle.xm.specs.Got.{got, _>>=_, _>>_, Test, checked, present, _at_}
 use Rattle.xm.specs.Format.{joined}
-use Rattle.xm.specs.Answer.{Answer, gives, refuses, answered, numbers, inFront, loaderNumber}
+use Rattle.xm.specs.Answer.{Answer, gives, refuses, answered, numbers, inFront, after, loaderNumber}
 use Rattle.xm.specs.Stored.{Pattern}
 use Rattle.xm.specs.PatternInFile.{PatternFound}
 use Rattle.xm.specs.Sample.{Stretch, widthOf, finetune, relativeNote}
@@ -87,8 +87,11 @@ checkResults =
     ∷ (λ c. length (sampleRows (c .found)))
     ∷ []
 
+abbrev pub checkedAs : Found → (end : ℕ) → Checked
+checkedAs found end = record { found = found; end = end }
+
 unfoldable pub checking : (file : List ℕ) → Answer Checked
-checking file = answered (λ found end. record { found = found; end = end }) (readFile file)
+checking file = answered checkedAs (readFile file)
 
 abbrev pub checkNumbers : (file : List ℕ) → List ℕ
 checkNumbers file = numbers checkResults (checking file)
@@ -143,10 +146,13 @@ roomTests room found =
 
 -- "14 is tried last of all."
 unfoldable pub checkingInto : Room → (file : List ℕ) → Answer Checked
-checkingInto room file = answered (λ found end. record { found = found; end = end }) (do
+checkingInto room file = answered checkedAs (do
   (found, end) ← readFile file
   checked (roomTests room found)
   got found end)
+
+abbrev pub checkIntoNumbers : Room → (file : List ℕ) → List ℕ
+checkIntoNumbers room file = numbers checkResults (checkingInto room file)
 
 abbrev pub roomOf : Tables → Room
 roomOf lent = record {
@@ -164,3 +170,14 @@ tablesAfter (gives c) lent = record {
   tunes = inFront (joined sampleTunes (sampleRows (c .found))) (lent .tunes);
 }
 tablesAfter (refuses r) lent = lent
+
+-- "The sample table is a lent row of records, one to a sample", beside flat pattern and instrument tables: its room is its rows.
+abbrev pub roomWith : (patterns instruments : List ℕ) (rows : List SampleRow) → Room
+roomWith patterns instruments rows = record {
+  patterns = length patterns / patternStride;
+  instruments = length instruments / instrumentStride;
+  samples = length rows;
+}
+
+abbrev pub rowsAfter : Answer Checked → (lent : List SampleRow) → List SampleRow
+rowsAfter answer lent = after (λ c. sampleRows (c .found)) answer lent

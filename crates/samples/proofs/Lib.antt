@@ -1,0 +1,4 @@
+pub mod Sign
+pub mod Loops
+pub mod Exits
+pub mod Calls
