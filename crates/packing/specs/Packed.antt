@@ -1,0 +1,32 @@
+-- The code's answers as the definitions' ones.
+use Prim.Native.Nat.{ℕ, _*_}
+use mathlib.Core.Bool.{cond, _&&_}
+use mathlib.Core.List.{[], _∷_, _++_}
+use lib.Dec.{eqb}
+use lib.ListN.{length}
+use Rattle.refusal.specs.Fault.{faultOf}
+use Rattle.xm.specs.Got.{Got, got, refused, AllHold, exactly, _at_}
+use Rattle.xm.specs.Answer.{Answer, gives, refuses}
+use Rattle.xm.specs.Stored.{Pattern, writeStored}
+use Rattle.xm.specs.Packing.{argumentTests}
+use Rattle.packing.specs.declared.Packed.{Packed}
+use Rattle.packing.specs.declared.Packed.the-variants.{Stored, Refused}
+use Rattle.packing.specs.declared.Measured.{Measured}
+use Rattle.packing.specs.declared.Measured.the-variants.{Shortest, Faulty}
+
+-- "It reports length and rows."
+abbrev pub packedOf : Answer Pattern → Packed
+packedOf (gives p) = Stored (record { length = length (writeStored p); rows = p .rows })
+packedOf (refuses r) = Refused (faultOf r)
+
+-- For contracts inside the crate: the tests for 16, over the count of cell bytes; the notes' tests with the length of the cells; and
+-- the length of a stored form by that of its cells, which is their count if all are empty.
+abbrev pub ArgumentsHold : (rows channels bytes : ℕ) → Type 0
+ArgumentsHold rows channels bytes = AllHold (argumentTests rows channels ++ (exactly (rows * channels * 5) bytes (16 at 0) ∷ []))
+
+abbrev pub measuredOf : Got (Unit {0}) → (shortest : ℕ) → Measured
+measuredOf (got u n) shortest = Shortest shortest
+measuredOf (refused r) shortest = Faulty (faultOf r)
+
+unfoldable pub sizeBy : (rows count shortest : ℕ) → ℕ
+sizeBy rows count shortest = cond (eqb rows 64 && eqb shortest count) 0 shortest
