@@ -1,0 +1,9 @@
+pub mod Step
+pub mod Short
+pub mod Row
+pub mod Fill
+pub mod Stored
+pub mod Unpacking
+pub mod Wide
+pub mod Run
+pub mod FillRun

@@ -1,0 +1,137 @@
+-- Laws of unpacking: what its tests and its reading say, and its answers and its memory at each exit; that both are fixed.
+-- Assumes nothing.
+use Prim.Native.Nat.{ℕ, zero, suc, _+_, _*_, _≤_}
+use mathlib.Core.Bool.{true, and-eq-true-iff}
+use mathlib.Core.List.{List, [], _∷_, _++_}
+use mathlib.Core.Path.{_≡_, refl, sym, ap, _∙_}
+use native.Mathlib.Nat.{mul-le-mul}
+use native.Mathlib.Omega.{arith}
+use lib.ListN.{length, replicate, length-replicate, replicate-append-replicate}
+use Rattle.xm.specs.Got.{Refusal, Got, got, refused, Test, passes, AllHold}
+use Rattle.xm.specs.Format.{flat}
+use Rattle.xm.specs.Answer.{gives, refuses, inFront}
+use Rattle.xm.specs.Stored.{Pattern, readCells, readStored}
+use Rattle.xm.specs.Packing.{argumentTests, cellBytes, unpacking, unpackAfter}
+use Rattle.xm.proofs.Got.{holds-passes, passes-holds, passed, bind-got, got-carry}
+use Rattle.xm.proofs.Stored.{stored-empty, stored-some}
+use Rattle.refusal.specs.Fault.{faultOf}
+use Rattle.cells.specs.declared.StoredSize.{StoredSize}
+use Rattle.cells.specs.declared.StoredStep.the-variants.{Read, Refused as RefusedStored}
+use Rattle.cells.specs.declared.Unpacked.{Unpacked}
+use Rattle.cells.specs.declared.Unpacked.the-variants.{Rows, Refused as RefusedUnpacked}
+use Rattle.refusal.specs.declared.Fault.{Fault}
+use Rattle.cells.specs.Row.{readRow, accepted, cellsIn}
+use Rattle.cells.specs.Unpacked.{storedOf, unpackedOf}
+use Rattle.cells.specs.Inside.{passAll}
+use Rattle.cells.proofs.Row.{row-of}
+use Rattle.cells.proofs.Fill.{cells-length}
+
+-- Tests pass all together exactly if they all hold
+pub pass-holds : (ts : List Test) → passAll ts ≡ true → AllHold ts
+pass-holds [] e = tt
+pass-holds (t ∷ ts) e = let b = and-eq-true-iff (passes t) (passAll ts) .0 e in (passes-holds t (b .0), pass-holds ts (b .1))
+
+pub holds-pass : (ts : List Test) → AllHold ts → passAll ts ≡ true
+holds-pass [] h = refl
+holds-pass (t ∷ ts) h = and-eq-true-iff (passes t) (passAll ts) .1 (holds-passes t (h .0), holds-pass ts (h .1))
+
+pub count-most : (rows channels : ℕ) → AllHold (argumentTests rows channels) → rows * channels ≤ 256 * 64
+count-most rows channels h = mul-le-mul (h .0 .1) (h .1 .0 .1)
+
+-- Empty cells, end to end
+pub flat-zeros : (n : ℕ) → flat {A = ℕ} (replicate n (replicate 5 0)) ≡ replicate (n * 5) 0
+flat-zeros zero = refl
+flat-zeros (suc n) =
+    let e : 5 + n * 5 ≡ suc n * 5 = omega arith in
+    ap (λ (l : List ℕ). replicate 5 0 ++ l) (flat-zeros n) ∙ replicate-append-replicate 5 (n * 5) 0 ∙ ap (λ (k : ℕ). replicate k 0) e
+
+-- What reading a stored pattern found
+pub record Found (channels rows : ℕ) (d : List ℕ) (size : StoredSize) : Type 0 where
+  pub pattern : Pattern
+  pub used : ℕ
+  pub reads : readStored channels rows 0 d ≡ got pattern used
+  pub same : size .rows ≡ pattern .rows
+
+pub found-of : (channels rows : ℕ) (d : List ℕ) (size : StoredSize) → Read size ≡ storedOf d (readStored channels rows 0 d) → Found channels rows d size
+found-of channels rows d size e = go (readStored channels rows 0 d) refl e
+  where
+    go : (g : Got Pattern) → readStored channels rows 0 d ≡ g → Read size ≡ storedOf d g → Found channels rows d size
+    go (got p n) q e = record { pattern = p; used = n; reads = q; same = cc }
+    go (refused r) q e = absurd (let z : _≡_ {A = ℕ} 0 1 = cc in omega arith)
+
+pub fault-of : (channels rows : ℕ) (d : List ℕ) (fault : Fault) → RefusedStored fault ≡ storedOf d (readStored channels rows 0 d)
+    → (r : Refusal) × ((readStored channels rows 0 d ≡ refused r) × (fault ≡ faultOf r))
+fault-of channels rows d fault e = go (readStored channels rows 0 d) refl e
+  where
+    go : (g : Got Pattern) → readStored channels rows 0 d ≡ g → RefusedStored fault ≡ storedOf d g
+        → (r : Refusal) × ((readStored channels rows 0 d ≡ refused r) × (fault ≡ faultOf r))
+    go (got p n) q e = absurd (let z : _≡_ {A = ℕ} 0 1 = cc in omega arith)
+    go (refused r) q e = (r, (q, cc))
+
+-- With some data, the cells of the pattern are those in a row, and they were accepted
+record FromCells (channels rows : ℕ) (d : List ℕ) (p : Pattern) : Type 0 where
+  pub rows-same : p .rows ≡ rows
+  pub cells : p .cells ≡ cellsIn (rows * channels) d
+  pub fine : accepted (readRow (rows * channels) 0 d) ≡ true
+
+from-cells : (channels rows : ℕ) (d : List ℕ) (p : Pattern) (n : ℕ) → 1 ≤ length d → readStored channels rows 0 d ≡ got p n → FromCells channels rows d p
+unfolding readCells
+from-cells channels rows d p n some e =
+    bind-got _ _ (sym (stored-some channels rows 0 d some) ∙ e) λ cells m ec e. passed _ _ e λ h e.
+    got-carry (λ (q : Pattern) (u : ℕ). FromCells channels rows d q) e
+    (record { rows-same = refl; cells = row-of (rows * channels) 0 d cells m ec .same; fine = ap accepted ec })
+
+-- What is to be filled: zeros, or the cells in a row; five bytes a cell
+module _ {channels rows : ℕ} {d : List ℕ} {size : StoredSize} (f : Found channels rows d size) where
+  pub bytes-none : length d ≡ 0 → cellBytes (f .pattern) ≡ replicate (size .rows * channels * 5) 0
+  bytes-none z =
+      let e = stored-empty channels rows 0 d (f .pattern) (f .used) z (f .reads) in
+      let r : 64 ≡ size .rows = sym (f .same ∙ ap (λ (p : Pattern). p .rows) e) in
+      ap cellBytes e ∙ flat-zeros (64 * channels) ∙ ap (λ (n : ℕ). replicate (n * channels * 5) 0) r
+
+  module _ (some : 1 ≤ length d) where
+    from : FromCells channels rows d (f .pattern)
+    from = from-cells channels rows d (f .pattern) (f .used) some (f .reads)
+
+    pub rows-some : size .rows ≡ rows
+    unfolding from
+    rows-some = f .same ∙ from .rows-same
+
+    pub fine-some : accepted (readRow (size .rows * channels) 0 d) ≡ true
+    unfolding from
+    fine-some = rw rows-some (from .fine)
+
+    pub bytes-some : cellBytes (f .pattern) ≡ flat (cellsIn (size .rows * channels) d)
+    unfolding from
+    bytes-some = rw rows-some (ap flat (from .cells))
+
+  pub bytes-long : length (cellBytes (f .pattern)) ≡ size .rows * channels * 5
+  bytes-long = go (length d) refl
+    where
+      go : (n : ℕ) → length d ≡ n → length (cellBytes (f .pattern)) ≡ size .rows * channels * 5
+      go zero e = ap length (bytes-none e) ∙ length-replicate (size .rows * channels * 5) 0
+      go (suc n) e = ap length (bytes-some (omega arith)) ∙ cells-length (size .rows * channels) d
+
+  pub rows-most : rows ≤ 256 → size .rows ≤ 256
+  rows-most h = go (length d) refl
+    where
+      go : (n : ℕ) → length d ≡ n → size .rows ≤ 256
+      go zero e = let q = ap (λ (p : Pattern). p .rows) (stored-empty channels rows 0 d (f .pattern) (f .used) e (f .reads)) in omega (arith, f .same)
+      go (suc n) e = omega (arith, rows-some (omega arith))
+
+-- An answer and the memory, from what unpacking comes to
+module _ (rows channels : ℕ) (stored lent : List ℕ) where
+  abbrev pub Answers : (answer : Unpacked) (left : List ℕ) → Type 0
+  Answers answer left = (answer ≡ unpackedOf (unpacking rows channels stored (length lent))) × (left ≡ unpackAfter rows channels stored lent)
+
+  pub answers-refusal : {r : Refusal} {fault : Fault} → unpacking rows channels stored (length lent) ≡ refuses r → fault ≡ faultOf r
+      → Answers (RefusedUnpacked fault) lent
+  answers-refusal e f = (rw e (ap RefusedUnpacked f), rw e)
+
+  pub answers-pattern : {p : Pattern} {reported : ℕ} {left : List ℕ} → unpacking rows channels stored (length lent) ≡ gives p → reported ≡ p .rows
+      → left ≡ inFront (cellBytes p) lent → Answers (Rows reported) left
+  answers-pattern e r m = (rw e (ap Rows r), rw e m)
+
+  -- Two answers and memories that both meet the contract are the same
+  pub answers-fixed : (one other : Unpacked) (left kept : List ℕ) → Answers one left → Answers other kept → (one ≡ other) × (left ≡ kept)
+  answers-fixed one other left kept a b = (a .0 ∙ sym (b .0), a .1 ∙ sym (b .1))

@@ -1,0 +1,151 @@
+-- `cells::measure_cells` meets its contract. The loop's invariant: the answer is what measuring comes to from here on; `ready` is what holds
+-- in a turn past the empty cells. Assumes nothing.
+use Prim.Native.Nat.{_+_, _-_, _≤_}
+use mathlib.Core.Bool.{Bool, _&&_}
+use mathlib.Core.Logic.{⊎-elim}
+use mathlib.Core.Path.{sym, ap, _∙_}
+use native.Mathlib.Omega.{arith}
+use borrow.Author.Tests.{leb-true}
+use lib.Count.{ones, onesIn}
+use lib.ListN.{length, drop}
+use denote.Ref.{now}
+use Rattle.xm.specs.Cell.{lengthBy, cellAt}
+use Rattle.xm.proofs.Cell.{cell-length}
+use Rattle.xm.proofs.Lay.{head-at}
+use Rattle.cells.specs.Row.{readRow, measuredOf}
+use Rattle.cells.specs.Inside.{shortestBy}
+use Rattle.cells.proofs.Short.{shortest-by, short-by, kept-most}
+use Rattle.cells.proofs.Row.{measure-all, Measuring}
+use Rattle.cells.proofs.Wide.{ones-table}
+use Rattle.cells.proofs.Run.{Ready, ready-stay, ready-run, ready-cell, ready-note}
+use borrow.Author.Needs.{needs}
+use Rattle.cells.proofs.measure_cells.Statement.{statement}
+use Rattle.cells.proofs.measure_cells.Tie as tie
+
+abbrev Inv-loop : tie.InvT-loop
+Inv-loop stored count table used₀ shortest₀ same₀ left₀ used shortest same left = Measuring stored (measuredOf stored (readRow count 0 stored)) used shortest same left
+
+abbrev μ-loop : tie.MeasureT-loop
+μ-loop stored count table used₀ shortest₀ same₀ left₀ used shortest same left = left
+
+ready : (j : tie.Joined2 Inv-loop μ-loop) → Ready (now (j .before .before .before .before .before .before .args .stored)) (measuredOf (now (j .before .before .before .before .before .before .args .stored)) (readRow (j .before .before .before .before .before .before .args .count) 0 (now (j .before .before .before .before .before .before .args .stored))))
+    (j .if2 .used) (j .if2 .shortest) (j .before .before .before .before .loop .same) (j .if2 .left) (j .before .before .before .before .loop .left)
+ready j =
+    let l = j .before .before .before .before .loop in
+    let many : 9 ≤ l .left = omega arith in
+    let wide : 16 ≤ length (now (j .before .before .before .before .before .before .args .stored)) - l .used = omega (arith, leb-true) in
+    ⊎-elim (λ w. ready-run (l .inv) many wide (w .1 .result) (w .1 .ensures) (w .2) (w .3) (w .4)) (λ w. ready-stay (l .inv) many wide (w .1) (w .2) (w .3)) (j .if2 .came)
+
+turn : (c : tie.After-row-known2 Inv-loop μ-loop) → Measuring (now (c .before .before .before .before .before .before .before .before .before .before .before .before .before .before .before .before .before .args .stored)) (measuredOf (now (c .before .before .before .before .before .before .before .before .before .before .before .before .before .before .before .before .before .args .stored)) (readRow (c .before .before .before .before .before .before .before .before .before .before .before .before .before .before .before .before .before .args .count) 0 (now (c .before .before .before .before .before .before .before .before .before .before .before .before .before .before .before .before .before .args .stored))))
+    (c .before .before .before .before .before .before .before .before .before .before .before .if2 .used + c .before .before .before .before .length-by .result) (c .before .before .before .before .before .before .before .before .before .before .before .if2 .shortest + c .before .shortest-by .result) (c .before .before .still-same .result) (c .before .before .before .before .before .before .before .before .before .before .before .if2 .left - 1)
+turn c =
+    let j = c .before .before .before .before .before .before .before .before .before .before .before in
+    let used = j .if2 .used in
+    let s = now (j .before .before .before .before .before .before .args .stored) in
+    let length = c .before .before .before .before .length-by .ensures in
+    let kept = c .before .before .before .kept-at .ensures in
+    ready-cell (ready j) (omega (arith, c .before .before .before .before .before .before .before .note-by .ensures)) length
+    (c .before .shortest-by .ensures ∙ ap shortestBy kept ∙ shortest-by (cellAt (drop used s)) (cell-length (drop used s)))
+    (c .before .before .still-same .ensures ∙ ap (λ (b : Bool). j .before .before .before .before .loop .same && b) (short-by (drop used s) _ _ _ (sym (head-at used s 0)) (length ∙ ap lengthBy (sym (head-at used s 0))) kept))
+
+loop-holds : tie.Need-loop-holds Inv-loop μ-loop
+loop-holds c = record { inside = omega arith; small = omega arith; rest = measure-all _ _ }
+
+sub-if1 : tie.Need-sub-if1 Inv-loop μ-loop
+sub-if1 c = omega arith
+
+shared-slice-read-if2 : tie.Need-shared-slice-read-if2 Inv-loop μ-loop
+shared-slice-read-if2 c = omega (arith, leb-true)
+
+empty-run-requires : tie.Need-empty-run-requires Inv-loop μ-loop
+empty-run-requires c κs = omega (arith, leb-true)
+
+add-used : tie.Need-add-used Inv-loop μ-loop
+add-used c = omega (arith, leb-true, c .empty-run .ensures .few)
+
+add-shortest : tie.Need-add-shortest Inv-loop μ-loop
+add-shortest c = omega (arith, leb-true, c .empty-run .ensures .few, c .before .before .before .before .before .loop .inv .small)
+
+sub-left : tie.Need-sub-left Inv-loop μ-loop
+sub-left c = omega (arith, c .empty-run .ensures .few)
+
+shared-slice-read-lead : tie.Need-shared-slice-read-lead Inv-loop μ-loop
+shared-slice-read-lead c = omega (arith, ready (c .before) .wide)
+
+add-note-by : tie.Need-add-note-by Inv-loop μ-loop
+add-note-by c = omega (arith, ready (c .before .before) .wide)
+
+shared-slice-read-note-by : tie.Need-shared-slice-read-note-by Inv-loop μ-loop
+shared-slice-read-note-by c = omega (arith, ready (c .before .before .before) .wide)
+
+note-by-requires : tie.Need-note-by-requires Inv-loop μ-loop
+note-by-requires c κs = search needs
+
+returns : tie.Need-returns Inv-loop μ-loop
+returns c = ready-note (ready (c .before .before .before .before .before)) (omega (arith, c .before .note-by .ensures))
+
+length-by-requires : tie.Need-length-by-requires Inv-loop μ-loop
+unfolding ones onesIn
+length-by-requires c κs = ones-table
+
+kept-at-requires : tie.Need-kept-at-requires Inv-loop μ-loop
+kept-at-requires c κs = (omega (arith, ready (c .before .before .before .before .before .before .before) .wide), c .length-by .ensures)
+
+still-same-requires : tie.Need-still-same-requires Inv-loop μ-loop
+still-same-requires c κs =
+    let j = c .before .before .before .before .before .before .before .before in
+    omega (arith, c .kept-at .ensures, kept-most (drop (j .if2 .used) (now (j .before .before .before .before .before .before .args .stored))))
+
+shortest-by-requires : tie.Need-shortest-by-requires Inv-loop μ-loop
+shortest-by-requires c κs = search needs
+
+add-shortest-2 : tie.Need-add-shortest-2 Inv-loop μ-loop
+add-shortest-2 c = let m = turn c in omega (arith, m .small, m .inside)
+
+add-used-2 : tie.Need-add-used-2 Inv-loop μ-loop
+add-used-2 c = let m = turn c in omega (arith, m .inside)
+
+sub-left-2 : tie.Need-sub-left-2 Inv-loop μ-loop
+sub-left-2 c = omega (arith, ready (c .before .before .before .before .before .before .before .before .before .before .before .before) .some)
+
+loop-less : tie.Need-loop-less Inv-loop μ-loop
+loop-less c = let r = ready (c .before .before .before .before .before .before .before .before .before .before .before .before) in omega (arith, r .some, r .fewer)
+
+loop-again : tie.Need-loop-again Inv-loop μ-loop
+loop-again c = turn (c .before)
+
+measure-from-requires : tie.Need-measure-from-requires Inv-loop μ-loop
+measure-from-requires c κs = (omega arith, omega arith)
+
+returns-2 : tie.Need-returns-2 Inv-loop μ-loop
+returns-2 c = c .measure-from .ensures ∙ sym (c .before .before .loop .inv .rest)
+
+pub measure-cells-spec : {M : Type 1} → statement M
+measure-cells-spec =
+    tie.close
+    (tie.spec
+    Inv-loop
+    μ-loop
+    loop-holds
+    sub-if1
+    shared-slice-read-if2
+    empty-run-requires
+    add-used
+    add-shortest
+    sub-left
+    shared-slice-read-lead
+    add-note-by
+    shared-slice-read-note-by
+    note-by-requires
+    returns
+    length-by-requires
+    kept-at-requires
+    still-same-requires
+    shortest-by-requires
+    add-shortest-2
+    add-used-2
+    sub-left-2
+    loop-less
+    loop-again
+    measure-from-requires
+    returns-2)

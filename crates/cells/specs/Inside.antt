@@ -1,0 +1,79 @@
+-- For contracts inside the library: what the loops and helpers come to.
+use Prim.Native.Nat.{ℕ, zero, suc, _+_, _/_, _≤_}
+use mathlib.Core.Bool.{Bool, true, false, cond, _&&_}
+use mathlib.Core.List.{List, [], _∷_, _++_}
+use lib.Dec.{ltb, eqb}
+use lib.ListN.{length, getD, drop}
+use Rattle.xm.specs.Got.{Got, got, refused, Test, passes, atMost, _at_}
+use Rattle.xm.specs.Cell.{markedFrom, needed, cellAt, readCell, kepts, writeCell}
+use Rattle.xm.specs.PatternInFile.{dataMost}
+use Rattle.xm.specs.Packing.{argumentTests}
+use Rattle.refusal.specs.Fault.{faultOf}
+use Rattle.cells.specs.declared.CellStep.{CellStep}
+use Rattle.cells.specs.declared.CellStep.the-variants.{Read as ReadStep, Refused as RefusedStep}
+use Rattle.cells.specs.declared.Size.{Size}
+use Rattle.cells.specs.declared.Measured.{Measured}
+use Rattle.cells.specs.declared.Measured.the-variants.{Cells, Refused as RefusedRow}
+use Rattle.cells.specs.declared.StoredStep.{StoredStep}
+use Rattle.cells.specs.declared.StoredStep.the-variants.{Read as ReadStored, Refused as RefusedStored}
+use Rattle.cells.specs.declared.Unpacked.{Unpacked}
+use Rattle.cells.specs.declared.Unpacked.the-variants.{Rows, Refused as RefusedUnpacked}
+
+-- Cells in a row that all stand whole in s.
+abbrev pub Whole : (count : ℕ) → List ℕ → Type 0
+Whole zero s = Unit {0}
+Whole (suc count) s = (needed s ≤ length s) × Whole count (drop (needed s) s)
+
+-- The length of a cell's shortest form, by how many of its fields are kept, those that aren't 0.
+abbrev pub shortestBy : (kept : ℕ) → ℕ
+shortestBy kept = cond (ltb 4 kept) 5 (1 + kept)
+
+-- Whether the cell at the head of s stands in its shortest form: every field that is stored is kept, and a marked cell has bits 5 and 6
+-- zero and not all five fields.
+abbrev pub fullMark : ℕ
+fullMark = 159
+
+abbrev pub shortBy : (lead used kept : ℕ) → Bool
+shortBy lead used kept = ltb lead fullMark && eqb (lead / markedFrom + kept) used
+
+unfoldable pub isShort : List ℕ → Bool
+isShort s = shortBy (getD s 0 0) (needed s) (length (kepts (cellAt s)))
+
+-- What measuring comes to from what was used and found so far, and `count` cells still to come at the head of s.
+abbrev pub goesOn : Got (List ℕ) → Measured → Measured
+goesOn (got cell used) rest = rest
+goesOn (refused r) rest = RefusedRow (faultOf r)
+
+unfoldable pub measureFrom : (count used shortest : ℕ) (same : Bool) → List ℕ → Measured
+measureFrom zero used shortest same s = Cells (record { used = used; shortest = shortest; same = same })
+measureFrom (suc count) used shortest same s =
+    goesOn (readCell used s)
+    (measureFrom count (used + needed s) (shortest + length (writeCell (cellAt s))) (same && isShort s) (drop (needed s) s))
+
+-- A step's refusal, at its place.
+abbrev pub refusedAt : CellStep → (place : ℕ) → Measured
+refusedAt (ReadStep cell used) place = Cells (record { used = place; shortest = place; same = true })
+refusedAt (RefusedStep number) place = RefusedRow (record { number = number; place = place })
+
+-- A pattern of measured cells: "64 empty rows" are written as no bytes, and theirs is the only shortest form of one byte a cell.
+abbrev pub storedSize : (rows count : ℕ) → Size → StoredStep
+storedSize rows count size =
+    cond (eqb rows 64 && eqb (size .shortest) count) (ReadStored (record { rows = 64; shortest = 0; same = false }))
+    (ReadStored (record { rows = rows; shortest = size .shortest; same = size .same }))
+
+-- A refusal, passed on from one answer to the next.
+abbrev pub refusedRow : Measured → StoredStep
+refusedRow (Cells size) = ReadStored (record { rows = 0; shortest = size .shortest; same = size .same })
+refusedRow (RefusedRow fault) = RefusedStored fault
+
+abbrev pub refusedStored : StoredStep → Unpacked
+refusedStored (ReadStored size) = Rows (size .rows)
+refusedStored (RefusedStored fault) = RefusedUnpacked fault
+
+-- The tests for 16, of the data's length.
+abbrev pub unpackTests : (rows channels size : ℕ) → List Test
+unpackTests rows channels size = argumentTests rows channels ++ (atMost dataMost size (16 at 0) ∷ [])
+
+abbrev pub passAll : List Test → Bool
+passAll [] = true
+passAll (t ∷ ts) = passes t && passAll ts

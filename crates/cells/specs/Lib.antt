@@ -1,0 +1,5 @@
+pub mod Step
+pub mod Row
+pub mod Unpacked
+pub mod Inside
+pub mod Quick

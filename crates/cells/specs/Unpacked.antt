@@ -1,0 +1,24 @@
+-- What reading a stored pattern, and unpacking one, answers.
+use Prim.Native.Nat.{ℕ}
+use mathlib.Core.List.{List}
+use lib.ListN.{length}
+use Rattle.xm.specs.Got.{Got, got, refused}
+use Rattle.xm.specs.Answer.{Answer, gives, refuses}
+use Rattle.xm.specs.Stored.{Pattern, writeStored}
+use Rattle.refusal.specs.Fault.{faultOf}
+use Rattle.cells.specs.Row.{sameBytes}
+use Rattle.cells.specs.declared.StoredStep.{StoredStep}
+use Rattle.cells.specs.declared.StoredStep.the-variants.{Read, Refused as RefusedStored}
+use Rattle.cells.specs.declared.Unpacked.{Unpacked}
+use Rattle.cells.specs.declared.Unpacked.the-variants.{Rows, Refused as RefusedUnpacked}
+
+-- The rows that it reads as, the length of its shortest form, and whether its bytes are that form already.
+abbrev pub storedOf : (stored : List ℕ) → Got Pattern → StoredStep
+storedOf stored (got p used) =
+    Read (record { rows = p .rows; shortest = length (writeStored p); same = sameBytes stored (writeStored p) })
+storedOf stored (refused r) = RefusedStored (faultOf r)
+
+-- "It reports the rows"
+abbrev pub unpackedOf : Answer Pattern → Unpacked
+unpackedOf (gives p) = Rows (p .rows)
+unpackedOf (refuses r) = RefusedUnpacked (faultOf r)

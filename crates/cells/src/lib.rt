@@ -1,0 +1,461 @@
+// A pattern's stored cells: read one by one, checked and measured in one pass, and unpacked.
+use refusal::Fault;
+
+mod quick; // empty cells eight at a time, and a cell without a branch
+
+ghost use mathlib.Core.Path.{_≡_};
+ghost use Prim.Native.Nat.{_+_, _*_, _%_, _<_, _≤_};
+ghost use mathlib.Core.Bool.{true, false, _&&_};
+ghost use lib.Dec.{eqb};
+ghost use lib.ListN.{replicate, length, drop};
+ghost use Rattle.xm.specs.Got.{AllHold};
+ghost use Rattle.xm.specs.Format.{flat};
+ghost use Rattle.xm.specs.Answer.{inFront};
+ghost use Rattle.xm.specs.Cell.{lengthBy, fieldBy, needed, cellAt, readCell, bit, kepts};
+ghost use Rattle.xm.specs.Stored.{readStored};
+ghost use Rattle.xm.specs.Packing.{argumentTests, unpacking, unpackAfter};
+ghost use Rattle.cells.specs.Step.{cellOf, fieldsOf, stepOf};
+ghost use Rattle.cells.specs.Row.{readRow, accepted, measuredOf, cellsIn};
+ghost use Rattle.cells.specs.Unpacked.{storedOf, unpackedOf};
+ghost use Rattle.cells.specs.Inside.{Whole, measureFrom, shortestBy, shortBy, refusedAt, storedSize, refusedRow, refusedStored, unpackTests, passAll};
+
+// "Only the note is limited (0..97)"
+const NOTE_MOST: u8 = 97;
+
+pub struct Cell {
+    pub note: u8,
+    pub instrument: u8,
+    pub volume: u8,
+    pub effect: u8,
+    pub parameter: u8,
+}
+
+// A cell with the bytes that it takes, or a refusal's number.
+pub enum CellStep {
+    Read(Cell, usize),
+    Refused(u32),
+}
+
+// Of cells in a row: the bytes that they take, those of their shortest form, and whether they stand in that form already.
+pub struct Size {
+    pub used: usize,
+    pub shortest: usize,
+    pub same: bool,
+}
+
+pub enum Measured {
+    Cells(Size),
+    Refused(Fault),
+}
+
+// Of a stored pattern: the rows that it reads as, the bytes of its shortest form, and whether it stands in that form already.
+pub struct StoredSize {
+    pub rows: usize,
+    pub shortest: usize,
+    pub same: bool,
+}
+
+pub enum StoredStep {
+    Read(StoredSize),
+    Refused(Fault),
+}
+
+pub enum Unpacked {
+    Rows(usize),
+    Refused(Fault),
+}
+
+// The bytes that a cell takes, by its lead byte.
+pub fn cell_length(lead: u8) -> usize
+    ensures { λ r. ⌜ r ≡ lengthBy lead ⌝ }
+{
+    if lead < 128 {
+        return 5;
+    }
+    1 + (u8::count_ones(lead & 31) as usize)
+}
+
+// A field of a marked cell, which stands at `place` if the lowest bit says so.
+fn field(stored: &[u8], place: usize, bits: u8) -> u8
+    requires { ⌜ place + bits % 2 ≤ length (now stored) ⌝ }
+    ensures { λ r. ⌜ r ≡ fieldBy bits (drop place (now (stored .entry))) ⌝ }
+{
+    if bits % 2 == 0 {
+        return 0;
+    }
+    stored[place]
+}
+
+// The cell at the head, which stands there whole.
+pub fn take_cell(stored: &[u8]) -> Cell
+    requires { ⌜ needed (now stored) ≤ length (now stored) ⌝ }
+    ensures { λ r. ⌜ r ≡ cellOf (cellAt (now (stored .entry))) ⌝ }
+{
+    let lead = stored[0];
+    if lead < 128 {
+        return Cell {
+            note: lead,
+            instrument: stored[1],
+            volume: stored[2],
+            effect: stored[3],
+            parameter: stored[4],
+        };
+    }
+    let place1 = 1 + (lead % 2) as usize;
+    let bits1 = lead / 2;
+    let place2 = place1 + (bits1 % 2) as usize;
+    let bits2 = bits1 / 2;
+    let place3 = place2 + (bits2 % 2) as usize;
+    let bits3 = bits2 / 2;
+    let place4 = place3 + (bits3 % 2) as usize;
+    let bits4 = bits3 / 2;
+    Cell {
+        note: field(stored, 1, lead),
+        instrument: field(stored, place1, bits1),
+        volume: field(stored, place2, bits2),
+        effect: field(stored, place3, bits3),
+        parameter: field(stored, place4, bits4),
+    }
+}
+
+// One cell from the head of what is left: tried for 7, then 9.
+pub fn read_cell(stored: &[u8]) -> CellStep
+    ensures { λ r. ⌜ r ≡ stepOf (readCell 0 (now (stored .entry))) ⌝ }
+{
+    if stored.len() == 0 {
+        return CellStep::Refused(7);
+    }
+    let used = cell_length(stored[0]);
+    if stored.len() < used {
+        return CellStep::Refused(7);
+    }
+    let cell = take_cell(stored);
+    let note = cell.note;
+    if NOTE_MOST < note {
+        return CellStep::Refused(9);
+    }
+    CellStep::Read(cell, used)
+}
+
+// 1 for a field that is kept, 0 for one that is 0.
+fn bit_of(x: u8) -> usize
+    ensures { λ r. ⌜ r ≡ bit x ⌝ }
+    ensures { λ r. ⌜ r ≤ 1 ⌝ }
+{
+    if x == 0 {
+        return 0;
+    }
+    1
+}
+
+// How many of a cell's fields its marked form keeps.
+fn kept_count(cell: Cell) -> usize
+    ensures { λ r. ⌜ r ≡ length (kepts (fieldsOf cell)) ⌝ }
+{
+    let note = bit_of(cell.note);
+    let instrument = bit_of(cell.instrument);
+    let volume = bit_of(cell.volume);
+    let effect = bit_of(cell.effect);
+    let parameter = bit_of(cell.parameter);
+    note + (instrument + (volume + (effect + parameter)))
+}
+
+// The length of a cell's shortest form.
+fn shortest_by(kept: usize) -> usize
+    ensures { λ r. ⌜ r ≡ shortestBy kept ⌝ }
+{
+    if 4 < kept {
+        return 5;
+    }
+    1 + kept
+}
+
+// Whether a cell that takes `used` bytes stands in its shortest form, and all before it did.
+fn still_same(same: bool, lead: u8, used: usize, kept: usize) -> bool
+    requires { ⌜ kept ≤ 5 ⌝ }
+    ensures { λ r. ⌜ r ≡ (same && shortBy lead used kept) ⌝ }
+{
+    let full = (lead / 128) as usize + kept == used;
+    if same {
+        if lead < 159 { full } else { false }
+    } else {
+        false
+    }
+}
+
+// A step's refusal, at its place.
+fn refused_at(step: CellStep, place: usize) -> Measured
+    ensures { λ r. ⌜ r ≡ refusedAt step place ⌝ }
+{
+    match step {
+        CellStep::Read(_, _) => Measured::Cells(Size {
+            used: place,
+            shortest: place,
+            same: true,
+        }),
+        CellStep::Refused(number) => Measured::Refused(Fault {
+            number: number,
+            place: place,
+        }),
+    }
+}
+
+// The cells from a place on, measured onto what those before them came to.
+fn measure_from(stored: &[u8], from: usize, count: usize, before: usize, alike: bool) -> Measured
+    requires { ⌜ from ≤ length (now stored) ⌝ }
+    requires { ⌜ before ≤ from ⌝ }
+    ensures { λ r. ⌜ r ≡ measureFrom count from before alike (drop from (now (stored .entry))) ⌝ }
+{
+    let mut used = from;
+    let mut shortest = before;
+    let mut same = alike;
+    let mut left = count;
+    while 0 < left { // one by one, to the last
+        let step = read_cell(&stored[used..]);
+        let CellStep::Read(cell, length) = step else {
+            return refused_at(step, used);
+        };
+        let kept = kept_count(cell);
+        same = still_same(same, stored[used], length, kept);
+        shortest += shortest_by(kept);
+        used += length;
+        left -= 1;
+    }
+    Measured::Cells(Size {
+        used: used,
+        shortest: shortest,
+        same: same,
+    })
+}
+
+// `count` cells in a row, checked and measured in one pass.
+pub fn measure_cells(stored: &[u8], count: usize) -> Measured
+    ensures { λ r. ⌜ r ≡ measuredOf (now (stored .entry)) (readRow count 0 (now (stored .entry))) ⌝ }
+{
+    let ones = quick::ONES;
+    let mut used: usize = 0;
+    let mut shortest: usize = 0;
+    let mut same = true;
+    let mut left = count;
+    while 9 <= left && 16 <= stored.len() - used {
+        if stored[used] == 128 {
+            let empty = quick::empty_run(stored, used);
+            used += empty;
+            shortest += empty;
+            left -= empty;
+        }
+        let lead = stored[used];
+        let note = quick::note_by(lead, stored[used + 1]);
+        if NOTE_MOST < note {
+            return Measured::Refused(Fault {
+                number: 9,
+                place: used,
+            });
+        }
+        let length = quick::length_by(&ones, lead);
+        let kept = quick::kept_at(stored, used, length);
+        same = still_same(same, lead, length, kept);
+        shortest += shortest_by(kept);
+        used += length;
+        left -= 1;
+    }
+    measure_from(stored, used, left, shortest, same)
+}
+
+// A row's refusal, passed on.
+fn refused_row(measured: Measured) -> StoredStep
+    ensures { λ r. ⌜ r ≡ refusedRow measured ⌝ }
+{
+    match measured {
+        Measured::Cells(size) => StoredStep::Read(StoredSize {
+            rows: 0,
+            shortest: size.shortest,
+            same: size.same,
+        }),
+        Measured::Refused(fault) => StoredStep::Refused(fault),
+    }
+}
+
+// 64 empty rows: their shortest form has one byte a cell, and no other cells' has.
+fn needs_no_data(rows: usize, count: usize, shortest: usize) -> bool
+    ensures { λ r. ⌜ r ≡ (eqb rows 64 && eqb shortest count) ⌝ }
+{
+    if rows == 64 { shortest == count } else { false }
+}
+
+// What measured cells are as a pattern: 64 empty rows are written as no bytes.
+fn stored_size(rows: usize, count: usize, size: Size) -> StoredStep
+    ensures { λ r. ⌜ r ≡ storedSize rows count size ⌝ }
+{
+    let empty = needs_no_data(rows, count, size.shortest);
+    if empty {
+        return StoredStep::Read(StoredSize {
+            rows: 64,
+            shortest: 0,
+            same: false,
+        });
+    }
+    StoredStep::Read(StoredSize {
+        rows: rows,
+        shortest: size.shortest,
+        same: size.same,
+    })
+}
+
+// A stored pattern, checked and measured in one pass.
+pub fn read_stored(stored: &[u8], rows: usize, channels: usize) -> StoredStep
+    requires { ⌜ AllHold (argumentTests rows channels) ⌝ }
+    ensures { λ r. ⌜ r ≡ storedOf (now (stored .entry)) (readStored channels rows 0 (now (stored .entry))) ⌝ }
+{
+    if stored.len() == 0 {
+        return StoredStep::Read(StoredSize {
+            rows: 64,
+            shortest: 0,
+            same: true,
+        });
+    }
+    let count = rows * channels;
+    let measured = measure_cells(stored, count);
+    let Measured::Cells(size) = measured else {
+        return refused_row(measured);
+    };
+    let used = size.used;
+    if used < stored.len() {
+        return StoredStep::Refused(Fault {
+            number: 8,
+            place: used,
+        });
+    }
+    stored_size(rows, count, size)
+}
+
+// A cell's five bytes at the front.
+fn store_cell(cell: Cell, out: &mut [u8])
+    requires { ⌜ 5 ≤ length (now out) ⌝ }
+    ensures { λ _. ⌜ now (out .exit) ≡ inFront (fieldsOf cell) (now (out .entry)) ⌝ }
+{
+    out[0] = cell.note;
+    out[1] = cell.instrument;
+    out[2] = cell.volume;
+    out[3] = cell.effect;
+    out[4] = cell.parameter;
+}
+
+// Cells in a row that stand whole, five bytes each, at the front, one by one.
+fn fill_each(stored: &[u8], count: usize, out: &mut [u8])
+    requires { ⌜ Whole count (now stored) ⌝ }
+    requires { ⌜ count * 5 ≤ length (now out) ⌝ }
+    ensures { λ _. ⌜ now (out .exit) ≡ inFront (flat (cellsIn count (now (stored .entry)))) (now (out .entry)) ⌝ }
+{
+    let mut at: usize = 0;
+    let mut to: usize = 0;
+    let mut left = count;
+    while 0 < left {
+        let cell = take_cell(&stored[at..]);
+        store_cell(cell, &mut out[to..]);
+        at += cell_length(stored[at]);
+        to += 5;
+        left -= 1;
+    }
+}
+
+// Zeros at the front.
+fn clear(out: &mut [u8], count: usize)
+    requires { ⌜ count ≤ length (now out) ⌝ }
+    ensures { λ _. ⌜ now (out .exit) ≡ inFront (replicate count 0) (now (out .entry)) ⌝ }
+{
+    let mut i: usize = 0;
+    while i < count {
+        out[i] = 0;
+        i += 1;
+    }
+}
+
+// Cells in a row that were accepted, five bytes each, at the front.
+pub fn fill_cells(stored: &[u8], count: usize, out: &mut [u8])
+    requires { ⌜ accepted (readRow count 0 (now stored)) ≡ true ⌝ }
+    requires { ⌜ count * 5 ≤ length (now out) ⌝ }
+    ensures { λ _. ⌜ now (out .exit) ≡ inFront (flat (cellsIn count (now (stored .entry)))) (now (out .entry)) ⌝ }
+{
+    let ones = quick::ONES;
+    let mut at: usize = 0;
+    let mut to: usize = 0;
+    let mut left = count; // all are still to come
+    while 9 <= left && 16 <= stored.len() - at {
+        if stored[at] == 128 {
+            let empty = quick::empty_run(stored, at);
+            // Always eight cells' zeros: those past the run are written over.
+            clear(&mut out[to..], 40);
+            at += empty;
+            to += empty * 5;
+            left -= empty;
+        }
+        let cell = quick::take_at(stored, at);
+        store_cell(cell, &mut out[to..]);
+        at += quick::length_by(&ones, stored[at]);
+        to += 5;
+        left -= 1;
+    }
+    fill_each(&stored[at..], left, &mut out[to..]);
+}
+
+// Rows, channels and the length of the data as 16 asks for.
+fn in_range(rows: usize, channels: usize, size: usize) -> bool
+    ensures { λ r. ⌜ r ≡ passAll (unpackTests rows channels size) ⌝ }
+{
+    if rows < 1 {
+        return false;
+    }
+    if 256 < rows {
+        return false;
+    }
+    if channels < 1 {
+        return false;
+    }
+    if 64 < channels {
+        return false;
+    }
+    size <= 65535
+}
+
+// A stored pattern's refusal, passed on.
+fn refused_stored(step: StoredStep) -> Unpacked
+    ensures { λ r. ⌜ r ≡ refusedStored step ⌝ }
+{
+    match step {
+        StoredStep::Read(size) => Unpacked::Rows(size.rows),
+        StoredStep::Refused(fault) => Unpacked::Refused(fault),
+    }
+}
+
+// A stored pattern's cells, five bytes each. A first pass decides every refusal, a second fills.
+pub fn unpack(rows: usize, channels: usize, stored: &[u8], cells: &mut [u8]) -> Unpacked
+    ensures { λ r. ⌜ r ≡ unpackedOf (unpacking rows channels (now (stored .entry)) (length (now (cells .entry)))) ⌝ }
+    ensures { λ _. ⌜ now (cells .exit) ≡ unpackAfter rows channels (now (stored .entry)) (now (cells .entry)) ⌝ }
+{
+    let fits = in_range(rows, channels, stored.len());
+    if !fits {
+        return Unpacked::Refused(Fault {
+            number: 16,
+            place: 0,
+        });
+    }
+    let step = read_stored(stored, rows, channels);
+    let StoredStep::Read(size) = step else {
+        return refused_stored(step);
+    };
+    let reads = size.rows;
+    let count = reads * channels;
+    if cells.len() < count * 5 {
+        return Unpacked::Refused(Fault {
+            number: 14,
+            place: 0,
+        });
+    }
+    if stored.len() == 0 {
+        clear(cells, count * 5);
+    } else {
+        fill_cells(stored, count, cells);
+    }
+    Unpacked::Rows(reads)
+}
