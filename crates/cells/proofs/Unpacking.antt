@@ -9,9 +9,9 @@ use native.Mathlib.Omega.{arith}
 use lib.ListN.{length, replicate, length-replicate, replicate-append-replicate}
 use Rattle.xm.specs.Got.{Refusal, Got, got, refused, Test, passes, AllHold}
 use Rattle.xm.specs.Format.{flat}
-use Rattle.xm.specs.Answer.{gives, refuses, inFront}
+use Rattle.xm.specs.Answer.{Answer, gives, refuses, numbers, inFront}
 use Rattle.xm.specs.Stored.{Pattern, readCells, readStored}
-use Rattle.xm.specs.Packing.{argumentTests, cellBytes, unpacking, unpackAfter}
+use Rattle.xm.specs.Packing.{argumentTests, cellBytes, rowsRead, unpacking, unpackAfter}
 use Rattle.xm.proofs.Got.{holds-passes, passes-holds, passed, bind-got, got-carry}
 use Rattle.xm.proofs.Stored.{stored-empty, stored-some}
 use Rattle.refusal.specs.Fault.{faultOf}
@@ -21,7 +21,7 @@ use Rattle.cells.specs.declared.Unpacked.{Unpacked}
 use Rattle.cells.specs.declared.Unpacked.the-variants.{Rows, Refused as RefusedUnpacked}
 use Rattle.refusal.specs.declared.Fault.{Fault}
 use Rattle.cells.specs.Row.{readRow, accepted, cellsIn}
-use Rattle.cells.specs.Unpacked.{storedOf, unpackedOf}
+use Rattle.cells.specs.Unpacked.{storedOf, unpackedOf, unpackedNumbers}
 use Rattle.cells.specs.Inside.{passAll}
 use Rattle.cells.proofs.Row.{row-of}
 use Rattle.cells.proofs.Fill.{cells-length}
@@ -135,3 +135,8 @@ module _ (rows channels : ℕ) (stored lent : List ℕ) where
   -- Two answers and memories that both meet the contract are the same
   pub answers-fixed : (one other : Unpacked) (left kept : List ℕ) → Answers one left → Answers other kept → (one ≡ other) × (left ≡ kept)
   answers-fixed one other left kept a b = (a .0 ∙ sym (b .0), a .1 ∙ sym (b .1))
+
+-- and its numbers are the paper's
+pub unpacked-numbers : (answer : Answer Pattern) → unpackedNumbers (unpackedOf answer) ≡ numbers (rowsRead ∷ []) answer
+unpacked-numbers (gives p) = refl
+unpacked-numbers (refuses r) = refl

@@ -1,6 +1,6 @@
 -- What reading a stored pattern, and unpacking one, answers.
 use Prim.Native.Nat.{ℕ}
-use mathlib.Core.List.{List}
+use mathlib.Core.List.{List, [], _∷_}
 use lib.ListN.{length}
 use Rattle.xm.specs.Got.{Got, got, refused}
 use Rattle.xm.specs.Answer.{Answer, gives, refuses}
@@ -22,3 +22,8 @@ storedOf stored (refused r) = RefusedStored (faultOf r)
 abbrev pub unpackedOf : Answer Pattern → Unpacked
 unpackedOf (gives p) = Rows (p .rows)
 unpackedOf (refuses r) = RefusedUnpacked (faultOf r)
+
+-- The paper's numbers for each case: number, place, rows.
+abbrev pub unpackedNumbers : Unpacked → List ℕ
+unpackedNumbers (Rows rows) = 0 ∷ 0 ∷ rows ∷ []
+unpackedNumbers (RefusedUnpacked fault) = fault .number ∷ fault .place ∷ 0 ∷ []

@@ -8,3 +8,4 @@ pub mod Bits
 pub mod Read
 pub mod Copy
 pub mod Short
+pub mod Calls

@@ -1,7 +1,7 @@
 -- The code's answers as the definitions' ones.
 use Prim.Native.Nat.{ℕ, _*_}
 use mathlib.Core.Bool.{cond, _&&_}
-use mathlib.Core.List.{[], _∷_, _++_}
+use mathlib.Core.List.{List, [], _∷_, _++_}
 use lib.Dec.{eqb}
 use lib.ListN.{length}
 use Rattle.refusal.specs.Fault.{faultOf}
@@ -18,6 +18,11 @@ use Rattle.packing.specs.declared.Measured.the-variants.{Shortest, Fault
 abbrev pub packedOf : Answer Pattern → Packed
 packedOf (gives p) = Stored (record { length = length (writeStored p); rows = p .rows })
 packedOf (refuses r) = Refused (faultOf r)
+
+-- The paper's numbers for each case: number, place, length, rows.
+abbrev pub packedNumbers : Packed → List ℕ
+packedNumbers (Stored form) = 0 ∷ 0 ∷ form .length ∷ form .rows ∷ []
+packedNumbers (Refused fault) = fault .number ∷ fault .place ∷ 0 ∷ 0 ∷ []
 
 -- For contracts inside the crate: the tests for 16, over the count of cell bytes; the notes' tests with the length of the cells; and
 -- the length of a stored form by that of its cells, which is their count if all are empty.
