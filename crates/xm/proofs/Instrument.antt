@@ -277,7 +277,7 @@ same-head : (I k H : ℕ) (s t : List ℕ) (n : ℕ) → TestsOf I k H (length s
 same-head I zero H s t n h l a = refl
 same-head I (suc k) H s t n h l a = ap (replicate (suc k)) (sym (agree-long a 29 (omega (arith, least-size I (suc k) H (length s) h))))
 
-heads-used : (k H place : ℕ) (s : List ℕ) (is : List Stretch) (n : ℕ) → each headFormat .read (replicate k H) place s ≡ got is n → n ≡ k * H
+pub heads-used : (k H place : ℕ) (s : List ℕ) (is : List Stretch) (n : ℕ) → each headFormat .read (replicate k H) place s ≡ got is n → n ≡ k * H
 unfolding readHead
 heads-used zero H place s is n e = got-carry (λ (r : List Stretch) (u : ℕ). u ≡ 0 * H) e (sym (zero-mul H))
 heads-used (suc k) H place s is n e =

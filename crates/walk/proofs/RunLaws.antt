@@ -1,0 +1,172 @@
+-- Laws of the loops over patterns and instruments. Assumes nothing.
+use Prim.Native.Nat.{ℕ, suc, _+_, _*_, _≤_, _<_}
+use mathlib.Core.List.{List, [], _∷_, _++_, map}
+use mathlib.Core.Path.{_≡_, refl, sym, ap, _∙_}
+use native.Mathlib.Omega.{arith}
+use lib.ListN.{length, drop, replicate, length-append, length-drop, length-map, length-replicate, getD-replicate}
+use Rattle.xm.specs.Number.{Bytes}
+use Rattle.xm.specs.Got.{Refusal, Got, got, refused}
+use Rattle.xm.specs.Format.{Format, each, joined}
+use Rattle.xm.specs.Stored.{writeStored}
+use Rattle.xm.specs.PatternInFile.{PatternFound, readPattern, patternFormat}
+use Rattle.xm.specs.Sample.{Stretch}
+use Rattle.xm.specs.Instrument.{InstrumentFound, readInstrument, instrumentView, writeInstrument, instrumentFormat}
+use Rattle.xm.specs.Table.{sampleCount, sampleRowsOf, sampleRowsIn}
+use Rattle.xm.proofs.Number.{bytes-drop}
+use Rattle.xm.proofs.Format.{joined-append}
+use Rattle.xm.proofs.PatternInFile.{pattern-size, pattern-keeps}
+use Rattle.xm.proofs.Sample.{Sized}
+use Rattle.xm.proofs.Instrument.{instrument-keeps, instrument-tells}
+use Rattle.refusal.specs.declared.Fault.{Fault}
+use Rattle.walk.specs.Step.{patternStep, instrumentStep}
+use Rattle.walk.specs.File.{patternsStep, instrumentsStep, patternRefused, instrumentRefused}
+use Rattle.walk.specs.declared.pattern.PatternPart.{PatternPart}
+use Rattle.walk.specs.declared.pattern.PatternStep.{PatternStep}
+use Rattle.walk.specs.declared.pattern.PatternStep.the-variants as pattern
+use Rattle.walk.specs.declared.instrument.InstrumentPart.{InstrumentPart}
+use Rattle.walk.specs.declared.instrument.InstrumentStep.{InstrumentStep}
+use Rattle.walk.specs.declared.instrument.InstrumentStep.the-variants as instrument
+use Rattle.walk.specs.declared.RunStep.{RunStep}
+use Rattle.walk.specs.declared.RunStep.the-variants as run
+use Rattle.walk.proofs.Walking.{Reached, reached-start, reached-on, reached-out, reached-end}
+
+-- One more is written behind what is written
+written-more : {H I A : Type 0} (F : Format H I A) (done : List I) (i : I)
+    → length (each F .write (each F .view (done ++ (i ∷ [])))) ≡ length (each F .write (each F .view done)) + length (F .write (F .view i))
+written-more F [] i = rw length-append (omega arith)
+written-more F (x ∷ done) i = rw (length-append, length-append, written-more F done i) (omega arith)
+
+run-path : {next next′ samples samples′ pressed pressed′ : ℕ} → next ≡ next′ → samples ≡ samples′ → pressed ≡ pressed′
+    → _≡_ {A = RunStep} (run.Read (record { next = next; samples = samples; pressed = pressed })) (run.Read (record { next = next′; samples = samples′; pressed = pressed′ }))
+run-path p q r = cc
+
+-- A pattern that was read, and one that was refused
+never-pattern : {A : Type 0} {part : PatternPart} {f : Fault} → pattern.Read part ≡ pattern.Refused f → A
+never-pattern e = absurd (let z : _≡_ {A = ℕ} 0 1 = cc in omega arith)
+
+same-pattern : {a b : PatternPart} → pattern.Read a ≡ pattern.Read b → a ≡ b
+same-pattern e = cc
+
+pattern-got : {R : Type 0} (file : List ℕ) (place : ℕ) (g : Got PatternFound) {part : PatternPart} → pattern.Read part ≡ patternStep file place g
+    → ((i : PatternFound) (n : ℕ) → g ≡ got i n → part .next ≡ place + n → part .shortest ≡ length (writeStored (i .content)) → R) → R
+pattern-got file place (got i n) e k = k i n refl (ap PatternPart.next (same-pattern e)) (ap PatternPart.shortest (same-pattern e))
+pattern-got file place (refused r) e k = never-pattern e
+
+pattern-on : (file : List ℕ) (place start : ℕ) (g : Got PatternFound) (whole : Got (List PatternFound)) {step : PatternStep} {f : Fault} → step ≡ patternStep file place g → step ≡ pattern.Refused f
+    → ((r : Refusal) → g ≡ refused r → whole ≡ refused r) → patternRefused step ≡ patternsStep start whole
+pattern-on file place start (got i n) whole e told k = never-pattern (sym e ∙ told)
+pattern-on file place start (refused r) whole e told k = ap patternRefused e ∙ sym (ap (patternsStep start) (k r refl))
+
+-- The loop over the patterns: what is told of those read is the length of their pressed forms
+abbrev pub PatternsTold : (pressed : ℕ) → List PatternFound → Type 0
+PatternsTold pressed done = pressed ≡ length (each patternFormat .write (each patternFormat .view done))
+
+pub record PatternsRead (file : List ℕ) (start channels count j place pressed : ℕ) : Type 0 where
+  pub reached : Reached patternFormat (replicate count channels) file start (PatternsTold pressed) j place
+  pub inside : place ≤ length file
+  pub short : start + pressed ≤ place
+
+module _ (file : List ℕ) (start channels count : ℕ) where
+  pub patterns-start : start ≤ length file → PatternsRead file start channels count 0 start 0
+  patterns-start l = record { reached = reached-start patternFormat _ file start (PatternsTold 0) refl; inside = l; short = omega arith }
+
+  module _ {j place pressed : ℕ} (w : PatternsRead file start channels count j place pressed) where
+    pub patterns-end : count ≤ j
+        → run.Read (record { next = place; samples = 0; pressed = pressed }) ≡ patternsStep start (each patternFormat .read (replicate count channels) start (drop start file))
+    patterns-end h =
+        run-path (omega (arith, w .reached .left .from)) refl (w .reached .told)
+        ∙ sym (ap (patternsStep start) (reached-end patternFormat _ file start (w .reached) (rw length-replicate h)))
+
+    module _ (h : j < count) where
+      pub patterns-out : {step : PatternStep} {f : Fault} → step ≡ patternStep file place (readPattern channels place (drop place file)) → step ≡ pattern.Refused f
+          → patternRefused step ≡ patternsStep start (each patternFormat .read (replicate count channels) start (drop start file))
+      patterns-out e told = pattern-on file place start _ _ e told λ r er.
+          reached-out patternFormat _ file start (w .reached) channels (rw length-replicate h) (getD-replicate count j channels channels h) er
+
+      pub patterns-on : Bytes file → 1 ≤ channels → {part : PatternPart} → pattern.Read part ≡ patternStep file place (readPattern channels place (drop place file))
+          → PatternsRead file start channels count (j + 1) (part .next) (pressed + (9 + part .shortest))
+      patterns-on b c e = pattern-got file place _ e λ i n ei q z.
+          let k = pattern-keeps channels c .keeps place (drop place file) i n (bytes-drop place b) ei in
+          let size = pattern-size channels (i .content) (k .good) in
+          record {
+            reached =
+                reached-on patternFormat _ file start (w .reached) channels (rw length-replicate h) (getD-replicate count j channels channels h) (PatternsTold _) ei q
+                (λ t. omega (arith, size, written-more patternFormat (w .reached .done) i));
+            inside = omega (arith, w .inside, k .inside, length-drop place file);
+            short = omega (arith, w .short, k .short, size);
+          }
+
+-- An instrument that was read, and one that was refused
+never-instrument : {A : Type 0} {part : InstrumentPart} {f : Fault} → instrument.Read part ≡ instrument.Refused f → A
+never-instrument e = absurd (let z : _≡_ {A = ℕ} 0 1 = cc in omega arith)
+
+same-instrument : {a b : InstrumentPart} → instrument.Read a ≡ instrument.Read b → a ≡ b
+same-instrument e = cc
+
+instrument-got : {R : Type 0} (place : ℕ) (g : Got InstrumentFound) {part : InstrumentPart} → instrument.Read part ≡ instrumentStep place g
+    → ((i : InstrumentFound) (n : ℕ) → g ≡ got i n → part .next ≡ place + n → part .samples ≡ sampleCount i → part .pressed ≡ length (writeInstrument (instrumentView i)) → R) → R
+instrument-got place (got i n) e k =
+    let z = same-instrument e in k i n refl (ap InstrumentPart.next z) (ap InstrumentPart.samples z) (ap InstrumentPart.pressed z)
+instrument-got place (refused r) e k = never-instrument e
+
+instrument-on : (place start : ℕ) (g : Got InstrumentFound) (whole : Got (List InstrumentFound)) {step : InstrumentStep} {f : Fault} → step ≡ instrumentStep place g → step ≡ instrument.Refused f
+    → ((r : Refusal) → g ≡ refused r → whole ≡ refused r) → instrumentRefused step ≡ instrumentsStep start whole
+instrument-on place start (got i n) whole e told k = never-instrument (sym e ∙ told)
+instrument-on place start (refused r) whole e told k = ap instrumentRefused e ∙ sym (ap (instrumentsStep start) (k r refl))
+
+-- Its sample rows are as many as its samples
+rows-counted : (heads bytes : List Stretch) → Sized (map Stretch.bytes heads) bytes → length (sampleRowsOf heads bytes) ≡ length heads
+rows-counted [] bytes z = refl
+rows-counted (h ∷ hs) [] z = absurd z
+rows-counted (h ∷ hs) (b ∷ bs) z = ap suc (rows-counted hs bs (z .1))
+
+-- The loop over the instruments
+pub record InstrumentsTold (samples pressed : ℕ) (done : List InstrumentFound) : Type 0 where
+  pub counted : samples ≡ length (joined sampleRowsIn done)
+  pub written : pressed ≡ length (each instrumentFormat .write (each instrumentFormat .view done))
+
+pub record InstrumentsRead (file : List ℕ) (start count j place samples pressed : ℕ) : Type 0 where
+  pub reached : Reached instrumentFormat (replicate count tt) file start (InstrumentsTold samples pressed) j place
+  pub inside : place ≤ length file
+  pub short : start + pressed ≤ place
+  pub few : samples ≤ 16 * j
+
+module _ (file : List ℕ) (start count : ℕ) where
+  pub instruments-start : start ≤ length file → InstrumentsRead file start count 0 start 0 0
+  instruments-start l = record {
+    reached = reached-start instrumentFormat _ file start (InstrumentsTold 0 0) (record { counted = refl; written = refl });
+    inside = l;
+    short = omega arith;
+    few = omega arith;
+  }
+
+  module _ {j place samples pressed : ℕ} (w : InstrumentsRead file start count j place samples pressed) where
+    pub instruments-end : count ≤ j
+        → run.Read (record { next = place; samples = samples; pressed = pressed }) ≡ instrumentsStep start (each instrumentFormat .read (replicate count tt) start (drop start file))
+    instruments-end h =
+        run-path (omega (arith, w .reached .left .from)) (w .reached .told .counted) (w .reached .told .written)
+        ∙ sym (ap (instrumentsStep start) (reached-end instrumentFormat _ file start (w .reached) (rw length-replicate h)))
+
+    module _ (h : j < count) where
+      pub instruments-out : {step : InstrumentStep} {f : Fault} → step ≡ instrumentStep place (readInstrument place (drop place file)) → step ≡ instrument.Refused f
+          → instrumentRefused step ≡ instrumentsStep start (each instrumentFormat .read (replicate count tt) start (drop start file))
+      instruments-out e told = instrument-on place start _ _ e told λ r er.
+          reached-out instrumentFormat _ file start (w .reached) tt (rw length-replicate h) (getD-replicate count j tt tt h) er
+
+      pub instruments-on : Bytes file → {part : InstrumentPart} → instrument.Read part ≡ instrumentStep place (readInstrument place (drop place file))
+          → InstrumentsRead file start count (j + 1) (part .next) (samples + part .samples) (pressed + part .pressed)
+      instruments-on b e = instrument-got place _ e λ i n ei q c z.
+          let k = instrument-keeps .keeps place (drop place file) i n (bytes-drop place b) ei in
+          let heads = length-map (i .samples .0) Stretch.bytes in
+          let rows = rows-counted (i .samples .0) (i .samples .1) (instrument-tells .tells place file i n b ei .sizes) in
+          record {
+            reached =
+                reached-on instrumentFormat _ file start (w .reached) tt (rw length-replicate h) (getD-replicate count j tt tt h) (InstrumentsTold _ _) ei q
+                (λ t. record {
+                  counted = rw (joined-append, length-append, length-append) (omega (arith, t .counted, rows));
+                  written = omega (arith, t .written, written-more instrumentFormat (w .reached .done) i);
+                });
+            inside = omega (arith, w .inside, k .inside, length-drop place file);
+            short = omega (arith, w .short, k .short);
+            few = omega (arith, w .few, k .good .few, heads);
+          }
