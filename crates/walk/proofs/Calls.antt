@@ -12,7 +12,7 @@ use Rattle.walk.specs.declared.Verdict.{Verdict}
 use Rattle.walk.specs.File.{verdictOf, verdictNumbers}
 
 -- The numbers are the paper's
-verdict-numbers : (answer : Answer Checked) → verdictNumbers (verdictOf answer) ≡ numbers checkResults answer
+pub verdict-numbers : (answer : Answer Checked) → verdictNumbers (verdictOf answer) ≡ numbers checkResults answer
 verdict-numbers (gives c) = refl
 verdict-numbers (refuses r) = refl
 

@@ -1,0 +1,139 @@
+-- The check that fills the tables: refused as the check is, refused for room, or accepted and filled. Assumes nothing.
+use Prim.Native.Nat.{ℕ, _+_, _/_, _≤_}
+use mathlib.Core.Bool.{Bool, true, false}
+use mathlib.Core.List.{List, [], _∷_}
+use mathlib.Core.Path.{_≡_, refl, sym, ap, _∙_}
+use native.Mathlib.Nat.{min-le-left, min-le-right}
+use native.Mathlib.Omega.{arith}
+use lib.IntN.{ℤ}
+use lib.ListN.{length, length-map, length-replicate, replicate, drop}
+use Rattle.xm.specs.Got.{Refusal, got, _at_}
+use Rattle.xm.specs.Format.{joined}
+use Rattle.xm.specs.Answer.{Answer, gives, refuses, inFront}
+use Rattle.xm.specs.Header.{Header, channelsAt, patternsAt, instrumentsAt, headerEnd}
+use Rattle.xm.specs.PatternInFile.{patternFormat}
+use Rattle.xm.specs.Instrument.{InstrumentFound, instrumentFormat}
+use Rattle.xm.specs.Module.{Found, readFile}
+use Rattle.xm.specs.Table.{patternRow, patternRows, sampleCount, instrumentRowsFrom, instrumentRows, sampleRows, Checked, checkedAs, checking, checkingInto, Tables, roomOf, tablesAfter, patternStride, instrumentStride, sampleStride, tuneStride, patternNumbers, instrumentNumbers, sampleNumbers, sampleTunes}
+use Rattle.xm.specs.Demands.{RoomFor}
+use Rattle.xm.proofs.Format.{joined-length, read-length}
+use Rattle.xm.proofs.Demands.{tables-tell}
+use Rattle.refusal.specs.Fault.{faultOf}
+use Rattle.refusal.specs.declared.Fault.{Fault}
+use Rattle.walk.specs.Test.{allPass}
+use Rattle.walk.specs.File.{verdictOf}
+use Rattle.walk.specs.declared.Module.{Module}
+use Rattle.walk.specs.declared.Verdict.{Verdict}
+use Rattle.walk.specs.declared.Verdict.the-variants as verdict
+use Rattle.walk.proofs.Tests.{all-hold, not-all-hold}
+use Rattle.tables.specs.Accepted.{Accepted, listIn}
+use Rattle.tables.specs.Into.{lent, roomFor, roomTestsOf}
+use Rattle.tables.proofs.Reading.{file-reads}
+use Rattle.tables.proofs.VerdictLaws.{verdict-got, verdict-refused}
+
+same-module : {x y : Module} → verdict.Accepted x ≡ verdict.Accepted y → x ≡ y
+same-module e = cc
+
+-- As many rows as the check counts
+rows-from : (first : ℕ) (is : List InstrumentFound) → length (instrumentRowsFrom first is) ≡ length is
+rows-from first [] = refl
+rows-from first (i ∷ is) = rw (rows-from (first + sampleCount i) is)
+
+record Counted (found : Found) (x : Module) : Type 0 where
+  patterns : length (patternRows found) ≡ x .patterns
+  instruments : length (instrumentRows found) ≡ x .instruments
+  samples : length (sampleRows found) ≡ x .samples
+
+rows-counted : (file : List ℕ) (found : Found) (end : ℕ) → readFile file ≡ got found end → {x : Module} → verdict.Accepted x ≡ verdictOf (gives (checkedAs found end)) → Counted found x
+rows-counted file found end e {x} v =
+    let w = file-reads file found end e in
+    let same = same-module v in
+    record {
+      patterns =
+          length-map (found .1 .0) patternRow
+          ∙ read-length patternFormat (replicate (patternsAt file) (channelsAt file)) (headerEnd file) (drop (headerEnd file) file) (found .1 .0) _ (w .patterns .reads)
+          ∙ length-replicate (patternsAt file) (channelsAt file)
+          ∙ sym (ap Module.patterns same ∙ ap Header.patterns (w .header));
+      instruments =
+          rows-from 0 (found .1 .1)
+          ∙ read-length instrumentFormat (replicate (instrumentsAt file) tt) (w .from) (drop (w .from) file) (found .1 .1) _ (w .instruments .reads)
+          ∙ length-replicate (instrumentsAt file) tt
+          ∙ sym (ap Module.instruments same ∙ ap Header.instruments (w .header));
+      samples = sym (ap Module.samples same);
+    }
+
+module _ (file patterns instruments samples : List ℕ) (tunes : List ℤ) where
+  abbrev tables : Tables
+  tables = lent patterns instruments samples tunes
+
+  abbrev into : Answer Checked
+  into = checkingInto (roomOf tables) file
+
+  -- what a call answers, and what it leaves in the tables
+  pub record Told (answer : Verdict) (left : Tables) : Type 0 where
+    pub answers : answer ≡ verdictOf into
+    pub leaves : left ≡ tablesAfter into tables
+
+  told-refused : {r : Refusal} → into ≡ refuses r → Told (verdict.Refused (faultOf r)) tables
+  unfolding tablesAfter
+  told-refused e = record { answers = sym (ap verdictOf e); leaves = sym (ap (λ (a : Answer Checked). tablesAfter a tables) e) }
+
+  pub into-refused : {v : Verdict} {f : Fault} → v ≡ verdictOf (checking file) → v ≡ verdict.Refused f → Told v tables
+  into-refused e told = verdict-refused file e told λ r q same. rw same (told-refused (tables-tell file (roomOf tables) .own-first r q))
+
+  module _ {x : Module} (e : verdict.Accepted x ≡ verdictOf (checking file)) where
+    accepted : {R : Type 0} → ((found : Found) (end : ℕ) → readFile file ≡ got found end → verdict.Accepted x ≡ verdictOf (gives (checkedAs found end)) → Counted found x → R) → R
+    accepted k = verdict-got file e λ found end q v. k found end q v (rows-counted file found end q v)
+
+    abbrev fits : Bool
+    fits = allPass (roomTestsOf (roomFor (length patterns) (length instruments) (length samples) (length tunes)) x)
+
+    pub into-cramped : fits ≡ false → Told (verdict.Refused (faultOf (14 at 0))) tables
+    into-cramped f = accepted λ found end q v c.
+        told-refused (tables-tell file (roomOf tables) .no-room-exactly found end q .1
+        (λ h. not-all-hold _ f (omega (arith, h .0, c .patterns), (omega (arith, h .1, c .instruments), (omega (arith, h .2, c .samples), tt)))))
+
+    room-for : fits ≡ true → (found : Found) → Counted found x → RoomFor (roomOf tables) found
+    room-for f found c = let h = all-hold _ f in (omega (arith, h .0, c .patterns), omega (arith, h .1 .0, c .instruments), omega (arith, h .1 .1 .0, c .samples))
+
+    -- there is room for every number, so that the tables can be filled
+    pub record Roomy : Type 0 where
+      pub accepts : Accepted (readFile file)
+      pub for-patterns : length (joined patternNumbers (listIn patternRows (readFile file))) ≤ length patterns
+      pub for-instruments : length (joined instrumentNumbers (listIn instrumentRows (readFile file))) ≤ length instruments
+      pub count : x .samples ≡ length (listIn sampleRows (readFile file))
+      pub for-samples : length (joined sampleNumbers (listIn sampleRows (readFile file))) ≤ length samples
+      pub for-tunes : length (joined sampleTunes (listIn sampleRows (readFile file))) ≤ length tunes
+
+    pub into-roomy : fits ≡ true → Roomy
+    into-roomy f = accepted λ found end q v c.
+        let h = room-for f found c in
+        let l = min-le-left (length samples / sampleStride) (length tunes / tuneStride) in
+        let r = min-le-right (length samples / sampleStride) (length tunes / tuneStride) in
+        record {
+          accepts = rw q tt;
+          for-patterns = rw q (omega (arith, h .0, joined-length patternStride patternNumbers (λ row. refl) (patternRows found)));
+          for-instruments = rw q (omega (arith, h .1, joined-length instrumentStride instrumentNumbers (λ row. refl) (instrumentRows found)));
+          count = rw q (sym (c .samples));
+          for-samples = rw q (omega (arith, h .2, l, joined-length sampleStride sampleNumbers (λ row. refl) (sampleRows found)));
+          for-tunes = rw q (omega (arith, h .2, r, joined-length tuneStride sampleTunes (λ row. refl) (sampleRows found)));
+        }
+
+    pub into-filled : fits ≡ true → {patterns′ instruments′ samples′ : List ℕ} {tunes′ : List ℤ}
+        → patterns′ ≡ inFront (joined patternNumbers (listIn patternRows (readFile file))) patterns
+        → instruments′ ≡ inFront (joined instrumentNumbers (listIn instrumentRows (readFile file))) instruments
+        → samples′ ≡ inFront (joined sampleNumbers (listIn sampleRows (readFile file))) samples
+        → tunes′ ≡ inFront (joined sampleTunes (listIn sampleRows (readFile file))) tunes
+        → Told (verdict.Accepted x) (lent patterns′ instruments′ samples′ tunes′)
+    unfolding tablesAfter
+    into-filled f p i s t = accepted λ found end q v c.
+        let a : into ≡ gives (checkedAs found end) = tables-tell file (roomOf tables) .filled-else found end q (room-for f found c) in
+        record {
+          answers = v ∙ sym (ap verdictOf a);
+          leaves =
+              lent-path (p ∙ rw q refl) (i ∙ rw q refl) (s ∙ rw q refl) (t ∙ rw q refl)
+              ∙ sym (ap (λ (a : Answer Checked). tablesAfter a tables) a);
+        }
+      where
+        lent-path : {a b c d e f : List ℕ} {g h : List ℤ} → a ≡ b → c ≡ d → e ≡ f → g ≡ h → lent a c e g ≡ lent b d f h
+        lent-path p q r s = cc

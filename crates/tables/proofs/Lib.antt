@@ -1,0 +1,13 @@
+pub mod Reading
+pub mod PatternLaws
+pub mod InstrumentLaws
+pub mod PlaceLoops
+pub mod SampleLaws
+pub mod Stores
+pub mod FillLaws
+pub mod VerdictLaws
+pub mod IntoLaws
+pub mod AskLaws
+pub mod StandingLaws
+pub mod StandingLoops
+pub mod Calls

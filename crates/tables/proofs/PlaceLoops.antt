@@ -1,0 +1,123 @@
+-- The loops that step over patterns and over sample data. Assumes nothing.
+use Prim.Native.Nat.{ℕ, zero, suc, _+_, _-_, _*_, _≤_, _<_}
+use mathlib.Core.List.{List, [], _∷_}
+use mathlib.Core.Path.{_≡_, refl, sym, ap, _∙_}
+use native.Mathlib.Nat.{mul-le-mul-right, suc-mul}
+use native.Mathlib.Omega.{arith}
+use lib.ListN.{length, drop}
+use lib.Seq.{drop-drop}
+use Rattle.xm.specs.Got.{AllHold}
+use Rattle.xm.specs.Stored.{rowsMost}
+use Rattle.xm.specs.Header.{headerTests, channelsAt, patternsAt, headerEnd}
+use Rattle.xm.specs.PatternInFile.{leastPattern, PatternFound, patternFormat}
+use Rattle.xm.specs.Sample.{leastHead, headBytes, dataSize}
+use Rattle.xm.specs.Module.{Found, fileMost, readFile}
+use Rattle.xm.specs.Table.{patternRow, patternNumbers}
+use Rattle.tables.specs.Accepted.{Accepted, listIn, ReadsFrom, InstrumentsFrom}
+use Rattle.tables.specs.Place.{patternAt, dataBefore, dataPlace, Stands}
+use Rattle.tables.specs.declared.place.Counts.{Counts}
+use Rattle.tables.specs.declared.place.PatternAt.{PatternAt}
+use Rattle.tables.specs.declared.place.InstrumentAt.{InstrumentAt}
+use Rattle.tables.proofs.Reading.{accepted-got, reads-none, reads-next, file-reads}
+use Rattle.tables.proofs.PatternLaws.{pattern-stands}
+
+-- What is read at a place, by its fields
+pub counts-path : {a b c d e f : ℕ} → a ≡ b → c ≡ d → e ≡ f → _≡_ {A = Counts} (record { patterns = a; instruments = c; start = e }) (record { patterns = b; instruments = d; start = f })
+counts-path p q r = cc
+
+pub pattern-path : {a b c d e f : ℕ} → a ≡ b → c ≡ d → e ≡ f → _≡_ {A = PatternAt} (record { place = a; size = c; rows = e }) (record { place = b; size = d; rows = f })
+pattern-path p q r = cc
+
+pub instrument-path : {a b c d e f : ℕ} → a ≡ b → c ≡ d → e ≡ f
+    → _≡_ {A = InstrumentAt} (record { samples = a; heads = c; «head_size» = e }) (record { samples = b; heads = d; «head_size» = f })
+instrument-path p q r = cc
+
+-- So many patterns are still to be stepped over, from a place on; behind them are the instruments
+pub record Skipping (file : List ℕ) (left place : ℕ) (parts : List PatternFound) : Type 0 where
+  pub small : length file ≤ fileMost
+  pub from : ℕ
+  pub reads : ReadsFrom patternFormat (channelsAt file) file left place parts from
+  pub after : InstrumentsFrom file from
+
+-- A pattern's fields lie in the file
+pub record PatternFits (file : List ℕ) (x : PatternAt) : Type 0 where
+  pub inside : x .place + x .size ≤ length file
+  pub few : x .rows ≤ rowsMost
+
+module _ (file : List ℕ) where
+  pub accepted-header : Accepted (readFile file) → AllHold (headerTests 0 file)
+  accepted-header h = accepted-got (readFile file) h λ found end e. file-reads file found end e .tests
+
+  pub skipping-start : Accepted (readFile file) → Skipping file (patternsAt file) (headerEnd file) (listIn (λ (found : Found). found .1 .0) (readFile file))
+  skipping-start h = accepted-got (readFile file) h λ found end e.
+      let w = file-reads file found end e in
+      record { small = w .small; from = w .from; reads = rw e (w .patterns); after = record { end = w .end; reads = rw e (w .instruments) } }
+
+  module _ {left place : ℕ} {parts : List PatternFound} (w : Skipping file left place parts) where
+    pub skipping-end : left ≡ 0 → (parts ≡ []) × InstrumentsFrom file place
+    skipping-end z =
+        let none = reads-none patternFormat (channelsAt file) file (rw z at (w .reads)) in
+        (none .0, rw (none .1) (w .after))
+
+    module _ (l : 0 < left) where
+      pub skipping-room : place + leastPattern ≤ length file
+      skipping-room = reads-next patternFormat (channelsAt file) file (w .reads) l λ i n more ei ep rest.
+          let p = pattern-stands (channelsAt file) file place i n ei in omega (arith, p .used, p .least, p .inside)
+
+      pub skipping-on : {R : Type 0} {x : PatternAt} → x ≡ patternAt place (drop place file)
+          → ((i : PatternFound) (more : List PatternFound) → parts ≡ i ∷ more → i .place ≡ place → patternNumbers (patternRow i) ≡ x .place ∷ x .size ∷ x .rows ∷ [] → PatternFits file x
+          → Skipping file (left - 1) (x .place + x .size) more → R) → R
+      skipping-on {x = x} e k = reads-next patternFormat (channelsAt file) file (w .reads) l λ i n more ei ep rest.
+          let p = pattern-stands (channelsAt file) file place i n ei in
+          let next : x .place + x .size ≡ place + n = omega (arith, ap PatternAt.place e, ap PatternAt.size e, p .used) in
+          k i more ep (p .starts) (p .numbers ∙ ap (λ (x : PatternAt). x .place ∷ x .size ∷ x .rows ∷ []) (sym e))
+          (record { inside = omega (arith, p .inside); few = omega (arith, p .few, ap PatternAt.rows e) })
+          (record { small = w .small; from = w .from; reads = rw next rest; after = w .after })
+
+-- The data of one sample, and of more
+before-step : (left size : ℕ) (s : List ℕ) → 0 < left → dataBefore left size s ≡ dataSize (headBytes size s) + dataBefore (left - 1) size (drop size s)
+unfolding dataBefore
+before-step zero size s l = absurd (omega arith)
+before-step (suc left) size s l = let z : suc left - 1 ≡ left = omega arith in rw z
+
+pub before-more : (a b size : ℕ) (s : List ℕ) → a ≤ b → dataBefore a size s ≤ dataBefore b size s
+unfolding dataBefore
+before-more zero b size s h = omega arith
+before-more (suc a) zero size s h = absurd (omega arith)
+before-more (suc a) (suc b) size s h = omega (arith, before-more a b size (drop size s) (omega arith))
+
+pub times-step : (left size : ℕ) → 0 < left → left * size ≡ size + (left - 1) * size
+times-step zero size l = absurd (omega arith)
+times-step (suc left) size l = let z : suc left - 1 ≡ left = omega arith in rw z (omega (arith, suc-mul left size))
+
+-- So many samples' data are still to be stepped over: `head` is the next one's header
+pub record Summing (file : List ℕ) (size goal left head place : ℕ) : Type 0 where
+  pub same : place + dataBefore left size (drop head file) ≡ goal
+  pub fits : head + left * size ≤ length file
+  pub wide : 0 < left → leastHead ≤ size
+  pub inside : goal ≤ length file
+
+pub summing-start : (file : List ℕ) (x : InstrumentAt) (number : ℕ) → Stands file x → number ≤ x .samples
+    → Summing file (x .«head_size») (dataPlace file x number) number (x .heads) (x .heads + x .samples * x .«head_size»)
+summing-start file x number w l = record {
+  same = refl;
+  fits = omega (arith, w .inside, mul-le-mul-right {m = number} {n = x .samples} (x .«head_size») l);
+  wide = λ h. w .wide (omega arith);
+  inside = omega (arith, w .inside, before-more number (x .samples) (x .«head_size») (drop (x .heads) file) l);
+}
+
+module _ (file : List ℕ) (size goal : ℕ) {left head place : ℕ} (w : Summing file size goal left head place) where
+  pub summing-on : 0 < left → {size′ : ℕ} → size′ ≡ dataSize (headBytes size (drop head file)) → Summing file size goal (left - 1) (head + size) (place + size′)
+  summing-on l e = record {
+    same = omega (arith, w .same, e, before-step left size (drop head file) l, ap (dataBefore (left - 1) size) (drop-drop size head file));
+    fits = omega (arith, w .fits, times-step left size l);
+    wide = λ h. w .wide l;
+    inside = w .inside;
+  }
+
+  pub summing-room : 0 < left → head + size ≤ length file
+  summing-room l = omega (arith, w .fits, times-step left size l)
+
+  pub summing-end : left ≡ 0 → place ≡ goal
+  unfolding dataBefore
+  summing-end z = let e : place + 0 ≡ goal = rw z at (w .same) in omega arith

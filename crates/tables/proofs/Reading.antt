@@ -1,0 +1,72 @@
+-- A second pass over an accepted file: what is left of an accepted reading is accepted, part by part. Assumes nothing.
+use Prim.Native.Nat.{ℕ, zero, suc, _+_, _-_, _≤_, _<_}
+use mathlib.Core.List.{List, [], _∷_}
+use mathlib.Core.Path.{_≡_, refl, sym, ap}
+use native.Mathlib.Nat.{zero-add}
+use native.Mathlib.Omega.{arith}
+use lib.ListN.{length, drop, replicate}
+use lib.Seq.{drop-drop}
+use Rattle.xm.specs.Got.{Got, got, refused, AllHold}
+use Rattle.xm.specs.Format.{Format, each, eachRead}
+use Rattle.xm.specs.Header.{headerOf, HeaderFound, headerTests, channelsAt, patternsAt, instrumentsAt, headerEnd, readHeader}
+use Rattle.xm.specs.PatternInFile.{PatternFound, patternFormat}
+use Rattle.xm.specs.Instrument.{InstrumentFound, instrumentFormat}
+use Rattle.xm.specs.Module.{Found, patternsFor, instrumentsFor, moduleFormat, fileMost, readFile}
+use Rattle.xm.proofs.Got.{passed, bind-got, got-value, got-used, got-carry}
+use Rattle.xm.proofs.Module.{whole-read}
+use Rattle.tables.specs.Accepted.{Accepted, listIn, ReadsFrom}
+
+-- An accepted reading, and a list that is not empty is of one
+pub accepted-got : {A R : Type 0} (g : Got A) → Accepted g → ((a : A) (n : ℕ) → g ≡ got a n → R) → R
+accepted-got (got a n) h k = k a n refl
+accepted-got (refused r) h k = absurd h
+
+pub some-accepted : {A B : Type 0} (rows : A → List B) (g : Got A) {number : ℕ} → number < length (listIn rows g) → Accepted g
+some-accepted rows (got a n) h = tt
+some-accepted rows (refused r) h = absurd (omega arith)
+
+-- Parts that are read one after the other: none, and the first of them
+module _ {H I A : Type 0} (F : Format H I A) (h : H) (file : List ℕ) where
+  pub reads-none : {place end : ℕ} {parts : List I} → ReadsFrom F h file 0 place parts end → (parts ≡ []) × (place ≡ end)
+  reads-none w = (sym (got-value (w .reads)), omega (arith, got-used (w .reads), w .ends))
+
+  pub reads-next : {R : Type 0} {count place end : ℕ} {parts : List I} → ReadsFrom F h file count place parts end → 0 < count
+      → ((i : I) (n : ℕ) (more : List I) → F .read h place (drop place file) ≡ got i n → parts ≡ i ∷ more → ReadsFrom F h file (count - 1) (place + n) more end → R)
+      → R
+  reads-next {count = zero} w l k = absurd (omega arith)
+  reads-next {count = suc count} {place} w l k =
+      bind-got (F .read h place (drop place file)) _ (w .reads) λ i n ei e.
+      bind-got (eachRead F (replicate count h) (place + n) (drop n (drop place file))) _ e λ more m em e.
+      let z : suc count - 1 ≡ count = omega arith in
+      k i n more ei (sym (got-value e)) (record { used = m; reads = rw (z, ← drop-drop n place file) em; ends = omega (arith, got-used e, w .ends) })
+
+-- A whole file: its header's tests, its patterns and its instruments
+pub record FileReads (file : List ℕ) (found : Found) : Type 0 where
+  pub small : length file ≤ fileMost
+  pub tests : AllHold (headerTests 0 file)
+  pub header : found .0 .content ≡ headerOf file
+  pub from : ℕ
+  pub end : ℕ
+  pub patterns : ReadsFrom patternFormat (channelsAt file) file (patternsAt file) (headerEnd file) (found .1 .0) from
+  pub instruments : ReadsFrom instrumentFormat tt file (instrumentsAt file) from (found .1 .1) end
+
+pub file-reads : (file : List ℕ) (found : Found) (end : ℕ) → readFile file ≡ got found end → FileReads file found
+unfolding readHeader
+file-reads file found end e =
+    whole-read moduleFormat file found end e λ small e.
+    bind-got (readHeader 0 file) _ e λ i n eh e₁. bind-got _ _ e₁ λ v m ev e₂.
+    bind-got _ _ ev λ ps k ep e₃. bind-got _ _ e₃ λ is j ei e₄.
+    passed _ _ eh λ tests eh.
+    let patterns = got-carry (λ (i : HeaderFound) (n : ℕ). each patternFormat .read (patternsFor (i .content)) (0 + n) (drop n file) ≡ got ps k) (sym eh) ep in
+    let instruments = got-carry (λ (i : HeaderFound) (n : ℕ). each instrumentFormat .read (instrumentsFor (i .content) []) (0 + n + k) (drop k (drop n file)) ≡ got is j) (sym eh) ei in
+    got-carry (λ (r : Found) (u : ℕ). FileReads file r) e₂
+    (got-carry (λ (r : List PatternFound × List InstrumentFound) (u : ℕ). FileReads file (i, r)) e₄
+    (record {
+      small = small;
+      tests = tests;
+      header = ap HeaderFound.content (sym (got-value eh));
+      from = headerEnd file + k;
+      end = headerEnd file + k + j;
+      patterns = record { used = k; reads = rw (zero-add (headerEnd file)) at patterns; ends = refl };
+      instruments = record { used = j; reads = rw (zero-add (headerEnd file), drop-drop k (headerEnd file) file) at instruments; ends = refl };
+    }))

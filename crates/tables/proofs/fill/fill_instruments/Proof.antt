@@ -1,0 +1,89 @@
+-- `tables::fill::fill_instruments` meets its contract. The loop's invariant: the numbers of the instruments that are left are still to be
+-- laid. Assumes nothing.
+use mathlib.Core.Path.{ap}
+use native.Mathlib.Omega.{arith}
+use Rattle.tables.specs.declared.place.Counts.{Counts}
+use Rattle.tables.proofs.PlaceLoops.{accepted-header}
+use Rattle.tables.proofs.FillLaws.{FillingInstruments, instruments-start, instruments-tests, instruments-place, instruments-stands, instruments-room, instruments-on, instruments-done}
+use Rattle.tables.proofs.fill.fill_instruments.Statement.{statement}
+use Rattle.tables.proofs.fill.fill_instruments.Tie as tie
+
+abbrev Inv-loop : tie.InvT-loop
+Inv-loop file table₀ place₀ left₀ first₀ to₀ table place left first to = FillingInstruments file table₀ table left place first to
+
+abbrev μ-loop : tie.MeasureT-loop
+μ-loop file table₀ place₀ left₀ first₀ to₀ table place left first to = left
+
+header-counts-requires : tie.Need-header-counts-requires Inv-loop μ-loop
+header-counts-requires c κs = accepted-header _ (c .before .before .pre .0) .0
+
+first-instrument-requires : tie.Need-first-instrument-requires Inv-loop μ-loop
+first-instrument-requires c κs = c .before .before .before .pre .0
+
+loop-holds : tie.Need-loop-holds Inv-loop μ-loop
+loop-holds c =
+    let p = c .before .before .before .before .pre in
+    rw (ap Counts.instruments (c .before .header-counts .ensures)) (instruments-start _ _ (p .0) (c .first-instrument .ensures) (p .1))
+
+instrument-at-requires : tie.Need-instrument-at-requires Inv-loop μ-loop
+instrument-at-requires c κs = let w = c .before .loop .inv in (instruments-tests _ _ w (record { below = λ i. omega (arith, c .before .before .before .before .before .shared-slice-known .given i) }) (c .loop-test .taken), w .small)
+
+cast-put-three : tie.Need-cast-put-three Inv-loop μ-loop
+cast-put-three c = let w = c .before .before .before .loop .inv in omega (arith, instruments-place _ _ w (record { below = λ i. omega (arith, c .before .before .before .before .before .before .before .shared-slice-known .given i) }) (c .before .before .loop-test .taken), w .small)
+
+cast-put-three-2 : tie.Need-cast-put-three-2 Inv-loop μ-loop
+cast-put-three-2 c = omega (arith, instruments-stands _ _ (c .before .before .before .loop .inv) (record { below = λ i. omega (arith, c .before .before .before .before .before .before .before .shared-slice-known .given i) }) (c .before .before .loop-test .taken) (c .before .instrument-at .ensures) .few)
+
+cast-put-three-3 : tie.Need-cast-put-three-3 Inv-loop μ-loop
+cast-put-three-3 c = omega (arith, c .before .before .before .loop .inv .few)
+
+put-three-requires : tie.Need-put-three-requires Inv-loop μ-loop
+put-three-requires c κs = instruments-room _ _ (c .before .before .before .loop .inv) (record { below = λ i. omega (arith, c .before .before .before .before .before .before .before .shared-slice-known .given i) }) (c .before .before .loop-test .taken) (c .before .instrument-at .ensures)
+
+data-place-requires : tie.Need-data-place-requires Inv-loop μ-loop
+data-place-requires c κs = (instruments-stands _ _ (c .before .before .before .before .before .before .loop .inv) (record { below = λ i. omega (arith, c .before .before .before .before .before .before .before .before .before .before .shared-slice-known .given i) }) (c .before .before .before .before .before .loop-test .taken) (c .before .before .before .before .instrument-at .ensures), omega arith)
+
+sub-left : tie.Need-sub-left Inv-loop μ-loop
+sub-left c = omega arith
+
+add-first : tie.Need-add-first Inv-loop μ-loop
+add-first c = omega (arith, c .before .before .before .before .before .before .before .loop .inv .few, instruments-stands _ _ (c .before .before .before .before .before .before .before .loop .inv) (record { below = λ i. omega (arith, c .before .before .before .before .before .before .before .before .before .before .before .shared-slice-known .given i) }) (c .before .before .before .before .before .before .loop-test .taken) (c .before .before .before .before .before .instrument-at .ensures) .few)
+
+add-to : tie.Need-add-to Inv-loop μ-loop
+add-to c = omega (arith, instruments-room _ _ (c .before .before .before .before .before .before .before .loop .inv) (record { below = λ i. omega (arith, c .before .before .before .before .before .before .before .before .before .before .before .shared-slice-known .given i) }) (c .before .before .before .before .before .before .loop-test .taken) (c .before .before .before .before .before .instrument-at .ensures))
+
+loop-less : tie.Need-loop-less Inv-loop μ-loop
+loop-less c = omega arith
+
+loop-again : tie.Need-loop-again Inv-loop μ-loop
+loop-again c = instruments-on _ _ (c .before .before .before .before .before .before .before .loop .inv) (record { below = λ i. omega (arith, c .before .before .before .before .before .before .before .before .before .before .before .shared-slice-known .given i) }) (c .before .before .before .before .before .before .loop-test .taken) (c .before .before .before .before .before .instrument-at .ensures) (c .before .before .before .put-three .ensures) (c .data-place .ensures)
+    (omega arith)
+
+same-length : tie.Need-same-length Inv-loop μ-loop
+same-length c = c .before .loop .inv .laid .kept
+
+returns : tie.Need-returns Inv-loop μ-loop
+returns c = instruments-done _ _ (c .before .loop .inv) (omega arith)
+
+pub fill-instruments-spec : {M : Type 1} → statement M
+fill-instruments-spec =
+    tie.close
+    (tie.spec
+    Inv-loop
+    μ-loop
+    header-counts-requires
+    first-instrument-requires
+    loop-holds
+    instrument-at-requires
+    cast-put-three
+    cast-put-three-2
+    cast-put-three-3
+    put-three-requires
+    data-place-requires
+    sub-left
+    add-first
+    add-to
+    loop-less
+    loop-again
+    same-length
+    returns)

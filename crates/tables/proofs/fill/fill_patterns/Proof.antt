@@ -1,0 +1,92 @@
+-- `tables::fill::fill_patterns` meets its contract. The loop's invariant: the numbers of the patterns that are left are still to be laid.
+-- Assumes nothing.
+use mathlib.Core.Path.{ap}
+use native.Mathlib.Omega.{arith}
+use Rattle.tables.specs.declared.place.Counts.{Counts}
+use Rattle.tables.proofs.PlaceLoops.{accepted-header, skipping-room}
+use Rattle.tables.proofs.FillLaws.{FillingPatterns, patterns-start, patterns-fit, patterns-room, patterns-on, patterns-done}
+use Rattle.tables.proofs.fill.fill_patterns.Statement.{statement}
+use Rattle.tables.proofs.fill.fill_patterns.Tie as tie
+
+abbrev Inv-loop : tie.InvT-loop
+Inv-loop file table₀ place₀ left₀ to₀ table place left to = FillingPatterns file table₀ table left place to
+
+abbrev μ-loop : tie.MeasureT-loop
+μ-loop file table₀ place₀ left₀ to₀ table place left to = left
+
+header-counts-requires : tie.Need-header-counts-requires Inv-loop μ-loop
+header-counts-requires c κs = accepted-header _ (c .before .before .pre .0) .0
+
+loop-holds : tie.Need-loop-holds Inv-loop μ-loop
+loop-holds c =
+    let e = c .header-counts .ensures in
+    let p = c .before .before .before .pre in
+    rw (ap Counts.patterns e, ap Counts.start e) (patterns-start _ _ (p .0) (p .1))
+
+pattern-at-requires : tie.Need-pattern-at-requires Inv-loop μ-loop
+pattern-at-requires c κs = let w = c .before .loop .inv .skipping in (skipping-room _ w (c .loop-test .taken), w .small)
+
+cast-put-three : tie.Need-cast-put-three Inv-loop μ-loop
+cast-put-three c =
+    let w = c .before .before .before .before .loop .inv in
+    let f = patterns-fit _ _ w (c .before .before .before .loop-test .taken) (c .before .before .pattern-at .ensures) in
+    omega (arith, f .inside, w .skipping .small)
+
+cast-put-three-2 : tie.Need-cast-put-three-2 Inv-loop μ-loop
+cast-put-three-2 c =
+    let w = c .before .before .before .before .before .loop .inv in
+    let f = patterns-fit _ _ w (c .before .before .before .before .loop-test .taken) (c .before .before .before .pattern-at .ensures) in
+    omega (arith, f .inside, w .skipping .small)
+
+cast-put-three-3 : tie.Need-cast-put-three-3 Inv-loop μ-loop
+cast-put-three-3 c =
+    let f = patterns-fit _ _ (c .before .before .before .before .before .before .loop .inv) (c .before .before .before .before .before .loop-test .taken) (c .before .before .before .before .pattern-at .ensures) in
+    omega (arith, f .few)
+
+put-three-requires : tie.Need-put-three-requires Inv-loop μ-loop
+put-three-requires c κs = patterns-room _ _ (c .before .before .before .before .before .before .loop .inv) (c .before .before .before .before .before .loop-test .taken) (c .before .before .before .before .pattern-at .ensures)
+
+add-place : tie.Need-add-place Inv-loop μ-loop
+add-place c =
+    let w = c .before .before .before .before .before .before .before .before .before .before .loop .inv in
+    let f = patterns-fit _ _ w (c .before .before .before .before .before .before .before .before .before .loop-test .taken) (c .before .before .before .before .before .before .before .before .pattern-at .ensures) in
+    omega (arith, f .inside, w .skipping .small)
+
+sub-left : tie.Need-sub-left Inv-loop μ-loop
+sub-left c = omega arith
+
+add-to : tie.Need-add-to Inv-loop μ-loop
+add-to c = omega (arith, patterns-room _ _ (c .before .before .before .before .before .before .before .before .before .before .loop .inv) (c .before .before .before .before .before .before .before .before .before .loop-test .taken) (c .before .before .before .before .before .before .before .before .pattern-at .ensures))
+
+loop-less : tie.Need-loop-less Inv-loop μ-loop
+loop-less c = omega arith
+
+loop-again : tie.Need-loop-again Inv-loop μ-loop
+loop-again c = patterns-on _ _ (c .before .before .before .before .before .before .before .before .before .before .loop .inv) (c .before .before .before .before .before .before .before .before .before .loop-test .taken) (c .before .before .before .before .before .before .before .before .pattern-at .ensures) (c .before .before .before .put-three .ensures)
+
+same-length : tie.Need-same-length Inv-loop μ-loop
+same-length c = c .before .loop .inv .laid .kept
+
+returns : tie.Need-returns Inv-loop μ-loop
+returns c = patterns-done _ _ (c .before .loop .inv) (omega arith)
+
+pub fill-patterns-spec : {M : Type 1} → statement M
+fill-patterns-spec =
+    tie.close
+    (tie.spec
+    Inv-loop
+    μ-loop
+    header-counts-requires
+    loop-holds
+    pattern-at-requires
+    cast-put-three
+    cast-put-three-2
+    cast-put-three-3
+    put-three-requires
+    add-place
+    sub-left
+    add-to
+    loop-less
+    loop-again
+    same-length
+    returns)

@@ -1,0 +1,30 @@
+-- The check that fills the tables: what is lent, and its room.
+use Prim.Native.Nat.{ℕ, _/_, min}
+use mathlib.Core.List.{List, [], _∷_}
+use lib.IntN.{ℤ}
+use Rattle.xm.specs.Got.{Test, present, _at_}
+use Rattle.xm.specs.Answer.{Answer}
+use Rattle.xm.specs.Table.{Checked, patternStride, instrumentStride, sampleStride, tuneStride, Tables, Room, roomOf, checkingInto, tablesAfter}
+use Rattle.walk.specs.declared.Module.{Module}
+
+abbrev pub lent : (patterns instruments samples : List ℕ) (tunes : List ℤ) → Tables
+lent patterns instruments samples tunes = record { patterns = patterns; instruments = instruments; samples = samples; tunes = tunes }
+
+-- What a check into the tables answers, and what they hold afterwards.
+abbrev pub checkedInto : (file : List ℕ) → Tables → Answer Checked
+checkedInto file tables = checkingInto (roomOf tables) file
+
+abbrev pub tablesThen : (file : List ℕ) → Tables → Tables
+tablesThen file tables = tablesAfter (checkedInto file tables) tables
+
+-- The room by the lengths of what is lent, and its tests by the counts of an accepted file.
+abbrev pub roomFor : (patterns instruments samples tunes : ℕ) → Room
+roomFor patterns instruments samples tunes = record {
+  patterns = patterns / patternStride;
+  instruments = instruments / instrumentStride;
+  samples = min (samples / sampleStride) (tunes / tuneStride);
+}
+
+abbrev pub roomTestsOf : Room → Module → List Test
+roomTestsOf room x =
+    present (x .patterns) (room .patterns) (14 at 0) ∷ present (x .instruments) (room .instruments) (14 at 0) ∷ present (x .samples) (room .samples) (14 at 0) ∷ []

@@ -1,0 +1,5 @@
+pub mod Accepted
+pub mod Place
+pub mod Into
+pub mod Ask
+pub mod Standing

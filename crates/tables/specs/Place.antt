@@ -1,0 +1,85 @@
+-- What stands at a place of an accepted file, read off its bytes: no test is made again, and no cell is read.
+use Prim.Native.Nat.{ℕ, zero, suc, _+_, _*_, _≤_, _<_}
+use mathlib.Core.Bool.{cond}
+use mathlib.Core.List.{List, [], _∷_}
+use lib.Dec.{eqb}
+use lib.IntN.{ℤ}
+use lib.ListN.{length, drop}
+use Rattle.xm.specs.Stored.{standardRows}
+use Rattle.xm.specs.Header.{patternsAt, instrumentsAt, headerEnd}
+use Rattle.xm.specs.PatternInFile.{headSizeAt, rowsAt, dataSizeAt}
+use Rattle.xm.specs.Sample.{leastHead, headBytes, dataSize, widthOf, finetune, relativeNote}
+use Rattle.xm.specs.Instrument.{samplesMost, instrumentSizeAt, countAt, headerSizeAt}
+use Rattle.xm.specs.Module.{fileMost}
+use Rattle.xm.specs.Table as row
+use Rattle.tables.specs.declared.place.Counts.{Counts}
+use Rattle.tables.specs.declared.place.PatternAt.{PatternAt}
+use Rattle.tables.specs.declared.place.InstrumentAt.{InstrumentAt}
+use Rattle.tables.specs.declared.sample.SampleRow.{SampleRow}
+
+abbrev pub countsOf : (file : List ℕ) → Counts
+countsOf file = record { patterns = patternsAt file; instruments = instrumentsAt file; start = headerEnd file }
+
+-- "With S = 0 the pattern is the standard empty one .. whatever row number stands there."
+abbrev pub rowsRead : (rows size : ℕ) → ℕ
+rowsRead rows size = cond (eqb size 0) standardRows rows
+
+abbrev pub patternAt : (place : ℕ) → List ℕ → PatternAt
+patternAt place s = record { place = place + headSizeAt s; size = dataSizeAt s; rows = rowsRead (rowsAt s) (dataSizeAt s) }
+
+-- An instrument without samples has no H.
+abbrev pub headSizeOf : (k : ℕ) → List ℕ → ℕ
+headSizeOf zero s = 0
+headSizeOf (suc k) s = headerSizeAt s
+
+abbrev pub instrumentAt : (place : ℕ) → List ℕ → InstrumentAt
+instrumentAt place s = record { samples = countAt s; heads = place + instrumentSizeAt s; «head_size» = headSizeOf (countAt s) s }
+
+-- The bytes of the data of the first samples, whose headers stand in front of `s`.
+unfoldable pub dataBefore : (number size : ℕ) → List ℕ → ℕ
+dataBefore zero size s = 0
+dataBefore (suc number) size s = dataSize (headBytes size s) + dataBefore number size (drop size s)
+
+-- Where the data of an instrument's sample begin; of the number k, where they all end.
+abbrev pub dataPlace : (file : List ℕ) → InstrumentAt → (number : ℕ) → ℕ
+dataPlace file x number = x .heads + x .samples * x .«head_size» + dataBefore number (x .«head_size») (drop (x .heads) file)
+
+-- An instrument whose headers and data lie in the file.
+pub record Stands (file : List ℕ) (x : InstrumentAt) : Type 0 where
+  pub small : length file ≤ fileMost
+  pub few : x .samples ≤ samplesMost
+  pub wide : 0 < x .samples → leastHead ≤ x .«head_size»
+  pub inside : dataPlace file x (x .samples) ≤ length file
+
+-- The row of a sample, by its header.
+abbrev pub rowOf : (headerPlace dataPlace : ℕ) (head : List ℕ) → row.SampleRow
+rowOf headerPlace dataPlace head = record {
+  headerPlace = headerPlace;
+  dataPlace = dataPlace;
+  size = dataSize head;
+  width = widthOf head;
+  finetune = finetune head;
+  relativeNote = relativeNote head;
+}
+
+abbrev pub rowAt : (file : List ℕ) → InstrumentAt → (number : ℕ) → row.SampleRow
+rowAt file x number =
+    let place = x .heads + number * x .«head_size» in rowOf place (dataPlace file x number) (headBytes (x .«head_size») (drop place file))
+
+-- The row as the code has it.
+abbrev pub sampleRow : row.SampleRow → SampleRow
+sampleRow r = record {
+  «header_place» = r .headerPlace;
+  «data_place» = r .dataPlace;
+  length = r .size;
+  width = r .width;
+  finetune = r .finetune;
+  «relative_note» = r .relativeNote;
+}
+
+-- and its numbers in the tables.
+abbrev pub numbersOf : SampleRow → List ℕ
+numbersOf r = r .«header_place» ∷ r .«data_place» ∷ r .length ∷ r .width ∷ []
+
+abbrev pub tunesOf : SampleRow → List ℤ
+tunesOf r = r .finetune ∷ r .«relative_note» ∷ []

@@ -1,0 +1,96 @@
+// The three tables of an accepted file, each filled by a second pass, in a lent table that has the room.
+use crate::place::data_place;
+use crate::place::first_instrument;
+use crate::place::header_counts;
+use crate::place::instrument_at;
+use crate::place::pattern_at;
+use crate::sample::find_sample;
+use crate::sample::put_sample;
+ghost use mathlib.Core.Path.{_≡_};
+ghost use Prim.Native.Nat.{_+_, _≤_};
+ghost use mathlib.Core.List.{[], _∷_};
+ghost use lib.ListN.{length};
+ghost use Rattle.xm.specs.Format.{joined};
+ghost use Rattle.xm.specs.Answer.{inFront};
+ghost use Rattle.xm.specs.Lay.{lay};
+ghost use Rattle.xm.specs.Module.{readFile};
+ghost use Rattle.xm.specs.Table.{patternRows, instrumentRows, sampleRows, patternNumbers, instrumentNumbers, sampleNumbers, sampleTunes};
+ghost use Rattle.tables.specs.Accepted.{Accepted, listIn};
+
+// Numbers to a row.
+pub const PATTERN_STRIDE: usize = 3;
+
+pub const INSTRUMENT_STRIDE: usize = 3;
+
+// Stores a row of three numbers from `to` on.
+fn put_three(table: &mut [u32], to: usize, first: u32, second: u32, third: u32)
+    requires { ⌜ to + 3 ≤ length (now table) ⌝ }
+    ensures { λ _. ⌜ now (table .exit) ≡ lay (now (table .entry)) to (first ∷ second ∷ third ∷ []) ⌝ }
+{
+    table[to] = first;
+    table[to + 1] = second;
+    table[to + 2] = third;
+}
+
+// Patterns: data place, S, rows it reads as.
+pub fn fill_patterns(file: &[u8], table: &mut [u32])
+    requires { ⌜ Accepted (readFile (now file)) ⌝ }
+    requires { ⌜ length (joined patternNumbers (listIn patternRows (readFile (now file)))) ≤ length (now table) ⌝ }
+    ensures { λ _. ⌜ now (table .exit) ≡ inFront (joined patternNumbers (listIn patternRows (readFile (now (file .entry))))) (now (table .entry)) ⌝ }
+{
+    let counts = header_counts(file);
+    let mut place = counts.start;
+    let mut left = counts.patterns;
+    let mut to: usize = 0;
+    while 0 < left {
+        let pattern = pattern_at(file, place);
+        put_three(
+            table,
+            to,
+            pattern.place as u32,
+            pattern.size as u32,
+            pattern.rows as u32,
+        );
+        place = pattern.place + pattern.size;
+        left -= 1;
+        to += PATTERN_STRIDE;
+    }
+}
+
+// Instruments: place, k, number of its first sample, or of the next sample if k = 0.
+pub fn fill_instruments(file: &[u8], table: &mut [u32])
+    requires { ⌜ Accepted (readFile (now file)) ⌝ }
+    requires { ⌜ length (joined instrumentNumbers (listIn instrumentRows (readFile (now file)))) ≤ length (now table) ⌝ }
+    ensures { λ _. ⌜ now (table .exit) ≡ inFront (joined instrumentNumbers (listIn instrumentRows (readFile (now (file .entry))))) (now (table .entry)) ⌝ }
+{
+    let counts = header_counts(file);
+    let mut place = first_instrument(file);
+    let mut left = counts.instruments;
+    let mut first: usize = 0;
+    let mut to: usize = 0;
+    while 0 < left {
+        let instrument = instrument_at(file, place);
+        let samples = instrument.samples;
+        put_three(table, to, place as u32, samples as u32, first as u32);
+        place = data_place(file, instrument, samples);
+        left -= 1;
+        first += samples;
+        to += INSTRUMENT_STRIDE;
+    }
+}
+
+// Samples, `count` in all: header place, data place, length in bytes, width; and apart, finetune and relative note.
+pub fn fill_samples(file: &[u8], count: usize, table: &mut [u32], tunes: &mut [i8])
+    requires { ⌜ count ≡ length (listIn sampleRows (readFile (now file))) ⌝ }
+    requires { ⌜ length (joined sampleNumbers (listIn sampleRows (readFile (now file)))) ≤ length (now table) ⌝ }
+    requires { ⌜ length (joined sampleTunes (listIn sampleRows (readFile (now file)))) ≤ length (now tunes) ⌝ }
+    ensures { λ _. ⌜ now (table .exit) ≡ inFront (joined sampleNumbers (listIn sampleRows (readFile (now (file .entry))))) (now (table .entry)) ⌝ }
+    ensures { λ _. ⌜ now (tunes .exit) ≡ inFront (joined sampleTunes (listIn sampleRows (readFile (now (file .entry))))) (now (tunes .entry)) ⌝ }
+{
+    let mut number: usize = 0;
+    while number < count {
+        let row = find_sample(file, number);
+        put_sample(table, tunes, number, row);
+        number += 1;
+    }
+}

@@ -1,0 +1,95 @@
+// The row of a sample, found from the file alone.
+use crate::place::InstrumentAt;
+use crate::place::data_place;
+use crate::place::first_instrument;
+use crate::place::instrument_at;
+use walk::sample::sample_head;
+ghost use mathlib.Core.Path.{_≡_};
+ghost use Prim.Native.Nat.{_+_, _*_, _<_, _≤_, _/_, _%_};
+ghost use mathlib.Core.Bool.{cond};
+ghost use lib.Dec.{eqb};
+ghost use lib.ListN.{length, getD};
+ghost use Rattle.xm.specs.Module.{readFile};
+ghost use Rattle.xm.specs.Lay.{lay};
+ghost use Rattle.xm.specs.Table.{sampleRows, sampleStride, tuneStride};
+ghost use Rattle.xm.specs.Asking.{noRow};
+ghost use Rattle.tables.specs.Accepted.{listIn};
+ghost use Rattle.tables.specs.Place.{Stands, rowAt, sampleRow, numbersOf, tunesOf};
+
+// Numbers to a row, and tunes.
+pub const SAMPLE_STRIDE: usize = 4;
+
+pub const TUNE_STRIDE: usize = 2;
+
+// Header place, data place, length in bytes, width (8 or 16), finetune, relative note.
+pub struct SampleRow {
+    pub header_place: u32,
+    pub data_place: u32,
+    pub length: u32,
+    pub width: u32,
+    pub finetune: i8,
+    pub relative_note: i8,
+}
+
+// Bit 4 of the type means 16-bit.
+fn width_of(form: usize) -> u32
+    ensures { λ r. ⌜ r ≡ cond (eqb (form / 16 % 2) 1) 16 8 ⌝ }
+{
+    if form / 16 % 2 == 1 { 16 } else { 8 }
+}
+
+// The row of an instrument's sample.
+pub fn sample_row(file: &[u8], instrument: InstrumentAt, number: usize) -> SampleRow
+    requires { ⌜ Stands (now file) instrument ⌝ }
+    requires { ⌜ number < instrument .samples ⌝ }
+    ensures { λ r. ⌜ r ≡ sampleRow (rowAt (now (file .entry)) instrument number) ⌝ }
+{
+    let size = instrument.head_size;
+    let place = instrument.heads + number * size;
+    let sample = sample_head(file, place, size);
+    let data = data_place(file, instrument, number);
+    SampleRow {
+        header_place: place as u32,
+        data_place: data as u32,
+        length: sample.length as u32,
+        width: width_of(sample.form),
+        finetune: sample.finetune,
+        relative_note: sample.relative_note,
+    }
+}
+
+// The row of a sample of an accepted file, numbered from 0 in file order.
+pub fn find_sample(file: &[u8], number: usize) -> SampleRow
+    requires { ⌜ number < length (listIn sampleRows (readFile (now file))) ⌝ }
+    ensures { λ r. ⌜ r ≡ sampleRow (getD (listIn sampleRows (readFile (now (file .entry)))) number noRow) ⌝ }
+{
+    let mut place = first_instrument(file);
+    let mut left = number;
+    loop {
+        let instrument = instrument_at(file, place);
+        if left < instrument.samples {
+            return sample_row(file, instrument, left);
+        }
+        left -= instrument.samples;
+        place = data_place(file, instrument, instrument.samples);
+    }
+}
+
+// Stores the row of a sample: four numbers to a row, and apart its two tunes.
+pub fn put_sample(samples: &mut [u32], tunes: &mut [i8], number: usize, row: SampleRow)
+    requires { ⌜ sampleStride * number + sampleStride ≤ length (now samples) ⌝ }
+    requires { ⌜ tuneStride * number + tuneStride ≤ length (now tunes) ⌝ }
+    ensures { λ _. ⌜ now (samples .exit) ≡ lay (now (samples .entry)) (sampleStride * number) (numbersOf row) ⌝ }
+    ensures { λ _. ⌜ now (tunes .exit) ≡ lay (now (tunes .entry)) (tuneStride * number) (tunesOf row) ⌝ }
+{
+    let to = SAMPLE_STRIDE * number;
+    samples[to] = row.header_place;
+    samples[to + 1] = row.data_place;
+    samples[to + 2] = row.length;
+    samples[to + 3] = row.width;
+    let at = TUNE_STRIDE * number;
+    let finetune = row.finetune;
+    let relative_note = row.relative_note;
+    tunes[at] = finetune;
+    tunes[at + 1] = relative_note;
+}
