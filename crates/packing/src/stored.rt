@@ -156,8 +156,8 @@ pub fn press_cells(stored: &[u8], count: usize, size: usize, out: &mut [u8])
     }
 }
 
-// All of `from` at the front of out.
-fn copy(from: &[u8], out: &mut [u8])
+// All of `from` at the front of out: a loop of one byte, which the compiler turns into wide moves.
+pub fn copy(from: &[u8], out: &mut [u8])
     requires { ⌜ length (now from) ≤ length (now out) ⌝ }
     ensures { λ _. ⌜ now (out .exit) ≡ inFront (now (from .entry)) (now (out .entry)) ⌝ }
 {

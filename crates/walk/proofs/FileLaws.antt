@@ -17,12 +17,13 @@ use Rattle.xm.specs.Module.{patternsFor, instrumentsFor, Found, moduleFormat, f
 use Rattle.xm.specs.Table.{sampleRowsIn, checking}
 use Rattle.xm.specs.Answer.{answered}
 use Rattle.xm.proofs.Number.{bytes-drop}
-use Rattle.xm.proofs.Got.{test-fails, pass, step as step-on, step-refused}
+use Rattle.xm.proofs.Got.{test-fails, pass, step as step-on, step-refused, got-carry}
 use Rattle.xm.proofs.Format.{many-keeps}
 use Rattle.xm.proofs.Header.{header-keeps, header-size}
 use Rattle.xm.proofs.PatternInFile.{pattern-keeps}
 use Rattle.xm.proofs.Instrument.{instrument-keeps}
 use Rattle.refusal.specs.declared.Fault.{Fault}
+use Rattle.walk.specs.Mark.{Marks}
 use Rattle.walk.specs.Step.{headerStep}
 use Rattle.walk.specs.File.{patternsStep, instrumentsStep, walkStep, verdictOf, headerRefused, runRefused, walkRefused}
 use Rattle.walk.specs.declared.header.HeaderPart.{HeaderPart}
@@ -80,6 +81,11 @@ summary-path : {end end′ channels channels′ patterns patterns′ instruments
     (Accepted (record { end = end′; channels = channels′; patterns = patterns′; instruments = instruments′; samples = samples′; pressed = pressed′ }))
 summary-path a b c d e f = cc
 
+-- A refusal leaves nothing to mark
+pub walk-unmarked : (file marks : List ℕ) {answer : WalkStep} {f : Fault} → answer ≡ walkStep (readFile file) → answer ≡ Refused f
+    → (found : Found) (end : ℕ) → readFile file ≡ got found end → Marks file (found .1 .0) marks
+walk-unmarked file marks e told found end q = never-accepted (sym (ap walkStep q) ∙ sym e ∙ told)
+
 -- Its size is tried first
 pub walk-large : (file : List ℕ) → fileMost < length file → Refused (record { number = 2; place = 0 }) ≡ walkStep (readFile file)
 unfolding readWhole
@@ -103,13 +109,14 @@ module _ (file : List ℕ) (small : length file ≤ fileMost) where
       pub start : part .start ≤ length file
       pub low : 1 ≤ part .channels
       pub high : part .channels ≤ 64
+      pub many : part .patterns ≤ 256
       pub few : part .instruments ≤ 128
 
     pub header-told : Bytes file → HeaderTold
     header-told b = header-got (readHeader 0 file) e λ i eh c p k.
         let w = header-keeps .keeps 0 file i (part .start) b eh in
         let counts = w .good .counts in
-        record { start = w .inside; low = omega arith; high = omega arith; few = omega arith }
+        record { start = w .inside; low = omega arith; high = omega arith; many = omega arith; few = omega arith }
 
     -- The patterns
     abbrev patterns : Got (List PatternFound)
@@ -156,6 +163,13 @@ module _ (file : List ℕ) (small : length file ≤ fileMost) where
               ap runRefused o
               ∙ sym (ap walkStep (whole ∙ step-on _ eh (step-refused _ (step-on _ (same-patterns (i .content) c p ∙ ep) (step-refused _ (same-instruments (i .content) (each patternFormat .view ps) n k q ∙ u))))))
 
+      -- All of the file is read
+      all-read : (i : HeaderFound) → readHeader 0 file ≡ got i (part .start) → part .channels ≡ i .content .channels → part .patterns ≡ i .content .patterns → part .instruments ≡ i .content .instruments
+          → (ps : List PatternFound) (n : ℕ) → patterns ≡ got ps n → first .next ≡ part .start + n → (is : List InstrumentFound) (m : ℕ) → instruments ≡ got is m
+          → readFile file ≡ got (i, (ps, is)) (part .start + (n + m))
+      all-read i eh c p k ps n ep q is m ei =
+          whole ∙ step-on _ eh (step-on _ (step-on _ (same-patterns (i .content) c p ∙ ep) (step-on _ (same-instruments (i .content) (each patternFormat .view ps) n k q ∙ ei) refl)) refl)
+
       module _ {last : Run} (o : run.Read last ≡ instrumentsStep (first .next) instruments) where
         pub instruments-told : Bytes file → last .pressed ≤ length file
         instruments-told b = instruments-got (first .next) instruments o λ is m ei q c z.
@@ -176,7 +190,14 @@ module _ (file : List ℕ) (small : length file ≤ fileMost) where
             let size = header-size (i .content) (header-keeps .keeps 0 file i (part .start) b eh .good) in
             summary-path (omega arith) c p k s
             (sym (length-append (writeHeader (i .content)) _ ∙ ap (λ (l : ℕ). length (writeHeader (i .content)) + l) (length-append (each patternFormat .write (each patternFormat .view ps)) _) ∙ omega arith))
-            ∙ sym (ap walkStep (whole ∙ step-on _ eh (step-on _ (step-on _ (same-patterns (i .content) c p ∙ ep) (step-on _ (same-instruments (i .content) (each patternFormat .view ps) n k q ∙ ei) refl)) refl)))
+            ∙ sym (ap walkStep (all-read i eh c p k ps n ep q is m ei))
+
+        -- and the marks of its patterns are those that their loop left
+        pub walk-marked : (marks : List ℕ) → ((ps : List PatternFound) (n : ℕ) → patterns ≡ got ps n → Marks file ps marks)
+            → (found : Found) (end : ℕ) → readFile file ≡ got found end → Marks file (found .1 .0) marks
+        walk-marked marks told found end f =
+            header-got (readHeader 0 file) e λ i eh c p k. patterns-got (part .start) patterns d λ ps n ep q z. instruments-got (first .next) instruments o λ is m ei v s y.
+            got-carry (λ (r : Found) (u : ℕ). Marks file (r .1 .0) marks) (sym (all-read i eh c p k ps n ep q is m ei) ∙ f) (told ps n ep)
 
 -- The check is the walk without the pressed length
 pub check-out : (file : List ℕ) {step : WalkStep} {f : Fault} → step ≡ walkStep (readFile file) → step ≡ Refused f → walkRefused step ≡ verdictOf (checking file)

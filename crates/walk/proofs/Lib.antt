@@ -9,4 +9,5 @@ pub mod SampleLaws
 pub mod InstrumentLaws
 pub mod RunLaws
 pub mod FileLaws
+pub mod MarkLaws
 pub mod Calls

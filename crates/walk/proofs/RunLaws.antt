@@ -1,23 +1,26 @@
 -- Laws of the loops over patterns and instruments. Assumes nothing.
 use Prim.Native.Nat.{ℕ, suc, _+_, _*_, _≤_, _<_}
 use mathlib.Core.List.{List, [], _∷_, _++_, map}
-use mathlib.Core.Path.{_≡_, refl, sym, ap, _∙_}
+use mathlib.Core.Path.{_≡_, refl, sym, ap, _∙_, subst}
 use native.Mathlib.Omega.{arith}
-use lib.ListN.{length, drop, replicate, length-append, length-drop, length-map, length-replicate, getD-replicate}
-use Rattle.xm.specs.Number.{Bytes}
+use lib.ListN.{length, drop, set, replicate, length-append, length-drop, length-map, length-replicate, getD-replicate}
+use Rattle.xm.specs.Number.{Bytes, part}
 use Rattle.xm.specs.Got.{Refusal, Got, got, refused}
 use Rattle.xm.specs.Format.{Format, each, joined}
 use Rattle.xm.specs.Stored.{writeStored}
-use Rattle.xm.specs.PatternInFile.{PatternFound, readPattern, patternFormat}
+use Rattle.xm.specs.PatternInFile.{PatternFound, readPattern, dataMost, patternFormat}
 use Rattle.xm.specs.Sample.{Stretch}
 use Rattle.xm.specs.Instrument.{InstrumentFound, readInstrument, instrumentView, writeInstrument, instrumentFormat}
 use Rattle.xm.specs.Table.{sampleCount, sampleRowsOf, sampleRowsIn}
 use Rattle.xm.proofs.Number.{bytes-drop}
+use Rattle.xm.proofs.Got.{got-carry}
 use Rattle.xm.proofs.Format.{joined-append}
 use Rattle.xm.proofs.PatternInFile.{pattern-size, pattern-keeps}
 use Rattle.xm.proofs.Sample.{Sized}
 use Rattle.xm.proofs.Instrument.{instrument-keeps, instrument-tells}
 use Rattle.refusal.specs.declared.Fault.{Fault}
+use Rattle.cells.specs.Row.{sameBytes}
+use Rattle.walk.specs.Mark.{MarkBy, Marks}
 use Rattle.walk.specs.Step.{patternStep, instrumentStep}
 use Rattle.walk.specs.File.{patternsStep, instrumentsStep, patternRefused, instrumentRefused}
 use Rattle.walk.specs.declared.pattern.PatternPart.{PatternPart}
@@ -28,6 +31,7 @@ use Rattle.walk.specs.declared.instrument.InstrumentStep.{InstrumentStep
 use Rattle.walk.specs.declared.instrument.InstrumentStep.the-variants as instrument
 use Rattle.walk.specs.declared.RunStep.{RunStep}
 use Rattle.walk.specs.declared.RunStep.the-variants as run
+use Rattle.walk.proofs.MarkLaws.{pattern-short, mark-told, marks-more}
 use Rattle.walk.proofs.Walking.{Reached, reached-start, reached-on, reached-out, reached-end}
 
 -- One more is written behind what is written
@@ -47,9 +51,11 @@ never-pattern e = absurd (let z : _≡_ {A = ℕ} 0 1 = cc in omega arith)
 same-pattern : {a b : PatternPart} → pattern.Read a ≡ pattern.Read b → a ≡ b
 same-pattern e = cc
 
-pattern-got : {R : Type 0} (file : List ℕ) (place : ℕ) (g : Got PatternFound) {part : PatternPart} → pattern.Read part ≡ patternStep file place g
-    → ((i : PatternFound) (n : ℕ) → g ≡ got i n → part .next ≡ place + n → part .shortest ≡ length (writeStored (i .content)) → R) → R
-pattern-got file place (got i n) e k = k i n refl (ap PatternPart.next (same-pattern e)) (ap PatternPart.shortest (same-pattern e))
+pattern-got : {R : Type 0} (file : List ℕ) (place : ℕ) (g : Got PatternFound) {piece : PatternPart} → pattern.Read piece ≡ patternStep file place g
+    → ((i : PatternFound) (n : ℕ) → g ≡ got i n → piece .next ≡ place + n → piece .size ≡ i .dataSize → piece .shortest ≡ length (writeStored (i .content))
+    → piece .same ≡ sameBytes (part (i .dataPlace) (i .dataSize) file) (writeStored (i .content)) → R) → R
+pattern-got file place (got i n) e k =
+    let z = same-pattern e in k i n refl (ap PatternPart.next z) (ap PatternPart.size z) (ap PatternPart.shortest z) (ap PatternPart.same z)
 pattern-got file place (refused r) e k = never-pattern e
 
 pattern-on : (file : List ℕ) (place start : ℕ) (g : Got PatternFound) (whole : Got (List PatternFound)) {step : PatternStep} {f : Fault} → step ≡ patternStep file place g → step ≡ pattern.Refused f
@@ -57,44 +63,72 @@ pattern-on : (file : List ℕ) (place start : ℕ) (g : Got PatternFound) (whole
 pattern-on file place start (got i n) whole e told k = never-pattern (sym e ∙ told)
 pattern-on file place start (refused r) whole e told k = ap patternRefused e ∙ sym (ap (patternsStep start) (k r refl))
 
--- The loop over the patterns: what is told of those read is the length of their pressed forms
-abbrev pub PatternsTold : (pressed : ℕ) → List PatternFound → Type 0
-PatternsTold pressed done = pressed ≡ length (each patternFormat .write (each patternFormat .view done))
+-- The loop over the patterns: what is told of those read is the length of their pressed forms, and their marks
+pub record PatternsTold (file : List ℕ) (pressed : ℕ) (marks : List ℕ) (done : List PatternFound) : Type 0 where
+  pub written : pressed ≡ length (each patternFormat .write (each patternFormat .view done))
+  pub marked : Marks file done marks
 
-pub record PatternsRead (file : List ℕ) (start channels count j place pressed : ℕ) : Type 0 where
-  pub reached : Reached patternFormat (replicate count channels) file start (PatternsTold pressed) j place
+pub record PatternsRead (file : List ℕ) (start channels count j place pressed : ℕ) (marks : List ℕ) : Type 0 where
+  pub reached : Reached patternFormat (replicate count channels) file start (PatternsTold file pressed marks) j place
   pub inside : place ≤ length file
   pub short : start + pressed ≤ place
 
 module _ (file : List ℕ) (start channels count : ℕ) where
-  pub patterns-start : start ≤ length file → PatternsRead file start channels count 0 start 0
-  patterns-start l = record { reached = reached-start patternFormat _ file start (PatternsTold 0) refl; inside = l; short = omega arith }
+  abbrev patterns : Got (List PatternFound)
+  patterns = each patternFormat .read (replicate count channels) start (drop start file)
 
-  module _ {j place pressed : ℕ} (w : PatternsRead file start channels count j place pressed) where
-    pub patterns-end : count ≤ j
-        → run.Read (record { next = place; samples = 0; pressed = pressed }) ≡ patternsStep start (each patternFormat .read (replicate count channels) start (drop start file))
+  pub patterns-start : (marks : List ℕ) → start ≤ length file → PatternsRead file start channels count 0 start 0 marks
+  patterns-start marks l = record {
+    reached = reached-start patternFormat _ file start (PatternsTold file 0 marks) (record { written = refl; marked = tt });
+    inside = l;
+    short = omega arith;
+  }
+
+  -- A refusal leaves nothing to mark
+  pub patterns-unmarked : (marks : List ℕ) {answer : RunStep} {f : Fault} → answer ≡ patternsStep start patterns → answer ≡ run.Refused f
+      → (is : List PatternFound) (n : ℕ) → patterns ≡ got is n → Marks file is marks
+  patterns-unmarked marks e told is n q = absurd (let z : _≡_ {A = ℕ} 0 1 = cc (ap (patternsStep start) q) in omega arith)
+
+  module _ {j place pressed : ℕ} {marks : List ℕ} (w : PatternsRead file start channels count j place pressed marks) where
+    pub patterns-end : count ≤ j → run.Read (record { next = place; samples = 0; pressed = pressed }) ≡ patternsStep start patterns
     patterns-end h =
-        run-path (omega (arith, w .reached .left .from)) refl (w .reached .told)
+        run-path (omega (arith, w .reached .left .from)) refl (w .reached .told .written)
         ∙ sym (ap (patternsStep start) (reached-end patternFormat _ file start (w .reached) (rw length-replicate h)))
+
+    pub patterns-marked : count ≤ j → (is : List PatternFound) (n : ℕ) → patterns ≡ got is n → Marks file is marks
+    patterns-marked h is n q =
+        got-carry (λ (r : List PatternFound) (u : ℕ). Marks file r marks) (sym (reached-end patternFormat _ file start (w .reached) (rw length-replicate h)) ∙ q) (w .reached .told .marked)
 
     module _ (h : j < count) where
       pub patterns-out : {step : PatternStep} {f : Fault} → step ≡ patternStep file place (readPattern channels place (drop place file)) → step ≡ pattern.Refused f
-          → patternRefused step ≡ patternsStep start (each patternFormat .read (replicate count channels) start (drop start file))
+          → patternRefused step ≡ patternsStep start patterns
       patterns-out e told = pattern-on file place start _ _ e told λ r er.
           reached-out patternFormat _ file start (w .reached) channels (rw length-replicate h) (getD-replicate count j channels channels h) er
 
-      pub patterns-on : Bytes file → 1 ≤ channels → {part : PatternPart} → pattern.Read part ≡ patternStep file place (readPattern channels place (drop place file))
-          → PatternsRead file start channels count (j + 1) (part .next) (pressed + (9 + part .shortest))
-      patterns-on b c e = pattern-got file place _ e λ i n ei q z.
-          let k = pattern-keeps channels c .keeps place (drop place file) i n (bytes-drop place b) ei in
-          let size = pattern-size channels (i .content) (k .good) in
-          record {
-            reached =
-                reached-on patternFormat _ file start (w .reached) channels (rw length-replicate h) (getD-replicate count j channels channels h) (PatternsTold _) ei q
-                (λ t. omega (arith, size, written-more patternFormat (w .reached .done) i));
-            inside = omega (arith, w .inside, k .inside, length-drop place file);
-            short = omega (arith, w .short, k .short, size);
-          }
+      module _ (b : Bytes file) (c : 1 ≤ channels) {part : PatternPart} (e : pattern.Read part ≡ patternStep file place (readPattern channels place (drop place file))) where
+        pub mark-small : (part .shortest ≤ part .size) × (part .size ≤ dataMost)
+        mark-small = pattern-got file place _ e λ i n ei q s z m.
+            let k = pattern-short channels place file i n b c ei in (omega arith, omega arith)
+
+        pub patterns-on : {mark : ℕ} → MarkBy (part .size) (part .shortest) (part .same) mark → j < length marks
+            → PatternsRead file start channels count (j + 1) (part .next) (pressed + (9 + part .shortest)) (set marks j mark)
+        patterns-on {mark} by l = pattern-got file place _ e λ i n ei q s z m.
+            let k = pattern-keeps channels c .keeps place (drop place file) i n (bytes-drop place b) ei in
+            let size = pattern-size channels (i .content) (k .good) in
+            let done = w .reached .done in
+            let count = w .reached .left .count in
+            record {
+              reached =
+                  reached-on patternFormat _ file start (w .reached) channels (rw length-replicate h) (getD-replicate _ j channels channels h) (PatternsTold file _ _) ei q
+                  (λ t. record {
+                    written = omega (arith, t .written, size, written-more patternFormat done i);
+                    marked =
+                        subst (λ (at : ℕ). Marks file (done ++ (i ∷ [])) (set marks at mark)) count
+                        (marks-more file done marks i mark (omega arith) (t .marked) (mark-told file i s z m by));
+                  });
+              inside = omega (arith, w .inside, k .inside, length-drop place file);
+              short = omega (arith, w .short, k .short, size);
+            }
 
 -- An instrument that was read, and one that was refused
 never-instrument : {A : Type 0} {part : InstrumentPart} {f : Fault} → instrument.Read part ≡ instrument.Refused f → A

@@ -186,7 +186,7 @@ module _ (file : List ℕ) (heads size count start : ℕ) where
     data-end h = reached-place dataFormat _ file start (w .reached) (rw length-heads h)
 
 -- All headers, and then the data of each
-heads-viewed : (count size place : ℕ) (s : List ℕ) (is : List Stretch) (n : ℕ) → each headFormat .read (replicate count size) place s ≡ got is n
+pub heads-viewed : (count size place : ℕ) (s : List ℕ) (is : List Stretch) (n : ℕ) → each headFormat .read (replicate count size) place s ≡ got is n
     → each headFormat .view is ≡ headsFrom count size s
 unfolding headsFrom
 heads-viewed zero size place s is n e = got-carry (λ (r : List Stretch) (u : ℕ). each headFormat .view r ≡ []) e refl

@@ -3,3 +3,4 @@ pub mod Test
 pub mod Sample
 pub mod Step
 pub mod File
+pub mod Mark

@@ -11,16 +11,20 @@ use header::read_header;
 use instrument::InstrumentStep;
 use instrument::read_instrument;
 use pattern::PatternStep;
+use pattern::mark_of;
 use pattern::read_pattern;
 use refusal::Fault;
 ghost use mathlib.Core.Path.{_≡_};
-ghost use Prim.Native.Nat.{_≤_};
+ghost use Prim.Native.Nat.{ℕ, _≤_};
+ghost use mathlib.Core.List.{List};
 ghost use lib.ListN.{length, drop, replicate};
+ghost use Rattle.xm.specs.Got.{got};
 ghost use Rattle.xm.specs.Format.{each};
-ghost use Rattle.xm.specs.PatternInFile.{patternFormat};
+ghost use Rattle.xm.specs.PatternInFile.{PatternFound, patternFormat};
 ghost use Rattle.xm.specs.Instrument.{instrumentFormat};
-ghost use Rattle.xm.specs.Module.{fileMost, readFile};
+ghost use Rattle.xm.specs.Module.{Found, fileMost, readFile};
 ghost use Rattle.xm.specs.Table.{checking};
+ghost use Rattle.walk.specs.Mark.{Marks};
 ghost use Rattle.walk.specs.File.{patternsStep, instrumentsStep, walkStep, verdictOf, patternRefused, instrumentRefused, headerRefused, runRefused, walkRefused};
 
 // Structures in a row: where they end, how many samples they have, and the bytes of their pressed forms.
@@ -77,12 +81,21 @@ fn refused_pattern(step: PatternStep) -> RunStep
     }
 }
 
-// `count` patterns, from a place on.
-fn read_patterns(file: &[u8], at: usize, channels: usize, count: usize) -> RunStep
+// `count` patterns, from a place on, with a mark for each.
+fn read_patterns(
+    file: &[u8],
+    at: usize,
+    channels: usize,
+    count: usize,
+    marks: &mut [u16; 256],
+) -> RunStep
     requires { ⌜ at ≤ length (now file) ⌝ }
     requires { ⌜ length (now file) ≤ fileMost ⌝ }
     requires { ⌜ (1 ≤ channels) × (channels ≤ 64) ⌝ }
-    ensures { λ r. ⌜ r ≡ patternsStep at (each patternFormat .read (replicate count channels) at (drop at (now (file .entry)))) ⌝ }
+    requires { ⌜ count ≤ 256 ⌝ }
+    requires { ⌜ length (now marks) ≡ 256 ⌝ }
+    ensures answer { λ r. ⌜ r ≡ patternsStep at (each patternFormat .read (replicate count channels) at (drop at (now (file .entry)))) ⌝ }
+    ensures marked { λ _. ⌜ ((is : List PatternFound) (used : ℕ) → each patternFormat .read (replicate count channels) at (drop at (now (file .entry))) ≡ got is used → Marks (now (file .entry)) is (now (marks .exit))) ⌝ }
 {
     let mut place = at;
     let mut pressed: usize = 0;
@@ -92,6 +105,7 @@ fn read_patterns(file: &[u8], at: usize, channels: usize, count: usize) -> RunSt
         let PatternStep::Read(part) = step else {
             return refused_pattern(step);
         };
+        marks[done] = mark_of(part.size, part.shortest, part.same);
         place = part.next;
         pressed += 9 + part.shortest;
         done += 1;
@@ -170,9 +184,11 @@ fn refused_run(step: RunStep) -> WalkStep
     }
 }
 
-// The whole file, in one pass: its first fault, or what it comes to.
-pub fn walk(file: &[u8]) -> WalkStep
-    ensures { λ r. ⌜ r ≡ walkStep (readFile (now (file .entry))) ⌝ }
+// The whole file, in one pass: its first fault, or what it comes to, and then with a mark for each pattern.
+pub fn walk(file: &[u8], marks: &mut [u16; 256]) -> WalkStep
+    requires { ⌜ length (now marks) ≡ 256 ⌝ }
+    ensures answer { λ r. ⌜ r ≡ walkStep (readFile (now (file .entry))) ⌝ }
+    ensures marked { λ _. ⌜ ((found : Found) (end : ℕ) → readFile (now (file .entry)) ≡ got found end → Marks (now (file .entry)) (found .1 .0) (now (marks .exit))) ⌝ }
 {
     if 16777216 < file.len() {
         return WalkStep::Refused(Fault {
@@ -184,7 +200,7 @@ pub fn walk(file: &[u8]) -> WalkStep
     let HeaderStep::Read(header) = step else {
         return refused_header(step);
     };
-    let first = read_patterns(file, header.start, header.channels, header.patterns);
+    let first = read_patterns(file, header.start, header.channels, header.patterns, marks);
     let RunStep::Read(patterns) = first else {
         return refused_run(first);
     };
@@ -219,7 +235,8 @@ fn refused_walk(step: WalkStep) -> Verdict
 pub fn check(file: &[u8]) -> Verdict
     ensures { λ r. ⌜ r ≡ verdictOf (checking (now (file .entry))) ⌝ }
 {
-    let step = walk(file);
+    let mut marks: [u16; 256] = [0; 256];
+    let step = walk(file, &mut marks);
     let WalkStep::Accepted(summary) = step else {
         return refused_walk(step);
     };

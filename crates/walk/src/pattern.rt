@@ -8,6 +8,7 @@ ghost use Prim.Native.Nat.{_≤_};
 ghost use lib.ListN.{length, drop};
 ghost use Rattle.xm.specs.PatternInFile.{patternTests, readPattern, dataMost};
 ghost use Rattle.xm.specs.Module.{fileMost};
+ghost use Rattle.walk.specs.Mark.{MarkBy};
 ghost use Rattle.walk.specs.Test.{firstFault};
 ghost use Rattle.walk.specs.Step.{storedFault, storedRefused, patternStep};
 
@@ -101,4 +102,18 @@ pub fn read_pattern(file: &[u8], at: usize, channels: usize) -> PatternStep
         same: stored.same,
         next: next,
     })
+}
+
+// What a second pass needs to know of a pattern: how many bytes its shortest form takes or, by a number above S, that its bytes are
+// that form already. Of 65,535 bytes no number tells so: they are written again.
+pub fn mark_of(size: usize, shortest: usize, same: bool) -> u16
+    requires { ⌜ (shortest ≤ size) × (size ≤ dataMost) ⌝ }
+    ensures { λ r. ⌜ MarkBy size shortest same r ⌝ }
+{
+    if same {
+        if size < 65535 {
+            return (size + 1) as u16;
+        }
+    }
+    shortest as u16
 }

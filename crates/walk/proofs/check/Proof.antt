@@ -19,10 +19,10 @@ refused-walk-requires : tie.Need-refused-walk-requires
 refused-walk-requires c κs = search needs
 
 returns : tie.Need-returns
-returns c = c .refused-walk .ensures ∙ check-out (c .before .before .before .before .before .args .file .now) (c .before .before .before .walk .ensures) (c .before .enum-told .given .1)
+returns c = c .refused-walk .ensures ∙ check-out (c .before .before .before .before .before .before .args .file .now) (c .before .before .before .walk .ensures .0) (c .before .enum-told .given .1)
 
 returns-2 : tie.Need-returns-2
-returns-2 c = check-accepted (c .before .before .before .before .before .args .file .now) (sym (c .before .step .given .1) ∙ c .before .before .before .walk .ensures) (omega arith) (omega arith) (omega arith) (omega arith) (omega arith)
+returns-2 c = check-accepted (c .before .before .before .before .before .before .args .file .now) (sym (c .before .step .given .1) ∙ c .before .before .before .walk .ensures .0) (omega arith) (omega arith) (omega arith) (omega arith) (omega arith)
 
 pub check-spec : {M : Type 1} → statement M
 check-spec =

@@ -1,5 +1,6 @@
--- `walk::walk` meets its contract: the size's refusal, the header's, a pattern's, an instrument's, or the whole file. Assumes nothing.
-use mathlib.Core.Path.{_≡_, sym, _∙_}
+-- `walk::walk` meets its contract: the size's refusal, the header's, a pattern's, an instrument's, or the whole file; and what a refusal leaves
+-- unsaid, the loop over the patterns has said of their marks. Assumes nothing.
+use mathlib.Core.Path.{_≡_, refl, sym, ap, _∙_}
 use native.Mathlib.Omega.{arith}
 use lib.ListN.{drop, replicate}
 use Rattle.xm.specs.Number.{Bytes}
@@ -7,10 +8,10 @@ use Rattle.xm.specs.Format.{each}
 use Rattle.xm.specs.Header.{readHeader}
 use Rattle.xm.specs.PatternInFile.{patternFormat}
 use Rattle.walk.specs.Step.{headerStep}
-use Rattle.walk.specs.File.{patternsStep}
+use Rattle.walk.specs.File.{patternsStep, headerRefused, runRefused}
 use Rattle.walk.specs.declared.header.HeaderStep.the-variants as header
 use Rattle.walk.specs.declared.RunStep.the-variants as run
-use Rattle.walk.proofs.FileLaws.{walk-large, header-out, header-told, patterns-out, patterns-told, instruments-out, instruments-told, walk-accepted}
+use Rattle.walk.proofs.FileLaws.{walk-large, walk-unmarked, header-out, header-told, patterns-out, patterns-told, instruments-out, instruments-told, walk-accepted, walk-marked}
 use borrow.Author.Needs.{needs}
 use Rattle.walk.proofs.walk.Statement.{statement}
 use Rattle.walk.proofs.walk.Tie as tie
@@ -23,14 +24,14 @@ headed : (t : tie.After-known-told) → header.Read (t .before .step .given .0 .
 headed t = sym (t .before .step .given .1) ∙ t .before .before .before .read-header .ensures
 
 patterned : (u : tie.After-known-told2) →
-    let t = u .before .before .before .before in
+    let t = u .before .before .before .before .before in
     let part = t .before .step .given .0 .0 in
     run.Read (u .before .first .given .0 .0)
     ≡ patternsStep (part .start) (each patternFormat .read (replicate (part .patterns) (part .channels)) (part .start) (drop (part .start) (t .before .before .before .before .before .before .args .file .now)))
-patterned u = sym (u .before .first .given .1) ∙ u .before .before .before .read-patterns .ensures
+patterned u = sym (u .before .first .given .1) ∙ u .before .before .before .read-patterns .ensures .0
 
 returns : tie.Need-returns
-returns c = walk-large (c .before .before .args .file .now) (omega arith)
+returns c = let answer = walk-large (c .before .before .args .file .now) (omega arith) in (answer, walk-unmarked (c .before .before .args .file .now) _ answer refl)
 
 read-header-requires : tie.Need-read-header-requires
 read-header-requires c κs = search needs
@@ -46,14 +47,13 @@ refused-header-requires c κs = search needs
 
 returns-2 : tie.Need-returns-2
 returns-2 c =
-    let s = c .before .before .before .before in
-    c .refused-header .ensures ∙ header-out (s .before .before .args .file .now) (s .if1 .left) (c .before .before .before .read-header .ensures) (c .before .enum-told .given .1)
+    let answer = c .refused-header .ensures ∙ header-out (c .before .before .before .before .before .before .args .file .now) (c .before .before .before .before .if1 .left) (c .before .before .before .read-header .ensures) (c .before .enum-told .given .1) in
+    (answer, walk-unmarked (c .before .before .before .before .before .before .args .file .now) _ answer (c .refused-header .ensures ∙ ap headerRefused (c .before .enum-told .given .1)))
 
 read-patterns-requires : tie.Need-read-patterns-requires
 read-patterns-requires c κs =
-    let s = c .before .before .before .before in
-    let told = header-told (s .before .before .args .file .now) (s .if1 .left) (headed c) (plain c) in
-    (told .start, (s .if1 .left, (told .low, told .high)))
+    let told = header-told (c .before .before .before .before .before .before .before .args .file .now) (c .before .before .before .before .before .if1 .left) (headed (c .before)) (plain (c .before)) in
+    (told .start, (c .before .before .before .before .before .if1 .left, ((told .low, told .high), (told .many, c .before .before .before .before .before .before .before .pre))))
 
 enum-known-first : tie.Need-enum-known-first
 enum-known-first c = search needs
@@ -66,16 +66,15 @@ refused-run-requires c κs = search needs
 
 returns-3 : tie.Need-returns-3
 returns-3 c =
-    let t = c .before .before .before .before in
-    let s = t .before .before .before .before in
-    c .refused-run .ensures ∙ patterns-out (s .before .before .args .file .now) (s .if1 .left) (headed t) (c .before .before .before .read-patterns .ensures) (c .before .enum-told2 .given .1)
+    let t = c .before .before .before .before .before in
+    let answer = c .refused-run .ensures ∙ patterns-out (c .before .before .before .before .before .before .before .before .before .before .before .args .file .now) (c .before .before .before .before .before .before .before .before .before .if1 .left) (headed t) (c .before .before .before .read-patterns .ensures .0) (c .before .enum-told2 .given .1) in
+    (answer, walk-unmarked (c .before .before .before .before .before .before .before .before .before .before .before .args .file .now) _ answer (c .refused-run .ensures ∙ ap runRefused (c .before .enum-told2 .given .1)))
 
 read-instruments-requires : tie.Need-read-instruments-requires
 read-instruments-requires c κs =
-    let t = c .before .before .before .before in
-    let s = t .before .before .before .before in
-    let file = s .before .before .args .file .now in
-    (patterns-told file (s .if1 .left) (headed t) (patterned c) (plain t) .next, (s .if1 .left, header-told file (s .if1 .left) (headed t) (plain t) .few))
+    let t = c .before .before .before .before .before in
+    let file = c .before .before .before .before .before .before .before .before .before .before .before .args .file .now in
+    (patterns-told file (c .before .before .before .before .before .before .before .before .before .if1 .left) (headed t) (patterned c) (plain t) .next, (c .before .before .before .before .before .before .before .before .before .if1 .left, header-told file (c .before .before .before .before .before .before .before .before .before .if1 .left) (headed t) (plain t) .few))
 
 enum-known-last : tie.Need-enum-known-last
 enum-known-last c = search needs
@@ -88,38 +87,32 @@ refused-run-requires-2 c κs = search needs
 
 returns-4 : tie.Need-returns-4
 returns-4 c =
-    let u = c .before .before .before .before in
-    let t = u .before .before .before .before in
-    let s = t .before .before .before .before in
-    c .refused-run2 .ensures
-    ∙ instruments-out (s .before .before .args .file .now) (s .if1 .left) (headed t) (patterned u) (c .before .before .before .read-instruments .ensures) (c .before .enum-told3 .given .1)
+    let answer =
+    c .refused-run2 .ensures ∙ instruments-out (c .before .before .before .before .before .before .before .before .before .before .before .before .before .before .before .args .file .now) (c .before .before .before .before .before .before .before .before .before .before .before .before .before .if1 .left) (headed (c .before .before .before .before .before .before .before .before .before)) (patterned (c .before .before .before .before)) (c .before .before .before .read-instruments .ensures) (c .before .enum-told3 .given .1) in
+    (answer, walk-unmarked (c .before .before .before .before .before .before .before .before .before .before .before .before .before .before .before .args .file .now) _ answer (c .refused-run2 .ensures ∙ ap runRefused (c .before .enum-told3 .given .1)))
 
-add-t8 : tie.Need-add-t8
-add-t8 c =
-    let u = c .before .before .before .before .before in
-    let t = u .before .before .before .before in
-    let s = t .before .before .before .before in
-    omega (arith, s .if1 .left, patterns-told (s .before .before .args .file .now) (s .if1 .left) (headed t) (patterned u) (plain t) .pressed)
+add-t9 : tie.Need-add-t9
+add-t9 c = omega (arith, c .before .before .before .before .before .before .before .before .before .before .before .before .before .before .if1 .left, patterns-told (c .before .before .before .before .before .before .before .before .before .before .before .before .before .before .before .before .args .file .now) (c .before .before .before .before .before .before .before .before .before .before .before .before .before .before .if1 .left) (headed (c .before .before .before .before .before .before .before .before .before .before)) (patterned (c .before .before .before .before .before)) (plain (c .before .before .before .before .before .before .before .before .before .before)) .pressed)
 
-add-t11 : tie.Need-add-t11
-add-t11 c =
+add-t13 : tie.Need-add-t13
+add-t13 c =
+    let t = c .before .before .before .before .before .before .before .before .before .before .before in
     let u = c .before .before .before .before .before .before in
-    let t = u .before .before .before .before in
-    let s = t .before .before .before .before in
-    let file = s .before .before .args .file .now in
+    let file = c .before .before .before .before .before .before .before .before .before .before .before .before .before .before .before .before .before .args .file .now in
     omega (
       arith,
-      s .if1 .left,
-      patterns-told file (s .if1 .left) (headed t) (patterned u) (plain t) .pressed,
-      instruments-told file (s .if1 .left) (headed t) (patterned u) (sym (c .before .before .before .last .given .1) ∙ c .before .before .before .before .before .read-instruments .ensures) (plain t),
+      c .before .before .before .before .before .before .before .before .before .before .before .before .before .before .before .if1 .left,
+      patterns-told file (c .before .before .before .before .before .before .before .before .before .before .before .before .before .before .before .if1 .left) (headed t) (patterned u) (plain t) .pressed,
+      instruments-told file (c .before .before .before .before .before .before .before .before .before .before .before .before .before .before .before .if1 .left) (headed t) (patterned u) (sym (c .before .before .before .last .given .1) ∙ c .before .before .before .before .before .read-instruments .ensures) (plain t),
     )
 
 returns-5 : tie.Need-returns-5
 returns-5 c =
+    let t = c .before .before .before .before .before .before .before .before .before .before .before in
     let u = c .before .before .before .before .before .before in
-    let t = u .before .before .before .before in
-    let s = t .before .before .before .before in
-    walk-accepted (s .before .before .args .file .now) (s .if1 .left) (headed t) (patterned u) (sym (c .before .before .before .last .given .1) ∙ c .before .before .before .before .before .read-instruments .ensures) (plain t) (omega arith)
+    let file = c .before .before .before .before .before .before .before .before .before .before .before .before .before .before .before .before .before .args .file .now in
+    let last = sym (c .before .before .before .last .given .1) ∙ c .before .before .before .before .before .read-instruments .ensures in
+    (walk-accepted file (c .before .before .before .before .before .before .before .before .before .before .before .before .before .before .before .if1 .left) (headed t) (patterned u) last (plain t) (omega arith), walk-marked file (c .before .before .before .before .before .before .before .before .before .before .before .before .before .before .before .if1 .left) (headed t) (patterned u) last _ (c .before .before .before .before .before .before .before .before .before .read-patterns .ensures .1))
 
 pub walk-spec : {M : Type 1} → statement M
 walk-spec =
@@ -141,6 +134,6 @@ walk-spec =
     enum-told-3
     refused-run-requires-2
     returns-4
-    add-t8
-    add-t11
+    add-t9
+    add-t13
     returns-5)

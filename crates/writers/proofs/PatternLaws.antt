@@ -1,0 +1,152 @@
+-- Laws of a pattern that was read and is written. Assumes nothing.
+use Prim.Native.Nat.{ℕ, _+_, _-_, _≤_, _<_}
+use mathlib.Core.Bool.{Bool, true, false, cond}
+use mathlib.Core.List.{List, [], _++_, append-nil}
+use mathlib.Core.Path.{_≡_, refl, sym, ap, ap₂, _∙_}
+use native.Mathlib.Nat.{add-sub-cancel-left}
+use native.Mathlib.Omega.{arith}
+use lib.Dec.{ltb, eqb}
+use lib.ListN.{length, take, drop, length-drop}
+use lib.Seq.{drop-drop, length-take-le}
+use borrow.Author.Tests.{ltb-true, ltb-false, eqb-true, eqb-false}
+use Rattle.xm.specs.Number.{Bytes, wordAt, longAt, part}
+use Rattle.xm.specs.Got.{Got, got, refused, AllHold}
+use Rattle.xm.specs.Stored.{channelsMost, rowsMost, Pattern, readStored, writeStored}
+use Rattle.xm.specs.PatternInFile.{dataMost, patternTests, PatternFound, readPattern, writePattern, patternFormat}
+use Rattle.xm.proofs.Number.{bytes-drop, bytes-take, word-small, part-drop}
+use Rattle.xm.proofs.Got.{passed, bind-got, got-value, got-used}
+use Rattle.xm.proofs.Stored.{stored-keeps, stored-rows, stored-empty}
+use Rattle.packing.specs.Found.{rewritten, storedPressed, Known}
+use Rattle.packing.proofs.Read.{got-accepted, stored-anywhere}
+use Rattle.walk.specs.Mark.{Marked}
+use Rattle.writers.specs.Found.{Told, readAt, pressedAt}
+use Rattle.writers.specs.Pattern.{rowsBy, sizeBy, patternHead}
+
+-- The rows and the length of the shortest form are those of the pattern
+rows-by : (channels row place size : ℕ) (d : List ℕ) (p : Pattern) (n : ℕ) → length d ≡ size → readStored channels row place d ≡ got p n → rowsBy row size ≡ p .rows
+rows-by channels row place size d p n l e = go (eqb size 0) refl
+  where
+    go : (b : Bool) → eqb size 0 ≡ b → cond b 64 row ≡ p .rows
+    go true q = sym (ap Pattern.rows (stored-empty channels row place d p n (omega (arith, eqb-true size 0 q)) e))
+    go false q = let some = eqb-false size 0 q in sym (stored-rows channels row place d p n (omega arith) e)
+
+size-by : (mark size shortest : ℕ) → (mark ≤ size → mark ≡ shortest) → (size < mark → size ≡ shortest) → sizeBy mark size ≡ shortest
+size-by mark size shortest again already = go (ltb size mark) refl
+  where
+    go : (b : Bool) → ltb size mark ≡ b → cond b size mark ≡ shortest
+    go true q = already (ltb-true size mark q)
+    go false q = again (ltb-false size mark q)
+
+module _ (file : List ℕ) (place channels mark : ℕ) where
+  abbrev from : List ℕ
+  from = drop place file
+
+  abbrev L : ℕ
+  L = longAt 0 from
+
+  abbrev S : ℕ
+  S = wordAt 7 from
+
+  abbrev d : List ℕ
+  d = part L S from
+
+  -- The bytes that it takes
+  pub pattern-used : {i : PatternFound} {n : ℕ} → readAt patternFormat channels file place ≡ got i n → n ≡ L + S
+  unfolding readPattern
+  pattern-used e = passed _ _ e λ h e. bind-got _ _ e λ p m ep e. sym (got-used e)
+
+  -- A marked pattern, as it was read
+  record AsRead : Type 0 where
+    tests : AllHold (patternTests place from)
+    pattern : Pattern
+    used : ℕ
+    reads : readStored channels (wordAt 5 from) (place + L) d ≡ got pattern used
+    again : mark ≤ S → mark ≡ length (writeStored pattern)
+    already : S < mark → d ≡ writeStored pattern
+    written : pressedAt patternFormat channels file place ≡ writePattern pattern
+
+  as-read : Told (λ i. Marked file i mark) (readAt patternFormat channels file place) → AsRead
+  unfolding readPattern
+  as-read told = go (readPattern channels place from) refl told
+    where
+      go : (g : Got PatternFound) → readPattern channels place from ≡ g → Told (λ i. Marked file i mark) g → AsRead
+      go (got i n) e m =
+          passed _ _ e λ h e₁. bind-got _ _ e₁ λ p u ep e₂.
+          let same = got-value e₂ in
+          let marked : Marked file (record { place = place; headSize = L; dataPlace = place + L; dataSize = S; content = p }) mark = rw same m in
+          record {
+            tests = h;
+            pattern = p;
+            used = u;
+            reads = ep;
+            again = marked .again;
+            already = λ l. part-drop place L S file ∙ marked .already l;
+            written = ap (rewritten (λ (i : PatternFound). writePattern (i .content))) (e ∙ sym e₂);
+          }
+      go (refused r) e m = absurd m
+
+  pub pattern-inside : Told (λ i. Marked file i mark) (readAt patternFormat channels file place) → place + (L + S) ≤ length file
+  pattern-inside told = let h = as-read told .tests in omega (arith, h .0, h .1 .1 .1 .0, length-drop place file)
+
+  -- In the code's numbers, with the stored form as the code cuts it out
+  module _ {head row size : ℕ} (p : head ≡ L) (q : row ≡ wordAt 5 from) (r : size ≡ S) where
+    abbrev cut : List ℕ
+    cut = take (place + head + size - (place + head)) (drop (place + head) file)
+
+    pub record PatternLies : Type 0 where
+      pub there : place + head + size ≤ length file
+      pub rows-high : rowsBy row size ≤ rowsMost
+      pub size-high : sizeBy mark size ≤ dataMost
+      pub known : Known row channels cut (sizeBy mark size) (ltb size mark)
+      pub long : length (pressedAt patternFormat channels file place) ≡ 9 + sizeBy mark size
+      pub written : pressedAt patternFormat channels file place ≡ patternHead (rowsBy row size) (sizeBy mark size) ++ storedPressed row channels cut
+
+    module _ (told : Told (λ i. Marked file i mark) (readAt patternFormat channels file place)) where
+      abbrev w : AsRead
+      w = as-read told
+
+      pub head-inside : place + 9 ≤ length file
+      head-inside = omega (arith, w .tests .0, length-drop place file)
+
+      same-cut : cut ≡ d
+      same-cut = rw (p, r, add-sub-cancel-left, drop-drop)
+
+      long : length d ≡ size
+      long = length-take-le S (drop L from) (omega (arith, length-drop L from, w .tests .1 .1 .1 .0)) ∙ sym r
+
+      is-rows : rowsBy row size ≡ w .pattern .rows
+      is-rows = ap (λ (n : ℕ). rowsBy n size) q ∙ rows-by channels (wordAt 5 from) (place + L) size d (w .pattern) (w .used) long (w .reads)
+
+      is-size : sizeBy mark size ≡ length (writeStored (w .pattern))
+      is-size = size-by mark size _ (λ h. w .again (omega arith)) (λ h. sym long ∙ ap length (w .already (omega arith)))
+
+      is-pressed : storedPressed row channels cut ≡ writeStored (w .pattern)
+      is-pressed =
+          ap₂ (λ (n : ℕ) (s : List ℕ). storedPressed n channels s) q same-cut
+          ∙ ap (rewritten writeStored) (stored-anywhere (wordAt 5 from) channels (place + L) d (w .pattern) (w .used) (w .reads))
+
+      is-written : pressedAt patternFormat channels file place ≡ patternHead (rowsBy row size) (sizeBy mark size) ++ storedPressed row channels cut
+      unfolding writePattern
+      is-written =
+          w .written
+          ∙ ap₂ (λ (n m : ℕ). patternHead n m ++ (writeStored (w .pattern) ++ [])) (sym is-rows) (sym is-size)
+          ∙ ap (λ (l : List ℕ). patternHead (rowsBy row size) (sizeBy mark size) ++ l) (append-nil (writeStored (w .pattern)) ∙ sym is-pressed)
+
+      pub pattern-lies : Bytes file → 1 ≤ channels → channels ≤ channelsMost → PatternLies
+      pattern-lies b some high =
+          let h = w .tests in
+          let k = stored-keeps channels (wordAt 5 from) (place + L) d (w .pattern) (w .used) (bytes-take S (bytes-drop L (bytes-drop place b))) some (h .1 .1 .0 .0) (h .1 .1 .0 .1) (w .reads) in
+          record {
+            there = omega (arith, h .0, h .1 .1 .1 .0, length-drop place file);
+            rows-high = omega (arith, is-rows, k .good .high);
+            size-high = omega (arith, is-size, k .short, long, word-small 7 (bytes-drop place b));
+            known = record {
+              rows-most = omega (arith, h .1 .1 .0 .1);
+              channels-most = high;
+              fine = rw (q, same-cut) (got-accepted (stored-anywhere (wordAt 5 from) channels (place + L) d (w .pattern) (w .used) (w .reads)));
+              long = is-size ∙ ap length (sym is-pressed);
+              already = λ t z. is-pressed ∙ sym (w .already (omega (arith, ltb-true size mark t))) ∙ sym same-cut;
+            };
+            long = ap length is-written ∙ omega (arith, is-size, ap length is-pressed);
+            written = is-written;
+          }

@@ -1,0 +1,4 @@
+pub mod Header
+pub mod Found
+pub mod Instrument
+pub mod Pattern

@@ -1,0 +1,75 @@
+// A pattern of a pressed file.
+use crate::bytes::put_byte;
+use crate::bytes::put_long;
+use crate::bytes::put_word;
+use packing::stored::write_stored;
+use walk::number::long;
+use walk::number::word;
+ghost use mathlib.Core.Path.{_≡_};
+ghost use Prim.Native.Nat.{_≤_};
+ghost use lib.ListN.{length};
+ghost use Rattle.xm.specs.Answer.{inFront};
+ghost use Rattle.xm.specs.Stored.{channelsMost, rowsMost};
+ghost use Rattle.xm.specs.PatternInFile.{dataMost, patternFormat};
+ghost use Rattle.walk.specs.Mark.{Marked};
+ghost use Rattle.writers.specs.Found.{Told, readAt, pressedAt};
+ghost use Rattle.writers.specs.Pattern.{rowsBy, sizeBy, patternHead};
+
+// The rows that a stored form reads as: with no data it is the standard empty pattern.
+fn rows_of(row: usize, size: usize) -> usize
+    ensures { λ r. ⌜ r ≡ rowsBy row size ⌝ }
+{
+    if size == 0 {
+        return 64;
+    }
+    row
+}
+
+// The bytes of the shortest form: a mark above S says that the stored form is as short.
+fn size_of(mark: usize, size: usize) -> usize
+    ensures { λ r. ⌜ r ≡ sizeBy mark size ⌝ }
+{
+    if size < mark {
+        return size;
+    }
+    mark
+}
+
+// L, packing type, rows and S: 9 bytes.
+fn write_head(rows: usize, size: usize, out: &mut [u8])
+    requires { ⌜ rows ≤ rowsMost ⌝ }
+    requires { ⌜ size ≤ dataMost ⌝ }
+    requires { ⌜ 9 ≤ length (now out) ⌝ }
+    ensures { λ _. ⌜ now (out .exit) ≡ inFront (patternHead rows size) (now (out .entry)) ⌝ }
+{
+    put_long(9, out);
+    put_byte(0, &mut out[4..]);
+    put_word(rows, &mut out[5..]);
+    put_word(size, &mut out[7..]);
+}
+
+// The pattern at a place of an accepted file, in its shortest form at the front of out; its length there.
+pub fn write_pattern(file: &[u8], at: usize, channels: usize, mark: u16, out: &mut [u8]) -> usize
+    requires { ⌜ (1 ≤ channels) × (channels ≤ channelsMost) ⌝ }
+    requires { ⌜ Told (λ i. Marked (now file) i mark) (readAt patternFormat channels (now file) at) ⌝ }
+    requires { ⌜ length (pressedAt patternFormat channels (now file) at) ≤ length (now out) ⌝ }
+    ensures { λ r. ⌜ r ≡ length (pressedAt patternFormat channels (now (file .entry)) at) ⌝ }
+    ensures { λ _. ⌜ now (out .exit) ≡ inFront (pressedAt patternFormat channels (now (file .entry)) at) (now (out .entry)) ⌝ }
+{
+    let place = at + long(file, at, 0);
+    let row = word(file, at, 5);
+    let size = word(file, at, 7);
+    let end = place + size;
+    let most = mark as usize;
+    let shortest = size_of(most, size);
+    write_head(rows_of(row, size), shortest, out);
+    write_stored(
+        &file[place..end],
+        row,
+        channels,
+        size < most,
+        shortest,
+        &mut out[9..],
+    );
+    9 + shortest
+}
