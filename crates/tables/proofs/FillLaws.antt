@@ -23,9 +23,9 @@ use Rattle.tables.specs.Accepted.{Accepted, listIn, ReadsFrom, Instrumen
 use Rattle.tables.specs.Place.{patternAt, instrumentAt, dataPlace, Stands}
 use Rattle.tables.specs.declared.place.PatternAt.{PatternAt}
 use Rattle.tables.specs.declared.place.InstrumentAt.{InstrumentAt}
-use Rattle.tables.proofs.Reading.{accepted-got, reads-none, reads-next, file-reads}
-use Rattle.tables.proofs.InstrumentLaws.{InstrumentStands, instrument-stands}
-use Rattle.tables.proofs.PlaceLoops.{accepted-header, Skipping, PatternFits, skipping-start, skipping-on, skipping-end}
+use Rattle.tables.proofs.Reading.{accepted-small, accepted-header, reads-none}
+use Rattle.tables.proofs.InstrumentLaws.{InstrumentStands, instruments-next}
+use Rattle.tables.proofs.PlaceLoops.{Skipping, PatternFits, skipping-start, skipping-on, skipping-end}
 
 -- A piece is laid, where the writer stands
 laid-lay : {A : Type 0} {lent goal out : List A} {to : ℕ} {rest : List A} → Laid lent goal out to rest → (w rest′ : List A) → rest ≡ w ++ rest′
@@ -98,7 +98,7 @@ module _ (file lent : List ℕ) where
   pub instruments-start : Accepted (readFile file) → {place : ℕ} → InstrumentsFrom file place → length (instrumentGoal file) ≤ length lent
       → FillingInstruments file lent lent (instrumentsAt file) place 0 0
   instruments-start h from room = record {
-    small = accepted-got (readFile file) h λ found end e. file-reads file found end e .small;
+    small = accepted-small file h;
     parts = listIn (λ (found : Found). found .1 .1) (readFile file);
     end = from .end;
     reads = from .reads;
@@ -112,19 +112,15 @@ module _ (file lent : List ℕ) where
         laid-done (w .laid) (ap (λ (l : List InstrumentFound). joined instrumentNumbers (instrumentRowsFrom first l)) (reads-none instrumentFormat tt file (rw z at (w .reads)) .0))
 
     module _ (bytes : Bytes file) (l : 0 < left) where
-      next : {R : Type 0} → ((i : InstrumentFound) (n : ℕ) (more : List InstrumentFound) → InstrumentStands file place i n → w .parts ≡ i ∷ more
-          → ReadsFrom instrumentFormat tt file (left - 1) (place + n) more (w .end) → R) → R
-      next k = reads-next instrumentFormat tt file (w .reads) l λ i n more ei ep rest. k i n more (instrument-stands file place (w .small) bytes i n ei) ep rest
-
       pub instruments-tests : AllHold (instrumentTests place (drop place file))
-      instruments-tests = next λ i n more s ep rest. s .tests
+      instruments-tests = instruments-next file (w .small) bytes (w .reads) l λ i n more ei s ep rest. s .tests
 
       pub instruments-place : place ≤ length file
-      instruments-place = next λ i n more s ep rest. omega (arith, s .inside)
+      instruments-place = instruments-next file (w .small) bytes (w .reads) l λ i n more ei s ep rest. omega (arith, s .inside)
 
       module _ {x : InstrumentAt} (e : x ≡ instrumentAt place (drop place file)) where
         pub instruments-stands : Stands file x
-        instruments-stands = next λ i n more s ep rest. rw e (s .stands)
+        instruments-stands = instruments-next file (w .small) bytes (w .reads) l λ i n more ei s ep rest. rw e (s .stands)
 
         instrument-first : {i : InstrumentFound} {n : ℕ} {more : List InstrumentFound} → InstrumentStands file place i n → w .parts ≡ i ∷ more
             → joined instrumentNumbers (instrumentRowsFrom first (w .parts)) ≡ (place ∷ x .samples ∷ first ∷ []) ++ joined instrumentNumbers (instrumentRowsFrom (first + x .samples) more)
@@ -134,11 +130,11 @@ module _ (file lent : List ℕ) where
             ∙ ap₂ (λ (p n : ℕ). (p ∷ n ∷ first ∷ []) ++ joined instrumentNumbers (instrumentRowsFrom (first + n) more)) (s .starts) k
 
         pub instruments-room : to + 3 ≤ length out
-        instruments-room = next λ i n more s ep rest. laid-room (w .laid) (place ∷ x .samples ∷ first ∷ []) _ (instrument-first s ep)
+        instruments-room = instruments-next file (w .small) bytes (w .reads) l λ i n more ei s ep rest. laid-room (w .laid) (place ∷ x .samples ∷ first ∷ []) _ (instrument-first s ep)
 
         pub instruments-on : {new : List ℕ} {there later : ℕ} → new ≡ lay out to (place ∷ x .samples ∷ first ∷ []) → there ≡ dataPlace file x (x .samples)
             → later ≡ first + x .samples → FillingInstruments file lent new (left - 1) there later (to + 3)
-        instruments-on {there = there} n q f = next λ i m more s ep rest.
+        instruments-on {there = there} n q f = instruments-next file (w .small) bytes (w .reads) l λ i m more ei s ep rest.
             let behind : there ≡ place + m = q ∙ ap (λ (x : InstrumentAt). dataPlace file x (x .samples)) e ∙ sym (s .next) in
             record {
               small = w .small;

@@ -1,5 +1,5 @@
 -- What an accepted instrument says of the bytes at its place: its samples' rows, and where the next structure starts. Assumes nothing.
-use Prim.Native.Nat.{ℕ, zero, suc, _+_, _*_, _≤_, _<_}
+use Prim.Native.Nat.{ℕ, zero, suc, _+_, _-_, _*_, _≤_, _<_}
 use mathlib.Core.List.{List, _∷_, map}
 use mathlib.Core.Path.{_≡_, refl, sym, ap, ap₂, _∙_}
 use native.Mathlib.Nat.{add-assoc, suc-mul, zero-mul}
@@ -11,7 +11,7 @@ use Rattle.xm.specs.Number.{Bytes, byteAt, part}
 use Rattle.xm.specs.Got.{got, AllHold}
 use Rattle.xm.specs.Format.{each}
 use Rattle.xm.specs.Sample.{headBytes, dataSize, Stretch, readHead, readData, headFormat, dataFormat, SamplesFound}
-use Rattle.xm.specs.Instrument.{instrumentSizeAt, countAt, headerSizeAt, instrumentTests, InstrumentFound, voiceOf, readInstrument}
+use Rattle.xm.specs.Instrument.{instrumentSizeAt, countAt, headerSizeAt, instrumentTests, InstrumentFound, voiceOf, readInstrument, instrumentFormat}
 use Rattle.xm.specs.Module.{fileMost}
 use Rattle.xm.specs.Table.{sampleCount, sampleRow, sampleRowsOf, sampleRowsIn}
 use Rattle.xm.specs.Asking.{noRow}
@@ -19,7 +19,9 @@ use Rattle.xm.proofs.Number.{bytes-drop}
 use Rattle.xm.proofs.Got.{passed, bind-got, got-value, got-used, got-carry}
 use Rattle.xm.proofs.Format.{read-length}
 use Rattle.xm.proofs.Instrument.{heads-used, instrument-keeps}
+use Rattle.tables.specs.Accepted.{ReadsFrom}
 use Rattle.tables.specs.Place.{headSizeOf, instrumentAt, dataBefore, dataPlace, Stands, rowOf, rowAt}
+use Rattle.tables.proofs.Reading.{reads-next}
 
 -- One header, and the data that it says
 pub head-found : (size place : ℕ) (s : List ℕ) {i : Stretch} {n : ℕ} → readHead size place s ≡ got i n
@@ -176,3 +178,11 @@ module _ (file : List ℕ) (place : ℕ) where
         some = omega (arith, h .1 .0);
         inside = omega (arith, used);
       }))
+
+-- The first of the instruments that are left
+pub instruments-next : {R : Type 0} (file : List ℕ) → length file ≤ fileMost → Bytes file → {count place end : ℕ} {parts : List InstrumentFound}
+    → ReadsFrom instrumentFormat tt file count place parts end → 0 < count
+    → ((i : InstrumentFound) (n : ℕ) (more : List InstrumentFound) → readInstrument place (drop place file) ≡ got i n → InstrumentStands file place i n → parts ≡ i ∷ more
+    → ReadsFrom instrumentFormat tt file (count - 1) (place + n) more end → R) → R
+instruments-next file small bytes {place = place} w l k = reads-next instrumentFormat tt file w l λ i n more ei ep rest.
+    k i n more ei (instrument-stands file place small bytes i n ei) ep rest

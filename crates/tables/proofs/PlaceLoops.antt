@@ -6,9 +6,8 @@ use native.Mathlib.Nat.{mul-le-mul-right, suc-mul}
 use native.Mathlib.Omega.{arith}
 use lib.ListN.{length, drop}
 use lib.Seq.{drop-drop}
-use Rattle.xm.specs.Got.{AllHold}
 use Rattle.xm.specs.Stored.{rowsMost}
-use Rattle.xm.specs.Header.{headerTests, channelsAt, patternsAt, headerEnd}
+use Rattle.xm.specs.Header.{channelsAt, patternsAt, headerEnd}
 use Rattle.xm.specs.PatternInFile.{leastPattern, PatternFound, patternFormat}
 use Rattle.xm.specs.Sample.{leastHead, headBytes, dataSize}
 use Rattle.xm.specs.Module.{Found, fileMost, readFile}
@@ -45,9 +44,6 @@ pub record PatternFits (file : List ℕ) (x : PatternAt) : Type 0 where
   pub few : x .rows ≤ rowsMost
 
 module _ (file : List ℕ) where
-  pub accepted-header : Accepted (readFile file) → AllHold (headerTests 0 file)
-  accepted-header h = accepted-got (readFile file) h λ found end e. file-reads file found end e .tests
-
   pub skipping-start : Accepted (readFile file) → Skipping file (patternsAt file) (headerEnd file) (listIn (λ (found : Found). found .1 .0) (readFile file))
   skipping-start h = accepted-got (readFile file) h λ found end e.
       let w = file-reads file found end e in

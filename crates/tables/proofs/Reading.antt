@@ -70,3 +70,11 @@ file-reads file found end e =
       patterns = record { used = k; reads = rw (zero-add (headerEnd file)) at patterns; ends = refl };
       instruments = record { used = j; reads = rw (zero-add (headerEnd file), drop-drop k (headerEnd file) file) at instruments; ends = refl };
     }))
+
+-- and of one that was accepted
+module _ (file : List ℕ) (h : Accepted (readFile file)) where
+  pub accepted-small : length file ≤ fileMost
+  accepted-small = accepted-got (readFile file) h λ found end e. file-reads file found end e .small
+
+  pub accepted-header : AllHold (headerTests 0 file)
+  accepted-header = accepted-got (readFile file) h λ found end e. file-reads file found end e .tests

@@ -19,8 +19,8 @@ use Rattle.tables.specs.Accepted.{listIn, ReadsFrom, InstrumentsFrom}
 use Rattle.tables.specs.Place.{instrumentAt, dataPlace, Stands, rowAt}
 use Rattle.tables.specs.declared.place.InstrumentAt.{InstrumentAt}
 use Rattle.tables.specs.declared.sample.SampleRow.{SampleRow}
-use Rattle.tables.proofs.Reading.{accepted-got, some-accepted, reads-none, reads-next, file-reads}
-use Rattle.tables.proofs.InstrumentLaws.{InstrumentStands, instrument-stands}
+use Rattle.tables.proofs.Reading.{accepted-small, some-accepted, reads-none}
+use Rattle.tables.proofs.InstrumentLaws.{InstrumentStands, instruments-next}
 use Rattle.tables.proofs.PlaceLoops.{before-more}
 
 -- The row by its fields, and that they lie in the file
@@ -60,9 +60,8 @@ module _ (file : List ℕ) (number : ℕ) where
   pub searching-start : number < length (listIn sampleRows (readFile file)) → {place : ℕ} → InstrumentsFrom file place → Searching file number number place
   searching-start l from =
       let rows = rows-in (readFile file) in
-      accepted-got (readFile file) (some-accepted sampleRows (readFile file) l) λ found end e.
       record {
-        small = file-reads file found end e .small;
+        small = accepted-small file (some-accepted sampleRows (readFile file) l);
         count = _;
         parts = _;
         end = from .end;
@@ -79,7 +78,7 @@ module _ (file : List ℕ) (number : ℕ) where
       where
         go : (count : ℕ) → ReadsFrom instrumentFormat tt file count place (w .parts) (w .end) → R
         go zero r = absurd (omega (arith, w .here, ap (λ (l : List InstrumentFound). length (joined sampleRowsIn l)) (reads-none instrumentFormat tt file r .0)))
-        go (suc count) r = reads-next instrumentFormat tt file r (omega arith) λ i n more ei ep rest. k i n _ more (instrument-stands file place (w .small) bytes i n ei) ep rest
+        go (suc count) r = instruments-next file (w .small) bytes r (omega arith) λ i n more ei s ep rest. k i n _ more s ep rest
 
     pub searching-tests : AllHold (instrumentTests place (drop place file))
     searching-tests = searching-next λ i n count more s ep rest. s .tests

@@ -30,8 +30,8 @@ use Rattle.tables.specs.declared.place.PatternAt.{PatternAt}
 use Rattle.tables.specs.declared.place.InstrumentAt.{InstrumentAt}
 use Rattle.tables.specs.declared.standing.Standing.{Standing}
 use Rattle.tables.specs.declared.standing.Standing.the-variants.{Pattern, Instrument, SampleHeader, End, Refused}
-use Rattle.tables.proofs.Reading.{accepted-got, reads-none, reads-next, file-reads}
-use Rattle.tables.proofs.InstrumentLaws.{InstrumentStands, instrument-stands}
+use Rattle.tables.proofs.Reading.{accepted-small, reads-none}
+use Rattle.tables.proofs.InstrumentLaws.{InstrumentStands, instruments-next}
 use Rattle.tables.proofs.PlaceLoops.{times-step, Skipping, skipping-start, skipping-on, skipping-end}
 use Rattle.tables.proofs.StandingLaws.{orElse, among, pattern-stands-at, patterns-then, instrument-stands-at}
 use Rattle.tables.proofs.VerdictLaws.{verdict-got, verdict-refused}
@@ -109,7 +109,7 @@ pub record InstrumentsLeft (file : List ℕ) (place left at : ℕ) : Type 0 wher
 module _ (file : List ℕ) (place : ℕ) where
   pub instruments-start : Accepted (readFile file) → {at : ℕ} → InstrumentsFrom file at → InstrumentsLeft file place (instrumentsAt file) at
   instruments-start h from = record {
-    small = accepted-got (readFile file) h λ found end e. file-reads file found end e .small;
+    small = accepted-small file h;
     parts = listIn (λ (found : Found). found .1 .1) (readFile file);
     end = from .end;
     reads = from .reads;
@@ -125,8 +125,8 @@ module _ (file : List ℕ) (place : ℕ) where
       next : {R : Type 0} → ((i : InstrumentFound) (n : ℕ) (more : List InstrumentFound) → InstrumentStands file at i n
           → amongInstruments place (readFile file) ≡ cond (leb place at) (Instrument at) (orElse (amongHeads place (instrumentAt at (drop at file))) (among place (joined (instrumentFormat .regions) more)))
           → ReadsFrom instrumentFormat tt file (left - 1) (at + n) more (w .end) → R) → R
-      next k = reads-next instrumentFormat tt file (w .reads) l λ i n more ei ep rest.
-          k i n more (instrument-stands file at (w .small) bytes i n ei)
+      next k = instruments-next file (w .small) bytes (w .reads) l λ i n more ei s ep rest.
+          k i n more s
           (w .same
           ∙ ap (λ (l : List InstrumentFound). among place (joined (instrumentFormat .regions) l)) ep
           ∙ instrument-stands-at place at (drop at file) i n ei (joined (instrumentFormat .regions) more)) rest

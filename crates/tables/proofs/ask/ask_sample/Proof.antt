@@ -39,7 +39,7 @@ sub-if3 c = search needs
 returns : tie.Need-returns
 returns c =
     let a = c .before .before .before .before .before .args in
-    ask-lies (a .file .now) (a .samples .now) (a .number) (c .before .before .before .before .if1 .taken) (c .before .if2 .taken) (c .if3 .taken)
+    ask-lies (a .file .now) (a .samples .now) (a .number) (c .before .before .before .before .if1 .taken) (c .before .if2 .taken) (omega (arith, c .if3 .taken))
 
 returns-2 : tie.Need-returns-2
 returns-2 c =

@@ -3,7 +3,7 @@
 use mathlib.Core.Path.{ap}
 use native.Mathlib.Omega.{arith}
 use Rattle.tables.specs.declared.place.Counts.{Counts}
-use Rattle.tables.proofs.PlaceLoops.{accepted-header}
+use Rattle.tables.proofs.Reading.{accepted-header}
 use Rattle.tables.proofs.FillLaws.{FillingInstruments, instruments-start, instruments-tests, instruments-place, instruments-stands, instruments-room, instruments-on, instruments-done}
 use Rattle.tables.proofs.fill.fill_instruments.Statement.{statement}
 use Rattle.tables.proofs.fill.fill_instruments.Tie as tie

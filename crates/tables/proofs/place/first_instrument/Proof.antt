@@ -3,7 +3,8 @@ use mathlib.Core.List.{List}
 use mathlib.Core.Path.{ap}
 use native.Mathlib.Omega.{arith}
 use Rattle.xm.specs.PatternInFile.{PatternFound}
-use Rattle.tables.proofs.PlaceLoops.{accepted-header, Skipping, skipping-start, skipping-room, skipping-on, skipping-end}
+use Rattle.tables.proofs.Reading.{accepted-header}
+use Rattle.tables.proofs.PlaceLoops.{Skipping, skipping-start, skipping-room, skipping-on, skipping-end}
 use Rattle.tables.specs.declared.place.Counts.{Counts}
 use Rattle.tables.proofs.place.first_instrument.Statement.{statement}
 use Rattle.tables.proofs.place.first_instrument.Tie as tie

@@ -1,6 +1,10 @@
 -- `tables::sample::put_sample` meets its contract. Assumes nothing.
+use Prim.Native.Nat.{_+_, _*_}
+use mathlib.Core.Path.{ap₂, _∙_}
 use native.Mathlib.Omega.{arith}
-use lib.ListN.{length-set}
+use lib.IntN.{ℤ}
+use lib.ListN.{set, length-set}
+use Rattle.xm.specs.Table.{tuneStride}
 use mir.Syntax.{w8}
 use mir.Facts.{toZ-ofZ}
 use Rattle.tables.proofs.Stores.{stored-two, stored-four}
@@ -67,8 +71,10 @@ returns c =
     let a = c .before .before .args in
     let p = c .before .before .pre in
     let fine = toZ-ofZ {w = w8} {z = a .row .finetune} (record { sfits = c .before .struct-told .given .1 .1 .1 .1 .0 .1 }) in
-    let note = toZ-ofZ {w = w8} {z = a .row .«relative_note»} (record { sfits = c .struct-told2 .given .1 .1 .1 .1 .1 .0 .1 }) in
-    (stored-four _ _ _ _ _ _ (p .0), rw (fine, note) (stored-two _ _ _ _ (p .1)))
+    let note = toZ-ofZ {w = w8} {z = a .row .«relative_note»} (record { sfits = c .struct-told2 .given .1 .1 .1 .1 .1 .0 .1 }) in (
+      stored-four _ _ _ _ _ _ (p .0),
+      ap₂ (λ (x y : ℤ). set (set (a .tunes .now) (tuneStride * a .number) x) (tuneStride * a .number + 1) y) fine note ∙ stored-two _ _ _ _ (p .1),
+    )
 
 pub put-sample-spec : {M : Type 1} → statement M
 put-sample-spec =

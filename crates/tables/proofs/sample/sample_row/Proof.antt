@@ -41,7 +41,7 @@ returns : tie.Need-returns
 returns c =
     let head = c .before .before .before .before .sample-head .ensures .value in
     let fits = c .struct-told .given in
-    row-path refl (c .before .before .before .data-place .ensures) (ap SampleHead.length head)
+    row-path refl (c .before .before .before .data-place .ensures) (omega (arith, ap SampleHead.length head))
     (c .before .width-of .ensures ∙ ap (λ (h : SampleHead). cond (eqb (h .form / 16 % 2) 1) 16 8) head)
     (toZ-ofZ {w = w8} (record { sfits = fits .1 .1 .1 .0 .1 }) ∙ ap SampleHead.finetune head) (toZ-ofZ {w = w8} (record { sfits = fits .1 .1 .1 .1 .1 .0 .1 }) ∙ ap SampleHead.«relative_note» head)
 

@@ -13,7 +13,7 @@ abbrev μ-loop : tie.MeasureT-loop
 μ-loop place size head₀ left₀ head left = left
 
 loop-holds : tie.Need-loop-holds Inv-loop μ-loop
-loop-holds c = record { same = refl; fits = c .pre }
+loop-holds c = record { same = refl; fits = omega (arith, c .pre) }
 
 returns : tie.Need-returns Inv-loop μ-loop
 returns c = heads-here _ _ _ (c .before .before .loop .inv) (c .before .loop-test .taken) (c .if1 .taken)

@@ -3,7 +3,7 @@
 use mathlib.Core.Path.{ap}
 use native.Mathlib.Omega.{arith}
 use Rattle.tables.specs.declared.place.Counts.{Counts}
-use Rattle.tables.proofs.PlaceLoops.{accepted-header}
+use Rattle.tables.proofs.Reading.{accepted-header}
 use Rattle.tables.proofs.StandingLaws.{stands-first}
 use Rattle.tables.proofs.StandingLoops.{InstrumentsLeft, instruments-start, instruments-tests, instruments-here, instruments-stands, instruments-heads, instruments-on, instruments-end}
 use Rattle.tables.proofs.standing.among_instruments.Statement.{statement}

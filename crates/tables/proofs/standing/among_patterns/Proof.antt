@@ -2,7 +2,8 @@
 use mathlib.Core.Path.{ap}
 use native.Mathlib.Omega.{arith}
 use Rattle.tables.specs.declared.place.Counts.{Counts}
-use Rattle.tables.proofs.PlaceLoops.{accepted-header, skipping-room, skipping-on}
+use Rattle.tables.proofs.Reading.{accepted-header}
+use Rattle.tables.proofs.PlaceLoops.{skipping-room, skipping-on}
 use Rattle.tables.proofs.StandingLoops.{PatternsLeft, patterns-start, patterns-here, patterns-on, patterns-end}
 use Rattle.tables.proofs.standing.among_patterns.Statement.{statement}
 use Rattle.tables.proofs.standing.among_patterns.Tie as tie
