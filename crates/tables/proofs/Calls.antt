@@ -1,18 +1,25 @@
 -- What holds of every answer and memory that meet the contracts of the check with tables and of the calls about a sample. Assumes nothing.
-use Prim.Native.Nat.{ℕ, _<_}
+use Prim.Native.Nat.{ℕ, zero, suc, _+_, _*_, _≤_, _<_}
 use mathlib.Core.List.{List, [], _∷_}
 use mathlib.Core.Path.{_≡_, refl, sym, ap, ap₂, _∙_}
-use lib.ListN.{length, drop}
-use Rattle.xm.specs.Number.{Bytes}
+use native.Mathlib.Omega.{arith}
+use lib.IntN.{ℤ}
+use lib.ListN.{length, getD, drop}
+use Rattle.xm.specs.Number.{Bytes, part}
 use Rattle.xm.specs.Got.{got}
 use Rattle.xm.specs.Format.{joined}
 use Rattle.xm.specs.Answer.{Answer, gives, refuses}
 use Rattle.xm.specs.Module.{readFile}
-use Rattle.xm.specs.Table.{Checked, checkedAs, roomTests, checkIntoNumbers, checkingInto, sampleRows, sampleNumbers, Tables, Room, roomOf, tablesAfter}
-use Rattle.xm.specs.Asking.{Lies, askingFlat, askNumbers}
-use Rattle.xm.specs.Demands.{AcceptedFile, liesAt}
+use Rattle.xm.specs.Stored.{Pattern, standard}
+use Rattle.xm.specs.Packing.{cellBytes, unpacking}
+use Rattle.xm.specs.Instrument.{Instrument}
+use Rattle.xm.specs.Delta.{decoding, valuesOf}
+use Rattle.xm.specs.Press.{contentOf}
+use Rattle.xm.specs.Table.{PatternRow, SampleRow, patternRows, sampleRows, Checked, checkedAs, roomTests, checkIntoNumbers, checkingInto, patternStride, sampleStride, patternNumbers, sampleNumbers, Tables, Room, roomOf, tablesAfter}
+use Rattle.xm.specs.Asking.{Lies, stretchOf, askingFlat, askNumbers, noRow}
+use Rattle.xm.specs.Demands.{RowUnpacks, RowsUnpack, RowDecodes, RowsDecode, AcceptedFile, liesAt}
 use Rattle.xm.proofs.Answer.{gives-bound, gives-passed, gives-same}
-use Rattle.xm.proofs.Accepted.{accepted-files}
+use Rattle.xm.proofs.Accepted.{accepted-files, number-at}
 use Rattle.walk.specs.declared.Verdict.{Verdict}
 use Rattle.walk.specs.File.{verdictOf, verdictNumbers}
 use Rattle.walk.proofs.Calls.{verdict-numbers}
@@ -48,12 +55,69 @@ into-found room file c e =
     gives-passed _ (roomTests room found) _ d λ h d.
     let same : checkedAs found end ≡ c = gives-same d in q ∙ ap₂ got (ap Checked.found same) (ap Checked.end same)
 
--- Of the tables that an accepted check leaves, each sample is handed back as the content's stretch
+-- What holds row by row holds of the row of a number
+unpacks-at : (file : List ℕ) (channels : ℕ) (rows : List PatternRow) (ps : List Pattern) (row : PatternRow) (p : Pattern) (number : ℕ) → number < length rows
+    → RowsUnpack file channels rows ps → RowUnpacks file channels (getD rows number row) (getD ps number p)
+unpacks-at file channels [] ps row p number low u = absurd (omega arith)
+unpacks-at file channels (r ∷ rs) [] row p number low u = absurd u
+unpacks-at file channels (r ∷ rs) (q ∷ qs) row p zero low u = u .0
+unpacks-at file channels (r ∷ rs) (q ∷ qs) row p (suc number) low u = unpacks-at file channels rs qs row p number (omega arith) (u .1)
+
+decodes-at : (file : List ℕ) (rows : List SampleRow) (heads bytes : List (List ℕ)) (number : ℕ) → number < length rows → RowsDecode file rows heads bytes
+    → RowDecodes file (getD rows number noRow) (getD heads number []) (getD bytes number [])
+decodes-at file [] heads bytes number low u = absurd (omega arith)
+decodes-at file (r ∷ rs) [] bytes number low u = absurd u
+decodes-at file (r ∷ rs) (h ∷ hs) [] number low u = absurd u
+decodes-at file (r ∷ rs) (h ∷ hs) (b ∷ bs) zero low u = u .0
+decodes-at file (r ∷ rs) (h ∷ hs) (b ∷ bs) (suc number) low u = decodes-at file rs hs bs number (omega arith) (u .1)
+
+-- Of the tables that an accepted check leaves
 module _ (file : List ℕ) (plain : Bytes file) (lent : Tables) (c : Checked) (accepted : checkingInto (roomOf lent) file ≡ gives c) where
-  pub filled-asked : (number : ℕ) → number < length (sampleRows (c .found))
-      → askingFlat file (tablesAfter (checkingInto (roomOf lent) file) lent .samples) number ≡ gives (liesAt (sampleRows (c .found)) number)
+  found : AcceptedFile file (c .found) (c .end)
+  found = accepted-files file (c .found) (c .end) plain (into-found (roomOf lent) file c accepted)
+
+  abbrev pub filled : Tables
+  filled = tablesAfter (checkingInto (roomOf lent) file) lent
+
+  -- each sample is handed back as the content's stretch,
+  pub filled-asked : (number : ℕ) → number < length (sampleRows (c .found)) → askingFlat file (filled .samples) number ≡ gives (liesAt (sampleRows (c .found)) number)
   unfolding tablesAfter
   filled-asked number low = rw accepted (found .asked .flat (drop (length (joined sampleNumbers (sampleRows (c .found)))) (lent .samples)) number low)
-    where
-      found : AcceptedFile file (c .found) (c .end)
-      found = accepted-files file (c .found) (c .end) plain (into-found (roomOf lent) file c accepted)
+
+  -- which decodes at the row's width to the content's values,
+  abbrev contents : List Instrument
+  contents = contentOf (c .found) .1 .1
+
+  abbrev pub valuesAt : (number : ℕ) → List ℤ
+  valuesAt number = valuesOf (getD (joined (λ (x : Instrument). x .samples .0) contents) number []) (getD (joined (λ (x : Instrument). x .samples .1) contents) number [])
+
+  pub filled-decodes : (number : ℕ) → number < length (sampleRows (c .found))
+      → decoding (getD (filled .samples) (sampleStride * number + 3) 0) (stretchOf file (askingFlat file (filled .samples) number)) (length (valuesAt number)) ≡ gives (valuesAt number)
+  unfolding tablesAfter
+  filled-decodes number low =
+      let rows = sampleRows (c .found) in
+      let width = number-at sampleStride sampleNumbers (λ row. refl) rows noRow (drop (length (joined sampleNumbers rows)) (lent .samples)) number 3 low (omega arith) in
+      rw (filled-asked number low) (rw (accepted, width) (decodes-at file rows _ _ number low (found .rows-decode) .1))
+
+  -- and each pattern's data, by the numbers of its row, unpack to the content's rows and cells.
+  abbrev patternAt : (number : ℕ) → Pattern
+  patternAt number = getD (contentOf (c .found) .1 .0) number (standard (c .found .0 .content .channels))
+
+  abbrev pub rowNumber : (number k : ℕ) → ℕ
+  rowNumber number k = getD (filled .patterns) (patternStride * number + k) 0
+
+  abbrev none : PatternRow
+  none = record { dataPlace = 0; size = 0; rows = 0 }
+
+  number-in : (number k : ℕ) → number < length (patternRows (c .found)) → k < patternStride
+      → rowNumber number k ≡ getD (patternNumbers (getD (patternRows (c .found)) number none)) k 0
+  unfolding tablesAfter
+  number-in number k low l =
+      let rows = patternRows (c .found) in
+      rw accepted (number-at patternStride patternNumbers (λ row. refl) rows none (drop (length (joined patternNumbers rows)) (lent .patterns)) number k low l)
+
+  pub filled-unpacks : (number room : ℕ) → number < length (patternRows (c .found)) → length (cellBytes (patternAt number)) ≤ room
+      → unpacking (rowNumber number 2) (c .found .0 .content .channels) (part (rowNumber number 0) (rowNumber number 1) file) room ≡ gives (patternAt number)
+  filled-unpacks number room low enough =
+      rw (number-in number 0 low (omega arith), number-in number 1 low (omega arith), number-in number 2 low (omega arith))
+      (unpacks-at file (c .found .0 .content .channels) (patternRows (c .found)) _ none (standard (c .found .0 .content .channels)) number low (found .rows-unpack) .1 room enough)

@@ -3,11 +3,11 @@ use Prim.Native.Nat.{ℕ, zero, suc, _+_, _*_, _/_, _%_, _≤_, _<_}
 use mathlib.Core.Bool.{Bool, true, false, cond}
 use mathlib.Core.List.{List, [], _∷_, _++_, map, append-assoc}
 use mathlib.Core.Path.{_≡_, refl, sym, ap, ap₂, _∙_, subst}
-use native.Mathlib.Nat.{zero-add, add-zero}
+use native.Mathlib.Nat.{zero-add, add-zero, mul-zero, mul-suc}
 use native.Mathlib.Omega.{arith}
 use lib.Dec.{eqb}
 use lib.ListN.{length, getD, take, drop, replicate, length-append, length-take, length-map, length-replicate, List·getD-append}
-use lib.Seq.{drop-at, take-at}
+use lib.Seq.{drop-at, take-at, getD-append-add}
 use Rattle.xm.specs.Number.{Bytes, byteAt, longAt, part, signed}
 use Rattle.xm.specs.Got.{got, Holds}
 use Rattle.xm.specs.Format.{Format, each, sampleData, joined, EachGood, All}
@@ -142,24 +142,20 @@ asks-exactly file rows number row = (
   λ h. answer-refuses _ (tests-fail _ _ (refl, (refl, (refl, tt))) (λ all. h (omega (arith, all .0), omega (arith, all .1 .0, all .1 .1 .0)))),
 )
 
-number-at : (rows : List SampleRow) (stale : List ℕ) (number k : ℕ) → number < length rows → k < sampleStride
-    → getD (joined sampleNumbers rows ++ stale) (sampleStride * number + k) 0 ≡ getD (sampleNumbers (getD rows number noRow)) k 0
-number-at [] stale number k h l = absurd (omega arith)
-number-at (r ∷ rs) stale zero k h l = ap (λ (i : ℕ). getD (joined sampleNumbers (r ∷ rs) ++ stale) i 0) none ∙ front k l
-  where
-    none : sampleStride * 0 + k ≡ k
-    none = omega arith
-
-    front : (k : ℕ) → k < sampleStride → getD (joined sampleNumbers (r ∷ rs) ++ stale) k 0 ≡ getD (sampleNumbers r) k 0
-    front zero l = refl
-    front (suc zero) l = refl
-    front (suc (suc zero)) l = refl
-    front (suc (suc (suc zero))) l = refl
-    front (suc (suc (suc (suc k)))) l = absurd (omega arith)
-number-at (r ∷ rs) stale (suc n) k h l = ap (λ (i : ℕ). getD (joined sampleNumbers (r ∷ rs) ++ stale) i 0) later ∙ number-at rs stale n k (omega arith) l
-  where
-    later : sampleStride * suc n + k ≡ suc (suc (suc (suc (sampleStride * n + k))))
-    later = omega arith
+-- A number of a row, in a table of rows end to end
+pub number-at : {R : Type 0} (stride : ℕ) (numbers : R → List ℕ) → ((row : R) → length (numbers row) ≡ stride)
+    → (rows : List R) (none : R) (stale : List ℕ) (number k : ℕ) → number < length rows → k < stride
+    → getD (joined numbers rows ++ stale) (stride * number + k) 0 ≡ getD (numbers (getD rows number none)) k 0
+number-at stride numbers wide [] none stale number k h l = absurd (omega arith)
+number-at stride numbers wide (r ∷ rs) none stale zero k h l =
+    let first : stride * 0 + k ≡ k = omega (arith, mul-zero stride) in
+    ap₂ (λ (table : List ℕ) (i : ℕ). getD table i 0) (append-assoc (numbers r) (joined numbers rs) stale) first
+    ∙ List·getD-append (numbers r) (joined numbers rs ++ stale) 0 k (omega (arith, wide r))
+number-at stride numbers wide (r ∷ rs) none stale (suc n) k h l =
+    let later : stride * suc n + k ≡ length (numbers r) + (stride * n + k) = omega (arith, wide r, mul-suc stride n) in
+    ap₂ (λ (table : List ℕ) (i : ℕ). getD table i 0) (append-assoc (numbers r) (joined numbers rs) stale) later
+    ∙ getD-append-add (numbers r) (joined numbers rs ++ stale) (stride * n + k) 0
+    ∙ number-at stride numbers wide rs none stale n k (omega arith) l
 
 module _ (file : List ℕ) (rows : List SampleRow) (inside : All (λ (row : SampleRow). row .dataPlace + row .size ≤ length file) rows) where
   row-inside : (number : ℕ) → number < length rows → getD rows number noRow .dataPlace + getD rows number noRow .size ≤ length file
@@ -170,7 +166,7 @@ module _ (file : List ℕ) (rows : List SampleRow) (inside : All (λ (row : Samp
     flat = λ stale number h.
         let table = joined sampleNumbers rows ++ stale in
         let lies : _≡_ {A = Lies} (record { place = getD table (sampleStride * number + 1) 0; size = getD table (sampleStride * number + 2) 0 }) (liesAt rows number) =
-        ap₂ (λ (p s : ℕ). record { place = p; size = s }) (number-at rows stale number 1 h (omega arith)) (number-at rows stale number 2 h (omega arith)) in
+        ap₂ (λ (p s : ℕ). record { place = p; size = s }) (number-at sampleStride sampleNumbers (λ row. refl) rows noRow stale number 1 h (omega arith)) (number-at sampleStride sampleNumbers (λ row. refl) rows noRow stale number 2 h (omega arith)) in
         ap (asking file (length table / sampleStride) number) lies
         ∙ asks-exactly file (length table / sampleStride) number (liesAt rows number) .0
         (omega (arith, length-append (joined sampleNumbers rows) stale, joined-length sampleStride sampleNumbers (λ row. refl) rows), row-inside number h);
