@@ -75,18 +75,3 @@ module _ (p : Pattern) (count shortest : ℕ) (fives : Fives (p .cells)) (isCoun
       go : (t : Bool) → needsNoData p ≡ t → cond (eqb (p .rows) 64 && eqb shortest count) 0 shortest ≡ length (writeStored p)
       go true e = rw (← none-by, e, write-none p e)
       go false e = rw (← none-by, e, write-cells p e) isShortest
-
--- What is written, by its length
-pub stored-nothing : (p : Pattern) → length (writeStored p) ≡ 0 → writeStored p ≡ []
-stored-nothing p = go (writeStored p)
-  where
-    go : (l : List ℕ) → length l ≡ 0 → l ≡ []
-    go [] h = refl
-    go (x ∷ l) h = absurd (omega arith)
-
-pub stored-cells : (p : Pattern) → 0 < length (writeStored p) → writeStored p ≡ joined writeCell (p .cells)
-stored-cells p h = go (needsNoData p) refl
-  where
-    go : (t : Bool) → needsNoData p ≡ t → writeStored p ≡ joined writeCell (p .cells)
-    go true e = absurd (omega (arith, ap length (write-none p e)))
-    go false e = write-cells p e

@@ -21,7 +21,8 @@ use Rattle.packing.specs.declared.Packed.the-variants.{Stored, Refused}
 use Rattle.packing.specs.declared.Measured.the-variants.{Shortest, Faulty}
 use Rattle.packing.specs.Packed.{packedOf, measuredOf, sizeBy}
 use Rattle.packing.proofs.Measure.{measured-shortest}
-use Rattle.packing.proofs.Empty.{stored-by, stored-nothing, stored-cells}
+use Rattle.shortest.proofs.Long.{stored-nothing, stored-cells}
+use Rattle.packing.proofs.Empty.{stored-by}
 
 pub form-path : {size size′ rows rows′ : ℕ} → size ≡ size′ → rows ≡ rows′ → Stored (record { length = size; rows = rows }) ≡ Stored (record { length = size′; rows = rows′ })
 form-path p q = cc

@@ -1,11 +1,4 @@
-pub mod Fields
-pub mod Over
-pub mod Row
 pub mod Measure
 pub mod Empty
 pub mod Exit
-pub mod Bits
-pub mod Read
-pub mod Copy
-pub mod Short
 pub mod Calls

@@ -12,9 +12,9 @@ use Rattle.xm.specs.Stored.{cellsOf}
 use Rattle.xm.specs.Packing.{noteTests}
 use Rattle.xm.proofs.Packing.{notes-more, notes-stop, notes-done}
 use Rattle.packing.specs.declared.Measured.the-variants.{Shortest, Faulty}
-use Rattle.packing.specs.Fields.{fields}
+use Rattle.shortest.specs.Fields.{fields}
 use Rattle.packing.specs.Packed.{measuredOf}
-use Rattle.packing.proofs.Row.{first-length, lent-first, lent-none, lent-most}
+use Rattle.shortest.proofs.Row.{first-length, lent-first, lent-none, lent-most}
 
 -- The state of the loop: `left` cells are still to be measured, from `place` on
 pub record Measuring (cells : List ℕ) (count place shortest left : ℕ) : Type 0 where

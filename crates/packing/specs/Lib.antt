@@ -1,4 +1,1 @@
-pub mod Fields
-pub mod Found
-pub mod Over
 pub mod Packed

@@ -1,5 +1,6 @@
 // Packing: the cells of a pattern in their shortest stored form.
 use refusal::Fault;
+use shortest::cell;
 ghost use mathlib.Core.Path.{_≡_};
 ghost use Prim.Native.Nat.{_+_, _*_, _≤_};
 ghost use mathlib.Core.Bool.{true};
@@ -10,11 +11,8 @@ ghost use Rattle.xm.specs.Answer.{refuses, inFront};
 ghost use Rattle.xm.specs.Cell.{five, writeCell};
 ghost use Rattle.xm.specs.Stored.{cellsOf};
 ghost use Rattle.xm.specs.Packing.{packing, packAfter, noteTests};
-ghost use Rattle.packing.specs.Fields.{fields};
+ghost use Rattle.shortest.specs.Fields.{fields};
 ghost use Rattle.packing.specs.Packed.{packedOf, ArgumentsHold, measuredOf, sizeBy};
-
-pub mod cell;
-pub mod stored;
 
 // A stored form that was written: how many data bytes, and its row number.
 pub struct Form {

@@ -11,7 +11,7 @@ use Rattle.xm.specs.Format.{Format, each}
 use Rattle.xm.specs.Answer.{inFront}
 use Rattle.xm.proofs.Got.{bind-got, got-value, got-used, got-carry}
 use Rattle.xm.proofs.Lay.{Laid, laid-none, laid-done, laid-long}
-use Rattle.packing.specs.Found.{rewritten}
+use Rattle.shortest.specs.Found.{rewritten}
 use Rattle.writers.specs.Found.{Told, readAt, pressedAt, endOf}
 use Rattle.writers.proofs.Writing.{laid-part}
 

@@ -16,8 +16,8 @@ use Rattle.xm.proofs.Module.{module-back, module-keeps}
 use Rattle.xm.proofs.Press.{press-gives, press-narrow}
 use Rattle.refusal.specs.Fault.{faultOf}
 use Rattle.refusal.specs.declared.Fault.{Fault}
-use Rattle.packing.specs.Found.{rewritten}
-use Rattle.walk.specs.Mark.{Marks}
+use Rattle.shortest.specs.Found.{rewritten}
+use Rattle.steps.specs.Mark.{Marks}
 use Rattle.walk.specs.File.{walkStep}
 use Rattle.walk.specs.declared.Summary.{Summary}
 use Rattle.walk.specs.declared.WalkStep.{WalkStep}

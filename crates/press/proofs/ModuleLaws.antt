@@ -17,8 +17,8 @@ use Rattle.xm.specs.Module.{patternsFor, instrumentsFor, bodyFormat, Found, mod
 use Rattle.xm.specs.Press.{contentOf, pressed}
 use Rattle.xm.proofs.Got.{passed, bind-got, got-value, got-carry}
 use Rattle.xm.proofs.Module.{whole-read}
-use Rattle.packing.specs.Found.{rewritten}
-use Rattle.walk.specs.Mark.{Marks}
+use Rattle.shortest.specs.Found.{rewritten}
+use Rattle.steps.specs.Mark.{Marks}
 use Rattle.writers.specs.Found.{Told, readAt, pressedAt, endOf}
 use Rattle.writers.specs.Header.{headerWith}
 use Rattle.press.specs.Module.{reachedOf, pressedFile}

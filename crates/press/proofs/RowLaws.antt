@@ -11,11 +11,11 @@ use Rattle.xm.specs.Format.{each}
 use Rattle.xm.specs.Answer.{inFront}
 use Rattle.xm.specs.PatternInFile.{PatternFound, patternFormat}
 use Rattle.xm.specs.Instrument.{InstrumentFound, instrumentFormat}
-use Rattle.walk.specs.Mark.{Marked, Marks}
-use Rattle.walk.specs.Step.{instrumentStep}
-use Rattle.walk.specs.declared.instrument.InstrumentPart.{InstrumentPart}
-use Rattle.walk.specs.declared.instrument.InstrumentStep.{InstrumentStep}
-use Rattle.walk.specs.declared.instrument.InstrumentStep.the-variants.{Refused}
+use Rattle.steps.specs.Mark.{Marked, Marks}
+use Rattle.steps.specs.Step.{instrumentStep}
+use Rattle.steps.specs.declared.instrument.InstrumentPart.{InstrumentPart}
+use Rattle.steps.specs.declared.instrument.InstrumentStep.{InstrumentStep}
+use Rattle.steps.specs.declared.instrument.InstrumentStep.the-variants.{Refused}
 use Rattle.refusal.specs.declared.Fault.{Fault}
 use Rattle.writers.specs.Found.{Told, readAt, pressedAt, endOf}
 use Rattle.writers.specs.Instrument.{InstrumentIs}

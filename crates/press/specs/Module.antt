@@ -6,7 +6,7 @@ use Rattle.xm.specs.Format.{each}
 use Rattle.xm.specs.PatternInFile.{patternFormat}
 use Rattle.xm.specs.Module.{Found, readFile}
 use Rattle.xm.specs.Press.{contentOf, pressed}
-use Rattle.packing.specs.Found.{rewritten}
+use Rattle.shortest.specs.Found.{rewritten}
 use Rattle.writers.specs.Found.{readAt, pressedAt, endOf}
 use Rattle.press.specs.declared.module.Reached.{Reached}
 

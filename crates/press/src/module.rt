@@ -1,8 +1,8 @@
 // The whole of a pressed file: the header, then each pattern and each instrument into what remains of the output.
-use walk::instrument::InstrumentStep;
-use walk::instrument::read_instrument;
-use walk::number::long;
-use walk::number::word;
+use steps::instrument::InstrumentStep;
+use steps::instrument::read_instrument;
+use steps::number::long;
+use steps::number::word;
 use writers::header::write_header;
 use writers::instrument::write_instrument;
 use writers::pattern::write_pattern;
@@ -15,7 +15,7 @@ ghost use Rattle.xm.specs.Stored.{channelsMost};
 ghost use Rattle.xm.specs.PatternInFile.{patternFormat};
 ghost use Rattle.xm.specs.Instrument.{instrumentFormat};
 ghost use Rattle.xm.specs.Module.{fileMost, readFile};
-ghost use Rattle.walk.specs.Mark.{Marks};
+ghost use Rattle.steps.specs.Mark.{Marks};
 ghost use Rattle.writers.specs.Found.{Told, readAt, pressedAt};
 ghost use Rattle.press.specs.Module.{reachedOf, pressedFile};
 

@@ -17,7 +17,7 @@ use walk::Module;
 use walk::Verdict;
 use walk::check;
 ghost use mathlib.Core.Path.{_≡_};
-ghost use Rattle.walk.specs.Test.{allPass};
+ghost use Rattle.steps.specs.Test.{allPass};
 ghost use Rattle.walk.specs.File.{verdictOf};
 ghost use Rattle.tables.specs.Into.{lent, checkedInto, tablesThen, roomFor, roomTestsOf};
 

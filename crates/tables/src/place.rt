@@ -1,7 +1,7 @@
 // What stands at a place of an accepted file: a second pass, which makes no test again and reads no cell.
-use walk::number::long;
-use walk::number::word;
-use walk::sample::sample_head;
+use steps::number::long;
+use steps::number::word;
+use steps::sample::sample_head;
 ghost use mathlib.Core.Path.{_≡_};
 ghost use Prim.Native.Nat.{_+_, _≤_, _<_};
 ghost use lib.ListN.{length, drop};

@@ -3,7 +3,7 @@ use crate::place::InstrumentAt;
 use crate::place::data_place;
 use crate::place::first_instrument;
 use crate::place::instrument_at;
-use walk::sample::sample_head;
+use steps::sample::sample_head;
 ghost use mathlib.Core.Path.{_≡_};
 ghost use Prim.Native.Nat.{_+_, _*_, _<_, _≤_, _/_, _%_};
 ghost use mathlib.Core.Bool.{cond};

@@ -23,12 +23,12 @@ use Rattle.xm.proofs.Header.{header-keeps, header-size}
 use Rattle.xm.proofs.PatternInFile.{pattern-keeps}
 use Rattle.xm.proofs.Instrument.{instrument-keeps}
 use Rattle.refusal.specs.declared.Fault.{Fault}
-use Rattle.walk.specs.Mark.{Marks}
-use Rattle.walk.specs.Step.{headerStep}
+use Rattle.steps.specs.Mark.{Marks}
+use Rattle.steps.specs.Step.{headerStep}
 use Rattle.walk.specs.File.{patternsStep, instrumentsStep, walkStep, verdictOf, headerRefused, runRefused, walkRefused}
-use Rattle.walk.specs.declared.header.HeaderPart.{HeaderPart}
-use Rattle.walk.specs.declared.header.HeaderStep.{HeaderStep}
-use Rattle.walk.specs.declared.header.HeaderStep.the-variants as header
+use Rattle.steps.specs.declared.header.HeaderPart.{HeaderPart}
+use Rattle.steps.specs.declared.header.HeaderStep.{HeaderStep}
+use Rattle.steps.specs.declared.header.HeaderStep.the-variants as header
 use Rattle.walk.specs.declared.Run.{Run}
 use Rattle.walk.specs.declared.RunStep.{RunStep}
 use Rattle.walk.specs.declared.RunStep.the-variants as run

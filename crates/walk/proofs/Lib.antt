@@ -1,13 +1,3 @@
-pub mod NumberLaws
-pub mod Tests
-pub mod HeaderLaws
-pub mod Sign
-pub mod Walking
-pub mod Shift
-pub mod PatternLaws
-pub mod SampleLaws
-pub mod InstrumentLaws
 pub mod RunLaws
 pub mod FileLaws
-pub mod MarkLaws
 pub mod Calls

@@ -20,19 +20,19 @@ use Rattle.xm.proofs.Sample.{Sized}
 use Rattle.xm.proofs.Instrument.{instrument-keeps, instrument-tells}
 use Rattle.refusal.specs.declared.Fault.{Fault}
 use Rattle.cells.specs.Row.{sameBytes}
-use Rattle.walk.specs.Mark.{MarkBy, Marks}
-use Rattle.walk.specs.Step.{patternStep, instrumentStep}
+use Rattle.steps.specs.Mark.{MarkBy, Marks}
+use Rattle.steps.specs.Step.{patternStep, instrumentStep}
 use Rattle.walk.specs.File.{patternsStep, instrumentsStep, patternRefused, instrumentRefused}
-use Rattle.walk.specs.declared.pattern.PatternPart.{PatternPart}
-use Rattle.walk.specs.declared.pattern.PatternStep.{PatternStep}
-use Rattle.walk.specs.declared.pattern.PatternStep.the-variants as pattern
-use Rattle.walk.specs.declared.instrument.InstrumentPart.{InstrumentPart}
-use Rattle.walk.specs.declared.instrument.InstrumentStep.{InstrumentStep}
-use Rattle.walk.specs.declared.instrument.InstrumentStep.the-variants as instrument
+use Rattle.steps.specs.declared.pattern.PatternPart.{PatternPart}
+use Rattle.steps.specs.declared.pattern.PatternStep.{PatternStep}
+use Rattle.steps.specs.declared.pattern.PatternStep.the-variants as pattern
+use Rattle.steps.specs.declared.instrument.InstrumentPart.{InstrumentPart}
+use Rattle.steps.specs.declared.instrument.InstrumentStep.{InstrumentStep}
+use Rattle.steps.specs.declared.instrument.InstrumentStep.the-variants as instrument
 use Rattle.walk.specs.declared.RunStep.{RunStep}
 use Rattle.walk.specs.declared.RunStep.the-variants as run
-use Rattle.walk.proofs.MarkLaws.{pattern-short, mark-told, marks-more}
-use Rattle.walk.proofs.Walking.{Reached, reached-start, reached-on, reached-out, reached-end}
+use Rattle.steps.proofs.MarkLaws.{pattern-short, mark-told, marks-more}
+use Rattle.steps.proofs.Walking.{Reached, reached-start, reached-on, reached-out, reached-end}
 
 -- One more is written behind what is written
 written-more : {H I A : Type 0} (F : Format H I A) (done : List I) (i : I)

@@ -10,12 +10,12 @@ use Rattle.xm.specs.Instrument.{InstrumentFound, instrumentFormat}
 use Rattle.xm.specs.Module.{Found, moduleFormat}
 use Rattle.xm.specs.Table.{sampleRowsIn, sampleRows, Checked}
 use Rattle.refusal.specs.Fault.{faultOf}
-use Rattle.walk.specs.declared.header.HeaderStep.{HeaderStep}
-use Rattle.walk.specs.declared.header.HeaderStep.the-variants as header
-use Rattle.walk.specs.declared.pattern.PatternStep.{PatternStep}
-use Rattle.walk.specs.declared.pattern.PatternStep.the-variants as pattern
-use Rattle.walk.specs.declared.instrument.InstrumentStep.{InstrumentStep}
-use Rattle.walk.specs.declared.instrument.InstrumentStep.the-variants as instrument
+use Rattle.steps.specs.declared.header.HeaderStep.{HeaderStep}
+use Rattle.steps.specs.declared.header.HeaderStep.the-variants as header
+use Rattle.steps.specs.declared.pattern.PatternStep.{PatternStep}
+use Rattle.steps.specs.declared.pattern.PatternStep.the-variants as pattern
+use Rattle.steps.specs.declared.instrument.InstrumentStep.{InstrumentStep}
+use Rattle.steps.specs.declared.instrument.InstrumentStep.the-variants as instrument
 use Rattle.walk.specs.declared.RunStep.{RunStep}
 use Rattle.walk.specs.declared.RunStep.the-variants as run
 use Rattle.walk.specs.declared.WalkStep.{WalkStep}

@@ -1,6 +1,1 @@
-pub mod Number
-pub mod Test
-pub mod Sample
-pub mod Step
 pub mod File
-pub mod Mark

@@ -1,19 +1,12 @@
-// The walk over a file: header, patterns, instruments and samples, each step either a value with the next place or a refusal; and the
-// check.
-pub mod header;
-pub mod instrument;
-pub mod number;
-pub mod pattern;
-pub mod sample;
-
-use header::HeaderStep;
-use header::read_header;
-use instrument::InstrumentStep;
-use instrument::read_instrument;
-use pattern::PatternStep;
-use pattern::mark_of;
-use pattern::read_pattern;
+// The walk over a file: header, patterns and instruments, one step after the other; and the check.
 use refusal::Fault;
+use steps::header::HeaderStep;
+use steps::header::read_header;
+use steps::instrument::InstrumentStep;
+use steps::instrument::read_instrument;
+use steps::pattern::PatternStep;
+use steps::pattern::mark_of;
+use steps::pattern::read_pattern;
 ghost use mathlib.Core.Path.{_≡_};
 ghost use Prim.Native.Nat.{ℕ, _≤_};
 ghost use mathlib.Core.List.{List};
@@ -24,7 +17,7 @@ ghost use Rattle.xm.specs.PatternInFile.{PatternFound, patternFormat};
 ghost use Rattle.xm.specs.Instrument.{instrumentFormat};
 ghost use Rattle.xm.specs.Module.{Found, fileMost, readFile};
 ghost use Rattle.xm.specs.Table.{checking};
-ghost use Rattle.walk.specs.Mark.{Marks};
+ghost use Rattle.steps.specs.Mark.{Marks};
 ghost use Rattle.walk.specs.File.{patternsStep, instrumentsStep, walkStep, verdictOf, patternRefused, instrumentRefused, headerRefused, runRefused, walkRefused};
 
 // Structures in a row: where they end, how many samples they have, and the bytes of their pressed forms.

@@ -19,14 +19,14 @@ use Rattle.xm.proofs.Sample.{samples-keeps}
 use Rattle.xm.proofs.Instrument.{heads-used}
 use Rattle.xm.specs.Answer.{inFront}
 use Rattle.xm.proofs.Lay.{Laid, laid-none, laid-done}
-use Rattle.packing.specs.Found.{rewritten}
-use Rattle.walk.specs.Sample.{headsFrom}
-use Rattle.walk.specs.Step.{headSize, instrumentStep}
-use Rattle.walk.specs.declared.instrument.InstrumentPart.{InstrumentPart}
-use Rattle.walk.specs.declared.instrument.InstrumentStep.{InstrumentStep}
-use Rattle.walk.specs.declared.instrument.InstrumentStep.the-variants.{Read, Refused}
-use Rattle.walk.proofs.InstrumentLaws.{some-samples}
-use Rattle.walk.proofs.SampleLaws.{heads-viewed, samples-counted, samples-size}
+use Rattle.shortest.specs.Found.{rewritten}
+use Rattle.steps.specs.Sample.{headsFrom}
+use Rattle.steps.specs.Step.{headSize, instrumentStep}
+use Rattle.steps.specs.declared.instrument.InstrumentPart.{InstrumentPart}
+use Rattle.steps.specs.declared.instrument.InstrumentStep.{InstrumentStep}
+use Rattle.steps.specs.declared.instrument.InstrumentStep.the-variants.{Read, Refused}
+use Rattle.steps.proofs.InstrumentLaws.{some-samples}
+use Rattle.steps.proofs.SampleLaws.{heads-viewed, samples-counted, samples-size}
 use Rattle.refusal.specs.declared.Fault.{Fault}
 use Rattle.writers.specs.Found.{readAt, pressedAt}
 use Rattle.writers.specs.Instrument.{InstrumentIs, frontOf, voiceAt}

@@ -16,9 +16,9 @@ use Rattle.xm.specs.PatternInFile.{dataMost, patternTests, PatternFound, readPa
 use Rattle.xm.proofs.Number.{bytes-drop, bytes-take, word-small, part-drop}
 use Rattle.xm.proofs.Got.{passed, bind-got, got-value, got-used}
 use Rattle.xm.proofs.Stored.{stored-keeps, stored-rows, stored-empty}
-use Rattle.packing.specs.Found.{rewritten, storedPressed, Known}
-use Rattle.packing.proofs.Read.{got-accepted, stored-anywhere}
-use Rattle.walk.specs.Mark.{Marked}
+use Rattle.shortest.specs.Found.{rewritten, storedPressed, Known}
+use Rattle.shortest.proofs.Read.{got-accepted, stored-anywhere}
+use Rattle.steps.specs.Mark.{Marked}
 use Rattle.writers.specs.Found.{Told, readAt, pressedAt}
 use Rattle.writers.specs.Pattern.{rowsBy, sizeBy, patternHead}
 

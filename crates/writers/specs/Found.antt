@@ -4,7 +4,7 @@ use mathlib.Core.List.{List}
 use lib.ListN.{drop}
 use Rattle.xm.specs.Got.{Got, got, refused}
 use Rattle.xm.specs.Format.{Format}
-use Rattle.packing.specs.Found.{rewritten}
+use Rattle.shortest.specs.Found.{rewritten}
 
 -- It was accepted, and the property holds of what was found.
 abbrev pub Told : {A : Type 0} → (A → Type 0) → Got A → Type 0

@@ -7,9 +7,9 @@ use Rattle.xm.specs.Number.{byteAt, part, byte, word, long}
 use Rattle.xm.specs.Format.{flat}
 use Rattle.xm.specs.Sample.{leastHead}
 use Rattle.xm.specs.Instrument.{voiceFrom, voiceSize, countAt, instrumentFormat}
-use Rattle.walk.specs.Step.{instrumentStep}
-use Rattle.walk.specs.declared.instrument.InstrumentPart.{InstrumentPart}
-use Rattle.walk.specs.declared.instrument.InstrumentStep.the-variants.{Read}
+use Rattle.steps.specs.Step.{instrumentStep}
+use Rattle.steps.specs.declared.instrument.InstrumentPart.{InstrumentPart}
+use Rattle.steps.specs.declared.instrument.InstrumentStep.the-variants.{Read}
 use Rattle.writers.specs.Found.{readAt}
 
 -- The walk's step at a place gave this part.

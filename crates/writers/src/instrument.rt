@@ -1,8 +1,8 @@
 // An instrument of a pressed file, with its sample headers and its samples' data.
 use crate::bytes::clear;
 use crate::bytes::put_long;
-use packing::stored::copy;
-use walk::instrument::InstrumentPart;
+use shortest::stored::copy;
+use steps::instrument::InstrumentPart;
 ghost use mathlib.Core.Path.{_≡_};
 ghost use Prim.Native.Nat.{_+_, _*_, _≤_, _<_};
 ghost use lib.ListN.{length, drop};
@@ -10,7 +10,7 @@ ghost use Rattle.xm.specs.Format.{flat};
 ghost use Rattle.xm.specs.Answer.{inFront};
 ghost use Rattle.xm.specs.Sample.{leastHead};
 ghost use Rattle.xm.specs.Instrument.{voiceFrom, voiceSize, instrumentFormat};
-ghost use Rattle.walk.specs.Sample.{headsFrom};
+ghost use Rattle.steps.specs.Sample.{headsFrom};
 ghost use Rattle.writers.specs.Found.{pressedAt};
 ghost use Rattle.writers.specs.Instrument.{InstrumentIs, frontOf, voiceAt};
 

@@ -2,16 +2,16 @@
 use crate::bytes::put_byte;
 use crate::bytes::put_long;
 use crate::bytes::put_word;
-use packing::stored::write_stored;
-use walk::number::long;
-use walk::number::word;
+use shortest::stored::write_stored;
+use steps::number::long;
+use steps::number::word;
 ghost use mathlib.Core.Path.{_≡_};
 ghost use Prim.Native.Nat.{_≤_};
 ghost use lib.ListN.{length};
 ghost use Rattle.xm.specs.Answer.{inFront};
 ghost use Rattle.xm.specs.Stored.{channelsMost, rowsMost};
 ghost use Rattle.xm.specs.PatternInFile.{dataMost, patternFormat};
-ghost use Rattle.walk.specs.Mark.{Marked};
+ghost use Rattle.steps.specs.Mark.{Marked};
 ghost use Rattle.writers.specs.Found.{Told, readAt, pressedAt};
 ghost use Rattle.writers.specs.Pattern.{rowsBy, sizeBy, patternHead};
 

@@ -2,8 +2,8 @@
 use borrow.Author.Needs.{needs}
 use mathlib.Core.Path.{_∙_}
 use native.Mathlib.Omega.{arith}
-use Rattle.packing.proofs.Fields.{fields-zero}
-use Rattle.packing.proofs.Row.{five-at}
+use Rattle.shortest.proofs.Fields.{fields-zero}
+use Rattle.shortest.proofs.Row.{five-at}
 use Rattle.packing.proofs.weight.Statement.{statement}
 use Rattle.packing.proofs.weight.Tie as tie
 

@@ -8,9 +8,9 @@ use Rattle.xm.specs.Format.{joined}
 use Rattle.xm.specs.Cell.{writeCell}
 use Rattle.xm.specs.Stored.{cellsOf}
 use Rattle.xm.proofs.Lay.{part-all}
-use Rattle.packing.specs.Fields.{fields}
-use Rattle.packing.proofs.Fields.{empty-written}
-use Rattle.packing.proofs.Row.{Writing, writing-none, writing-done, writing-room, writing-part, writing-over, writing-empty, five-at, lent-first, lent-none}
+use Rattle.shortest.specs.Fields.{fields}
+use Rattle.shortest.proofs.Fields.{empty-written}
+use Rattle.shortest.proofs.Row.{Writing, writing-none, writing-done, writing-room, writing-part, writing-over, writing-empty, five-at, lent-first, lent-none}
 use Rattle.packing.proofs.write_cells.Statement.{statement}
 use Rattle.packing.proofs.write_cells.Tie as tie
 

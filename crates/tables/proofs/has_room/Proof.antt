@@ -3,7 +3,7 @@ use Prim.Native.Nat.{_/_}
 use mathlib.Core.Path.{sym}
 use native.Mathlib.Nat.{le-min, min-le-left, min-le-right}
 use native.Mathlib.Omega.{arith}
-use Rattle.walk.proofs.Tests.{all-pass, not-all-pass}
+use Rattle.steps.proofs.Tests.{all-pass, not-all-pass}
 use Rattle.tables.proofs.has_room.Statement.{statement}
 use Rattle.tables.proofs.has_room.Tie as tie
 

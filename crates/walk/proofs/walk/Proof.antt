@@ -7,9 +7,9 @@ use Rattle.xm.specs.Number.{Bytes}
 use Rattle.xm.specs.Format.{each}
 use Rattle.xm.specs.Header.{readHeader}
 use Rattle.xm.specs.PatternInFile.{patternFormat}
-use Rattle.walk.specs.Step.{headerStep}
+use Rattle.steps.specs.Step.{headerStep}
 use Rattle.walk.specs.File.{patternsStep, headerRefused, runRefused}
-use Rattle.walk.specs.declared.header.HeaderStep.the-variants as header
+use Rattle.steps.specs.declared.header.HeaderStep.the-variants as header
 use Rattle.walk.specs.declared.RunStep.the-variants as run
 use Rattle.walk.proofs.FileLaws.{walk-large, walk-unmarked, header-out, header-told, patterns-out, patterns-told, instruments-out, instruments-told, walk-accepted, walk-marked}
 use borrow.Author.Needs.{needs}

@@ -4,7 +4,7 @@ use mathlib.Core.Path.{ap}
 use native.Mathlib.Omega.{arith}
 use lib.ListN.{drop}
 use Rattle.tables.specs.Place.{dataBefore}
-use Rattle.walk.specs.declared.sample.SampleHead.{SampleHead}
+use Rattle.steps.specs.declared.sample.SampleHead.{SampleHead}
 use Rattle.tables.proofs.PlaceLoops.{Summing, summing-start, summing-on, summing-room, summing-end}
 use Rattle.tables.proofs.place.data_place.Statement.{statement}
 use Rattle.tables.proofs.place.data_place.Tie as tie

@@ -4,7 +4,7 @@ use mathlib.Core.Path.{sym, ap, _∙_}
 use native.Mathlib.Omega.{arith}
 use lib.ListN.{drop, length-drop}
 use Rattle.xm.specs.Instrument.{countAt}
-use Rattle.walk.proofs.InstrumentLaws.{some-samples}
+use Rattle.steps.proofs.InstrumentLaws.{some-samples}
 use Rattle.tables.proofs.InstrumentLaws.{size-none, size-some}
 use Rattle.tables.proofs.PlaceLoops.{instrument-path}
 use Rattle.tables.proofs.place.instrument_at.Statement.{statement}

@@ -6,7 +6,7 @@ use native.Mathlib.Omega.{arith}
 use lib.Dec.{eqb}
 use mir.Syntax.{w8}
 use mir.Facts.{toZ-ofZ}
-use Rattle.walk.specs.declared.sample.SampleHead.{SampleHead}
+use Rattle.steps.specs.declared.sample.SampleHead.{SampleHead}
 use Rattle.tables.proofs.SampleLaws.{row-path, row-fits}
 use borrow.Author.Needs.{needs}
 use Rattle.tables.proofs.sample.sample_row.Statement.{statement}

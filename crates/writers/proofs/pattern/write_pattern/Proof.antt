@@ -6,7 +6,7 @@ use native.Mathlib.Omega.{arith}
 use lib.ListN.{take, drop, length-drop}
 use Rattle.xm.specs.PatternInFile.{patternFormat}
 use Rattle.xm.proofs.Lay.{part-all}
-use Rattle.packing.specs.Found.{storedPressed}
+use Rattle.shortest.specs.Found.{storedPressed}
 use Rattle.writers.specs.Found.{pressedAt}
 use Rattle.writers.specs.Pattern.{patternHead}
 use Rattle.writers.proofs.Writing.{laid-first, laid-last}

@@ -1,0 +1,10 @@
+pub mod NumberLaws
+pub mod Tests
+pub mod HeaderLaws
+pub mod Sign
+pub mod Walking
+pub mod Shift
+pub mod PatternLaws
+pub mod SampleLaws
+pub mod InstrumentLaws
+pub mod MarkLaws

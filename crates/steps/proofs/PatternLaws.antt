@@ -1,0 +1,121 @@
+-- Laws of the pattern step. Assumes nothing.
+use Prim.Native.Nat.{ℕ, _+_, _-_, _≤_, _<_}
+use mathlib.Core.Bool.{Bool}
+use mathlib.Core.List.{List}
+use mathlib.Core.Path.{_≡_, refl, sym, ap, ap₂, _∙_}
+use native.Mathlib.Nat.{add-assoc, add-sub-cancel-left}
+use native.Mathlib.Omega.{arith}
+use lib.ListN.{length, take, drop, length-take}
+use lib.Seq.{drop-drop}
+use Rattle.xm.specs.Number.{Bytes, wordAt, longAt, part}
+use Rattle.xm.specs.Got.{Got, got, refused, AllHold}
+use Rattle.xm.specs.Stored.{Pattern, readStored, writeStored}
+use Rattle.xm.specs.PatternInFile.{patternTests, readPattern, dataMost}
+use Rattle.xm.proofs.Number.{bytes-drop, bytes-take}
+use Rattle.xm.proofs.Got.{pass, step, step-refused}
+use Rattle.xm.proofs.Fault.{stored-faults}
+use Rattle.refusal.specs.declared.Fault.{Fault}
+use Rattle.cells.specs.Row.{sameBytes}
+use Rattle.cells.specs.Unpacked.{storedOf}
+use Rattle.cells.specs.declared.StoredSize.{StoredSize}
+use Rattle.cells.specs.declared.StoredStep.{StoredStep}
+use Rattle.cells.specs.declared.StoredStep.the-variants as stored
+use Rattle.steps.specs.Test.{firstFault}
+use Rattle.steps.specs.Step.{storedFault, storedRefused, patternStep}
+use Rattle.steps.specs.declared.pattern.PatternStep.{PatternStep}
+use Rattle.steps.specs.declared.pattern.PatternStep.the-variants.{Read, Refused}
+use Rattle.steps.proofs.Tests.{RefuseAt, fault-holds, fault-refuses}
+use Rattle.steps.proofs.Shift.{shifted, stored-shifted}
+
+part-path : {place place′ size size′ rows rows′ shortest shortest′ next next′ : ℕ} {same same′ : Bool} → place ≡ place′ → size ≡ size′ → rows ≡ rows′ → shortest ≡ shortest′ → same ≡ same′ → next ≡ next′
+    → _≡_ {A = PatternStep} (Read (record { place = place; size = size; rows = rows; shortest = shortest; same = same; next = next }))
+    (Read (record { place = place′; size = size′; rows = rows′; shortest = shortest′; same = same′; next = next′ }))
+part-path p q r t u v = cc
+
+-- Stored cells as the code cuts them out, and a refusal of theirs: its place is inside them, or at their end
+module _ (file : List ℕ) (base size : ℕ) (small : size < 65536) where
+  abbrev cells : List ℕ
+  cells = take (base + size - base) (drop base file)
+
+  pub cells-small : length cells ≤ dataMost
+  cells-small = omega (arith, length-take (base + size - base) (drop base file))
+
+  pub stored-place : Bytes file → (channels rows : ℕ) {step : StoredStep} → step ≡ storedOf cells (readStored channels rows 0 cells) → storedFault step ≤ dataMost
+  stored-place b channels rows e = rw e (go (readStored channels rows 0 cells) refl)
+    where
+      go : (g : Got Pattern) → readStored channels rows 0 cells ≡ g → storedFault (storedOf cells g) ≤ dataMost
+      go (got p n) q = omega arith
+      go (refused r) q = omega (arith, stored-faults channels rows 0 cells r (bytes-take (base + size - base) (bytes-drop base b)) q .to, cells-small)
+
+never-both : {A : Type 0} {size : StoredSize} {f : Fault} → stored.Read size ≡ stored.Refused f → A
+never-both e = absurd (let z : _≡_ {A = ℕ} 0 1 = cc in omega arith)
+
+same-read : {a b : StoredSize} → stored.Read a ≡ stored.Read b → a ≡ b
+same-read e = cc
+
+-- The tests of its header
+module _ (file : List ℕ) (place : ℕ) where
+  abbrev from : List ℕ
+  from = drop place file
+
+  refuse-at : RefuseAt place (patternTests place from)
+  refuse-at = ((omega arith, refl), ((omega arith, refl), ((omega arith, refl), ((omega arith, refl), tt))))
+
+  module _ (channels : ℕ) {fault : ℕ} (e : fault ≡ firstFault (patternTests place from)) where
+    pub pattern-refused : (fault ≡ 0 → ⊥) → Refused (record { number = fault; place = place }) ≡ patternStep file place (readPattern channels place from)
+    unfolding readPattern
+    pattern-refused f = rw e (sym (ap (patternStep file place) (fault-refuses place (patternTests place from) _ refuse-at (λ z. f (e ∙ z)))))
+
+    pub pattern-holds : fault ≡ 0 → AllHold (patternTests place from)
+    pattern-holds z = fault-holds place (patternTests place from) refuse-at (sym e ∙ z)
+
+  -- and then its stored cells decide
+  module _ (channels : ℕ) (h : AllHold (patternTests place from)) where
+    abbrev L : ℕ
+    L = longAt 0 from
+
+    abbrev rows : ℕ
+    rows = wordAt 5 from
+
+    abbrev S : ℕ
+    S = wordAt 7 from
+
+    abbrev d : List ℕ
+    d = part L S from
+
+    shifts : readStored channels rows (place + L) d ≡ shifted (place + L) (readStored channels rows 0 d)
+    shifts = stored-shifted (place + L) channels rows d
+
+    by-refusal : (g : Got Pattern) {f : Fault} → readStored channels rows 0 d ≡ g → storedOf d g ≡ stored.Refused f → storedRefused (place + L) (storedOf d g) ≡ patternStep file place (readPattern channels place from)
+    unfolding readPattern shifted
+    by-refusal (got p n) e told = never-both told
+    by-refusal (refused r) e told = sym (ap (patternStep file place) (pass (patternTests place from) h (step-refused _ (shifts ∙ ap (shifted (place + L)) e))))
+
+    by-pattern : (g : Got Pattern) {size : StoredSize} → readStored channels rows 0 d ≡ g → storedOf d g ≡ stored.Read size
+        → Read (record { place = place + L; size = S; rows = size .rows; shortest = size .shortest; same = size .same; next = place + L + S }) ≡ patternStep file place (readPattern channels place from)
+    unfolding readPattern shifted
+    by-pattern (got p n) {size} e told =
+        let z = same-read told in
+        part-path refl refl (ap StoredSize.rows (sym z)) (ap StoredSize.shortest (sym z))
+        (ap StoredSize.same (sym z) ∙ ap (λ (l : List ℕ). sameBytes (take S l) (writeStored p)) (drop-drop L place file)) (add-assoc place L S)
+        ∙ sym (ap (patternStep file place) (pass (patternTests place from) h (step _ (shifts ∙ ap (shifted (place + L)) e) refl)))
+    by-pattern (refused r) e told = never-both (sym told)
+
+    -- in the code's numbers, with the cells as the code cuts them out
+    module _ {head size row : ℕ} (p : head ≡ L) (q : row ≡ rows) (r : size ≡ S) where
+      abbrev cut : List ℕ
+      cut = take (place + head + size - (place + head)) (drop (place + head) file)
+
+      same-cut : cut ≡ d
+      same-cut = rw (p, r, add-sub-cancel-left, drop-drop)
+
+      module _ {step : StoredStep} (e : step ≡ storedOf cut (readStored channels row 0 cut)) where
+        same-step : step ≡ storedOf d (readStored channels rows 0 d)
+        same-step = e ∙ ap₂ (λ (n : ℕ) (s : List ℕ). storedOf s (readStored channels n 0 s)) q same-cut
+
+        pub pattern-out : {f : Fault} → step ≡ stored.Refused f → storedRefused (place + head) step ≡ patternStep file place (readPattern channels place from)
+        pattern-out told = ap₂ storedRefused (ap (λ (n : ℕ). place + n) p) same-step ∙ by-refusal _ refl (sym same-step ∙ told)
+
+        pub pattern-read : {z : StoredSize} → step ≡ stored.Read z
+            → Read (record { place = place + head; size = size; rows = z .rows; shortest = z .shortest; same = z .same; next = place + head + size }) ≡ patternStep file place (readPattern channels place from)
+        pattern-read told = rw (p, r) (by-pattern _ refl (sym same-step ∙ told))

@@ -1,0 +1,26 @@
+-- `walk::pattern::refused_stored` meets its contract. Assumes nothing.
+use mathlib.Core.Path.{sym, ap}
+use native.Mathlib.Omega.{arith}
+use Rattle.steps.specs.Step.{storedFault, storedRefused}
+use borrow.Author.Needs.{needs}
+use Rattle.steps.proofs.pattern.refused_stored.Statement.{statement}
+use Rattle.steps.proofs.pattern.refused_stored.Tie as tie
+
+enum-known-step : tie.Need-enum-known-step
+enum-known-step c = search needs
+
+enum-known-step-2 : tie.Need-enum-known-step-2
+enum-known-step-2 c = search needs
+
+add-t7 : tie.Need-add-t7
+add-t7 c = omega (arith, ap storedFault (c .before .before .step2 .given .1))
+
+returns : tie.Need-returns
+returns c = sym (ap (storedRefused (c .before .before .before .args .base)) (c .before .step .given .1))
+
+returns-2 : tie.Need-returns-2
+returns-2 c = sym (ap (storedRefused (c .before .before .before .before .args .base)) (c .before .before .step2 .given .1))
+
+pub refused-stored-spec : {M : Type 1} → statement M
+refused-stored-spec =
+    tie.close (tie.spec enum-known-step enum-known-step-2 add-t7 returns returns-2)

@@ -1,0 +1,5 @@
+pub mod Number
+pub mod Test
+pub mod Sample
+pub mod Step
+pub mod Mark

@@ -1,0 +1,88 @@
+-- What each step answers: of a reading that was accepted, what the walk needs of it; of one that was refused, the refusal.
+use Prim.Native.Nat.{ℕ, _+_}
+use mathlib.Core.List.{List, [], _∷_}
+use lib.ListN.{length}
+use Rattle.xm.specs.Number.{part}
+use Rattle.xm.specs.Got.{Got, got, refused}
+use Rattle.xm.specs.Stored.{writeStored}
+use Rattle.xm.specs.Header.{HeaderFound}
+use Rattle.xm.specs.PatternInFile.{PatternFound}
+use Rattle.xm.specs.Sample.{Stretch, SamplesFound, samplesFormat}
+use Rattle.xm.specs.Instrument.{leastInstrument, InstrumentFound, instrumentView, writeInstrument}
+use Rattle.xm.specs.Table.{sampleCount}
+use Rattle.refusal.specs.Fault.{faultOf}
+use Rattle.cells.specs.Row.{sameBytes}
+use Rattle.cells.specs.declared.StoredStep.{StoredStep}
+use Rattle.cells.specs.declared.StoredStep.the-variants as stored
+use Rattle.steps.specs.declared.header.HeaderStep.{HeaderStep}
+use Rattle.steps.specs.declared.header.HeaderStep.the-variants as header
+use Rattle.steps.specs.declared.pattern.PatternStep.{PatternStep}
+use Rattle.steps.specs.declared.pattern.PatternStep.the-variants as pattern
+use Rattle.steps.specs.declared.sample.PlaceStep.{PlaceStep}
+use Rattle.steps.specs.declared.sample.PlaceStep.the-variants as sample
+use Rattle.steps.specs.declared.instrument.InstrumentStep.{InstrumentStep}
+use Rattle.steps.specs.declared.instrument.InstrumentStep.the-variants as instrument
+
+abbrev pub headerStep : Got HeaderFound → HeaderStep
+headerStep (got i used) = header.Read (record {
+  channels = i .content .channels;
+  patterns = i .content .patterns;
+  instruments = i .content .instruments;
+  start = used;
+})
+headerStep (refused r) = header.Refused (faultOf r)
+
+-- A pattern at a place of the file.
+abbrev pub patternStep : (file : List ℕ) (place : ℕ) → Got PatternFound → PatternStep
+patternStep file place (got i used) = pattern.Read (record {
+  place = i .dataPlace;
+  size = i .dataSize;
+  rows = i .content .rows;
+  shortest = length (writeStored (i .content));
+  same = sameBytes (part (i .dataPlace) (i .dataSize) file) (writeStored (i .content));
+  next = place + used;
+})
+patternStep file place (refused r) = pattern.Refused (faultOf r)
+
+-- A step that gives no more than the next place.
+abbrev pub placeStep : {A : Type 0} → (place : ℕ) → Got A → PlaceStep
+placeStep place (got a used) = sample.Next (place + used)
+placeStep place (refused r) = sample.Refused (faultOf r)
+
+-- An instrument; and its samples, after fields of so many bytes that count so many of them. H is 0 if there are none.
+abbrev pub headSize : (heads : List Stretch) → ℕ
+headSize [] = 0
+headSize (h ∷ hs) = h .size
+
+abbrev pub instrumentStep : (place : ℕ) → Got InstrumentFound → InstrumentStep
+instrumentStep place (got i used) = instrument.Read (record {
+  size = i .size;
+  samples = sampleCount i;
+  «head_size» = headSize (i .samples .0);
+  pressed = length (writeInstrument (instrumentView i));
+  next = place + used;
+})
+instrumentStep place (refused r) = instrument.Refused (faultOf r)
+
+abbrev pub tailStep : (place size count : ℕ) → Got SamplesFound → InstrumentStep
+tailStep place size count (got v used) = instrument.Read (record {
+  size = size;
+  samples = count;
+  «head_size» = headSize (v .0);
+  pressed = leastInstrument count + length (samplesFormat .write (samplesFormat .view v));
+  next = place + used;
+})
+tailStep place size count (refused r) = instrument.Refused (faultOf r)
+
+-- Refusals, passed on from one answer to the next: in a file the place is that of the stored cells and the place in them.
+abbrev pub storedFault : StoredStep → ℕ
+storedFault (stored.Read size) = 0
+storedFault (stored.Refused fault) = fault .place
+
+abbrev pub storedRefused : (base : ℕ) → StoredStep → PatternStep
+storedRefused base (stored.Read size) = pattern.Refused (record { number = 0; place = base })
+storedRefused base (stored.Refused fault) = pattern.Refused (record { number = fault .number; place = base + fault .place })
+
+abbrev pub samplesRefused : PlaceStep → InstrumentStep
+samplesRefused (sample.Next place) = instrument.Refused (record { number = 0; place = place })
+samplesRefused (sample.Refused fault) = instrument.Refused fault

@@ -1,0 +1,101 @@
+// The header step.
+use crate::number::byte;
+use crate::number::long;
+use crate::number::word;
+use refusal::Fault;
+ghost use mathlib.Core.Path.{_≡_};
+ghost use Rattle.xm.specs.Header.{readHeader, countTests, headerTests};
+ghost use Rattle.steps.specs.Test.{allPass, firstFault};
+ghost use Rattle.steps.specs.Step.{headerStep};
+
+// What the walk needs of a header: its counts, and where the first pattern starts.
+pub struct HeaderPart {
+    pub channels: usize,
+    pub patterns: usize,
+    pub instruments: usize,
+    pub start: usize,
+}
+
+pub enum HeaderStep {
+    Read(HeaderPart),
+    Refused(Fault),
+}
+
+// Whether the counts are in their ranges.
+fn counts_pass(song_length: usize, patterns: usize, channels: usize, instruments: usize) -> bool
+    ensures { λ r. ⌜ r ≡ allPass (countTests «song_length» patterns channels instruments 0) ⌝ }
+{
+    if song_length < 1 {
+        return false;
+    }
+    if 256 < song_length {
+        return false;
+    }
+    if patterns < 1 {
+        return false;
+    }
+    if 256 < patterns {
+        return false;
+    }
+    if channels < 1 {
+        return false;
+    }
+    if 64 < channels {
+        return false;
+    }
+    if 128 < instruments {
+        return false;
+    }
+    true
+}
+
+// The number of the first fault, or 0: the first 80 bytes present (1); 3; 4; 5; header size + 60 within the file (1).
+fn header_fault(file: &[u8]) -> u32
+    ensures { λ r. ⌜ r ≡ firstFault (headerTests 0 (now (file .entry))) ⌝ }
+{
+    if file.len() < 80 {
+        return 1;
+    }
+    let mark = byte(file, 0, 37);
+    if mark != 0x1A {
+        return 3;
+    }
+    let version = word(file, 0, 58);
+    if version != 0x0104 {
+        return 3;
+    }
+    let size = long(file, 0, 60);
+    if size < 276 {
+        return 4;
+    }
+    let song_length = word(file, 0, 64);
+    let patterns = word(file, 0, 70);
+    let channels = word(file, 0, 68);
+    let instruments = word(file, 0, 72);
+    if !counts_pass(song_length, patterns, channels, instruments) {
+        return 5;
+    }
+    if file.len() < size + 60 {
+        return 1;
+    }
+    0
+}
+
+pub fn read_header(file: &[u8]) -> HeaderStep
+    ensures { λ r. ⌜ r ≡ headerStep (readHeader 0 (now (file .entry))) ⌝ }
+{
+    let fault = header_fault(file);
+    if fault != 0 {
+        return HeaderStep::Refused(Fault {
+            number: fault,
+            place: 0,
+        });
+    }
+    let size = long(file, 0, 60);
+    HeaderStep::Read(HeaderPart {
+        channels: word(file, 0, 68),
+        patterns: word(file, 0, 70),
+        instruments: word(file, 0, 72),
+        start: size + 60,
+    })
+}

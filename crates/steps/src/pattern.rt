@@ -1,0 +1,119 @@
+// The pattern step.
+use crate::number::long;
+use crate::number::word;
+use cells::StoredStep;
+use refusal::Fault;
+ghost use mathlib.Core.Path.{_≡_};
+ghost use Prim.Native.Nat.{_≤_};
+ghost use lib.ListN.{length, drop};
+ghost use Rattle.xm.specs.PatternInFile.{patternTests, readPattern, dataMost};
+ghost use Rattle.xm.specs.Module.{fileMost};
+ghost use Rattle.steps.specs.Mark.{MarkBy};
+ghost use Rattle.steps.specs.Test.{firstFault};
+ghost use Rattle.steps.specs.Step.{storedFault, storedRefused, patternStep};
+
+// A pattern's data place and S, the rows it reads as, the bytes of its shortest stored form and whether it stands in that form already,
+// and where the next structure starts.
+pub struct PatternPart {
+    pub place: usize,
+    pub size: usize,
+    pub rows: usize,
+    pub shortest: usize,
+    pub same: bool,
+    pub next: usize,
+}
+
+pub enum PatternStep {
+    Read(PatternPart),
+    Refused(Fault),
+}
+
+// A refusal of the stored cells, whose first byte stands at `base`, passed on.
+fn refused_stored(step: StoredStep, base: usize) -> PatternStep
+    requires { ⌜ base ≤ fileMost ⌝ }
+    requires { ⌜ storedFault step ≤ dataMost ⌝ }
+    ensures { λ r. ⌜ r ≡ storedRefused base step ⌝ }
+{
+    match step {
+        StoredStep::Read(stored) => PatternStep::Refused(Fault {
+            number: 0,
+            place: base,
+        }),
+        StoredStep::Refused(fault) => PatternStep::Refused(Fault {
+            number: fault.number,
+            place: base + fault.place,
+        }),
+    }
+}
+
+// The number of the first fault of its header, or 0: 9 bytes present (1), 6, its L + S bytes present (1).
+fn pattern_fault(file: &[u8], at: usize) -> u32
+    requires { ⌜ at ≤ length (now file) ⌝ }
+    ensures { λ r. ⌜ r ≡ firstFault (patternTests at (drop at (now (file .entry)))) ⌝ }
+{
+    let left = file.len() - at;
+    if left < 9 {
+        return 1;
+    }
+    let head_size = long(file, at, 0);
+    if head_size < 9 {
+        return 6;
+    }
+    let rows = word(file, at, 5);
+    if rows < 1 {
+        return 6;
+    }
+    if 256 < rows {
+        return 6;
+    }
+    let size = word(file, at, 7);
+    if left < head_size + size {
+        return 1;
+    }
+    0
+}
+
+pub fn read_pattern(file: &[u8], at: usize, channels: usize) -> PatternStep
+    requires { ⌜ at ≤ length (now file) ⌝ }
+    requires { ⌜ length (now file) ≤ fileMost ⌝ }
+    requires { ⌜ (1 ≤ channels) × (channels ≤ 64) ⌝ }
+    ensures { λ r. ⌜ r ≡ patternStep (now (file .entry)) at (readPattern channels at (drop at (now (file .entry)))) ⌝ }
+{
+    let fault = pattern_fault(file, at);
+    if fault != 0 {
+        return PatternStep::Refused(Fault {
+            number: fault,
+            place: at,
+        });
+    }
+    let place = at + long(file, at, 0);
+    let rows = word(file, at, 5);
+    let size = word(file, at, 7);
+    let next = place + size;
+    let step = cells::read_stored(&file[place..next], rows, channels);
+    let StoredStep::Read(stored) = step else {
+        return refused_stored(step, place);
+    };
+    PatternStep::Read(PatternPart {
+        place: place,
+        size: size,
+        rows: stored.rows,
+        shortest: stored.shortest,
+        same: stored.same,
+        next: next,
+    })
+}
+
+// What a second pass needs to know of a pattern: how many bytes its shortest form takes or, by a number above S, that its bytes are
+// that form already. Of 65,535 bytes no number tells so: they are written again.
+pub fn mark_of(size: usize, shortest: usize, same: bool) -> u16
+    requires { ⌜ (shortest ≤ size) × (size ≤ dataMost) ⌝ }
+    ensures { λ r. ⌜ MarkBy size shortest same r ⌝ }
+{
+    if same {
+        if size < 65535 {
+            return (size + 1) as u16;
+        }
+    }
+    shortest as u16
+}
