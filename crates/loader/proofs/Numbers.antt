@@ -1,0 +1,85 @@
+-- The number of each call's answer is the paper's, and fits 64 bits. Assumes nothing.
+use Prim.Native.Nat.{ℕ, _^_, _≤_, _<_}
+use mathlib.Core.List.{List}
+use mathlib.Core.Path.{_≡_, refl, ap, _∙_}
+use native.Mathlib.Omega.{arith}
+use lib.ListN.{length}
+use Rattle.xm.specs.Number.{Bytes}
+use Rattle.xm.specs.Got.{Refusal}
+use Rattle.xm.specs.Answer.{Answer, gives, refuses, loaderNumber}
+use Rattle.xm.specs.Stored.{Pattern}
+use Rattle.xm.specs.Table.{Checked, checking, checkLoader}
+use Rattle.xm.specs.Packing.{rowsRead, lengthAndRows, unpacking, unpackLoader, packing, packLoader}
+use Rattle.xm.specs.Press.{pressedLength, pressing, pressLoader}
+use Rattle.xm.specs.Demands.{refusalMost, LoaderTells}
+use Rattle.xm.proofs.Demands.{demand₁, loaders-tell}
+use Rattle.walk.specs.declared.Verdict.{Verdict}
+use Rattle.walk.specs.File.{verdictOf}
+use Rattle.cells.specs.declared.Unpacked.{Unpacked}
+use Rattle.cells.specs.Unpacked.{unpackedOf}
+use Rattle.packing.specs.declared.Packed.{Packed}
+use Rattle.packing.specs.Packed.{packedOf}
+use Rattle.press.specs.declared.Pressed.{Pressed}
+use Rattle.press.specs.Pressed.{pressedOf}
+use Rattle.loader.specs.Number.{checkNumber, unpackNumber, packNumber, pressNumber}
+
+-- A number that tells a value below 2^32 from one of the paper's refusals
+fits : {A : Type 0} (value : A → ℕ) (answer : Answer A) (number : ℕ) → LoaderTells value answer number
+    → ((r : Refusal) → answer ≡ refuses r → r .number ≤ refusalMost) → number < 2 ^ 64
+fits value (gives a) number tells most = omega (arith, tells .accepted a refl .1)
+fits value (refuses r) number tells most = omega (arith, most r refl, tells .refused r refl .1)
+
+check-cases : (answer : Answer Checked) → checkNumber (verdictOf answer) ≡ loaderNumber Checked.end answer
+unfolding loaderNumber
+check-cases (gives c) = refl
+check-cases (refuses r) = refl
+
+unpack-cases : (answer : Answer Pattern) → unpackNumber (unpackedOf answer) ≡ loaderNumber rowsRead answer
+unfolding loaderNumber
+unpack-cases (gives p) = refl
+unpack-cases (refuses r) = refl
+
+pack-cases : (answer : Answer Pattern) → packNumber (packedOf answer) ≡ loaderNumber lengthAndRows answer
+unfolding loaderNumber
+pack-cases (gives p) = refl
+pack-cases (refuses r) = refl
+
+press-cases : (answer : Answer (List ℕ)) → pressNumber (pressedOf answer) ≡ loaderNumber pressedLength answer
+unfolding loaderNumber
+press-cases (gives bytes) = refl
+press-cases (refuses r) = refl
+
+module _ (file : List ℕ) {verdict : Verdict} (met : verdict ≡ verdictOf (checking file)) where
+  pub check-same : checkNumber verdict ≡ checkLoader file
+  check-same = ap checkNumber met ∙ check-cases (checking file)
+
+  pub check-fits : Bytes file → checkNumber verdict < 2 ^ 64
+  check-fits b =
+      rw check-same (fits Checked.end (checking file) (checkLoader file) (loaders-tell .check file b) (λ r e. omega (arith, demand₁ .check file r b e .1)))
+
+module _ (rows channels : ℕ) (stored : List ℕ) (room : ℕ) {unpacked : Unpacked} (met : unpacked ≡ unpackedOf (unpacking rows channels stored room)) where
+  pub unpack-same : unpackNumber unpacked ≡ unpackLoader rows channels stored room
+  unpack-same = ap unpackNumber met ∙ unpack-cases (unpacking rows channels stored room)
+
+  pub unpack-fits : Bytes stored → unpackNumber unpacked < 2 ^ 64
+  unpack-fits b =
+      rw unpack-same (fits rowsRead (unpacking rows channels stored room) (unpackLoader rows channels stored room) (loaders-tell .unpack rows channels stored room b)
+      (λ r e. demand₁ .unpack rows channels stored b .numbered room r e .1))
+
+module _ (rows channels : ℕ) (cells : List ℕ) (room : ℕ) {packed : Packed} (met : packed ≡ packedOf (packing rows channels cells room)) where
+  pub pack-same : packNumber packed ≡ packLoader rows channels cells room
+  pack-same = ap packNumber met ∙ pack-cases (packing rows channels cells room)
+
+  pub pack-fits : packNumber packed < 2 ^ 64
+  pack-fits =
+      rw pack-same (fits lengthAndRows (packing rows channels cells room) (packLoader rows channels cells room) (loaders-tell .pack rows channels cells room)
+      (λ r e. demand₁ .pack rows channels cells .numbered room r e .1))
+
+module _ (file : List ℕ) (room : ℕ) {pressed : Pressed} (met : pressed ≡ pressedOf (pressing file room)) where
+  pub press-same : pressNumber pressed ≡ pressLoader file room
+  press-same = ap pressNumber met ∙ press-cases (pressing file room)
+
+  pub press-fits : Bytes file → pressNumber pressed < 2 ^ 64
+  press-fits b =
+      rw press-same (fits pressedLength (pressing file room) (pressLoader file room) (loaders-tell .press file room b)
+      (λ r e. demand₁ .press file b .numbered room r e .1))

@@ -1,0 +1,39 @@
+-- The loader's number for each case of a call's answer: that of the paper's answer which the case stands for.
+use Prim.Native.Nat.{ℕ, _+_, _*_}
+use Rattle.xm.specs.Answer.{Answer, gives, refuses, loaderNumber}
+use Rattle.refusal.specs.Fault.{refusalIn}
+use Rattle.refusal.specs.declared.Fault.{Fault}
+use Rattle.walk.specs.declared.Module.{Module}
+use Rattle.walk.specs.declared.Verdict.{Verdict}
+use Rattle.walk.specs.declared.Verdict.the-variants as verdict
+use Rattle.cells.specs.declared.Unpacked.{Unpacked}
+use Rattle.cells.specs.declared.Unpacked.the-variants as unpacked
+use Rattle.packing.specs.declared.Form.{Form}
+use Rattle.packing.specs.declared.Packed.{Packed}
+use Rattle.packing.specs.declared.Packed.the-variants as packed
+use Rattle.press.specs.declared.Pressed.{Pressed}
+use Rattle.press.specs.declared.Pressed.the-variants as pressed
+
+-- "refusal number × 2^32 + place"
+abbrev pub refusalNumber : Fault → ℕ
+refusalNumber fault = loaderNumber (λ (n : ℕ). n) (refuses (refusalIn fault))
+
+-- "or else the end"
+abbrev pub checkNumber : Verdict → ℕ
+checkNumber (verdict.Accepted m) = m .end
+checkNumber (verdict.Refused fault) = refusalNumber fault
+
+-- "the rows"
+abbrev pub unpackNumber : Unpacked → ℕ
+unpackNumber (unpacked.Rows rows) = rows
+unpackNumber (unpacked.Refused fault) = refusalNumber fault
+
+-- "length + 65,536 × rows"
+abbrev pub packNumber : Packed → ℕ
+packNumber (packed.Stored form) = form .length + 65536 * form .rows
+packNumber (packed.Refused fault) = refusalNumber fault
+
+-- "the length"
+abbrev pub pressNumber : Pressed → ℕ
+pressNumber (pressed.Length length) = length
+pressNumber (pressed.Refused fault) = refusalNumber fault

@@ -1,0 +1,57 @@
+// The loader's one number for the answer of each call: "refusal number × 2^32 + place, or else the end, the rows, length + 65,536 × rows,
+// the length".
+use cells::Unpacked;
+use packing::Packed;
+use press::Pressed;
+use refusal::Fault;
+use walk::Verdict;
+ghost use mathlib.Core.Path.{_≡_};
+ghost use Prim.Native.Nat.{_^_, _<_};
+ghost use Rattle.loader.specs.Number.{refusalNumber, checkNumber, unpackNumber, packNumber, pressNumber};
+
+fn refusal_number(fault: Fault) -> u64
+    requires { ⌜ refusalNumber fault < 2 ^ 64 ⌝ }
+    ensures { λ r. ⌜ r ≡ refusalNumber fault ⌝ }
+{
+    (fault.number as u64) * 4294967296 + (fault.place as u64)
+}
+
+pub fn check_number(verdict: Verdict) -> u64
+    requires { ⌜ checkNumber verdict < 2 ^ 64 ⌝ }
+    ensures { λ r. ⌜ r ≡ checkNumber verdict ⌝ }
+{
+    match verdict {
+        Verdict::Accepted(module) => module.end as u64,
+        Verdict::Refused(fault) => refusal_number(fault),
+    }
+}
+
+pub fn unpack_number(unpacked: Unpacked) -> u64
+    requires { ⌜ unpackNumber unpacked < 2 ^ 64 ⌝ }
+    ensures { λ r. ⌜ r ≡ unpackNumber unpacked ⌝ }
+{
+    match unpacked {
+        Unpacked::Rows(rows) => rows as u64,
+        Unpacked::Refused(fault) => refusal_number(fault),
+    }
+}
+
+pub fn pack_number(packed: Packed) -> u64
+    requires { ⌜ packNumber packed < 2 ^ 64 ⌝ }
+    ensures { λ r. ⌜ r ≡ packNumber packed ⌝ }
+{
+    match packed {
+        Packed::Stored(form) => (form.length as u64) + 65536 * (form.rows as u64),
+        Packed::Refused(fault) => refusal_number(fault),
+    }
+}
+
+pub fn press_number(pressed: Pressed) -> u64
+    requires { ⌜ pressNumber pressed < 2 ^ 64 ⌝ }
+    ensures { λ r. ⌜ r ≡ pressNumber pressed ⌝ }
+{
+    match pressed {
+        Pressed::Length(length) => length as u64,
+        Pressed::Refused(fault) => refusal_number(fault),
+    }
+}
