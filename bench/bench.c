@@ -1,0 +1,354 @@
+/* bench.c: the library's speed as ratios to the reference in C, and the stack of each call.
+
+   Every figure is the library's best time divided by the reference's (compiled with -O3), both taken in turns in one run, in
+   processor time. Below 1 the library is faster. All buffers are written before, so no page is met for the first time.
+   The reference is careful C, a byte at a time: no branch on what a cell holds but for empty ones, no tricks with words.
+
+   bench [--rounds N] [--emulated-by NAME] */
+
+#define _POSIX_C_SOURCE 200809L
+
+#include "../include/fiddlemarsh.h"
+#include "../tests/modules.h"
+#include "../tests/reference.h"
+#include "stack.h"
+
+#include <stdio.h>
+#include <stdlib.h>
+#include <string.h>
+#include <time.h>
+#if defined(__x86_64__)
+#include <cpuid.h>
+#endif
+
+#define COUNT(array) (sizeof(array) / sizeof((array)[0]))
+#define SECONDS_FOR_A_TURN 0.004
+#define PATTERNS_MOST 4096
+
+struct pattern {
+    size_t rows;
+    size_t channels;
+    const uint8_t *data;
+    size_t size;
+    uint8_t *cells;
+    size_t cells_len;
+};
+
+struct set {
+    const char *name;
+    struct module *modules;
+    size_t module_count;
+    struct pattern *patterns;
+    size_t pattern_count;
+};
+
+/* The two sides of a comparison. */
+struct side {
+    uint64_t (*check)(const uint8_t *, size_t);
+    uint64_t (*unpack)(size_t, size_t, const uint8_t *, size_t, uint8_t *, size_t);
+    uint64_t (*pack)(size_t, size_t, const uint8_t *, size_t, uint8_t *, size_t);
+    uint64_t (*press)(const uint8_t *, size_t, uint8_t *, size_t);
+};
+
+static const struct side library = {fiddlemarsh_check, fiddlemarsh_unpack, fiddlemarsh_pack, fiddlemarsh_press};
+static const struct side reference = {reference_loader_check, reference_loader_unpack, reference_loader_pack,
+                                      reference_loader_press};
+
+static uint8_t *output; /* room for any answer */
+static size_t rounds = 9;
+
+static void *want(size_t size)
+{
+    void *memory = malloc(size > 0 ? size : 1);
+    if (memory == NULL) {
+        fprintf(stderr, "out of memory\n");
+        exit(2);
+    }
+    memset(memory, 0, size);
+    return memory;
+}
+
+/* The sets */
+
+static void collect_patterns(struct set *set, const struct module *module)
+{
+    static struct reference_pattern_row patterns[256];
+    static struct reference_instrument_row instruments[128];
+    static struct reference_sample_row samples[2048];
+    struct reference_tables tables = {patterns, 256, instruments, 128, samples, 2048};
+    struct reference_checked checked = reference_check_tables(module->bytes, module->length, &tables);
+    for (uint32_t i = 0; i < checked.patterns && set->pattern_count < PATTERNS_MOST; i++) {
+        struct pattern *pattern = &set->patterns[set->pattern_count++];
+        *pattern = (struct pattern){.rows = patterns[i].rows, .channels = checked.channels,
+                                    .data = module->bytes + patterns[i].data_place, .size = patterns[i].data_size};
+        pattern->cells_len = pattern->rows * pattern->channels * 5;
+        pattern->cells = want(pattern->cells_len);
+        reference_unpack(pattern->rows, pattern->channels, pattern->data, pattern->size, pattern->cells, pattern->cells_len);
+    }
+}
+
+static struct set make_set(const char *name, const struct shape *shape, size_t count, uint64_t seed)
+{
+    struct chance chance = {seed};
+    struct set set = {name, want(count * sizeof(struct module)), count, want(PATTERNS_MOST * sizeof(struct pattern)), 0};
+    for (size_t i = 0; i < count; i++) {
+        module_build(&set.modules[i], shape, &chance);
+        collect_patterns(&set, &set.modules[i]);
+    }
+    return set;
+}
+
+/* As many tracker files are: short patterns most of whose cells are empty, and a few short samples. */
+static const struct shape small_shape = {.song_length = 12, .channels = 4, .patterns = 3, .instruments = 4,
+                                         .rows = 64, .cells = CELLS_SPARSE, .samples_most = 1,
+                                         .sample_length_least = 64, .sample_length_most = 800};
+static const struct shape dense_shape = {.song_length = 64, .channels = 16, .patterns = 100, .rows = 64, .cells = CELLS_DENSE};
+static const struct shape sparse_shape = {.song_length = 64, .channels = 16, .patterns = 200, .rows = 64, .cells = CELLS_SPARSE};
+static const struct shape any_form_shape = {.song_length = 64, .channels = 16, .patterns = 100, .rows = 64,
+                                            .cells = CELLS_EVERY_FORM};
+static const struct shape samples_shape = {.song_length = 4, .channels = 4, .patterns = 2, .instruments = 8,
+                                           .rows = 64, .cells = CELLS_SPARSE, .samples_least = 16, .samples_most = 16,
+                                           .sample_length_least = 130000, .sample_length_most = 130900};
+
+/* Both sides must agree before anybody looks at a clock. */
+static void must_agree(const struct set *set)
+{
+    uint8_t *other = want(FIDDLEMARSH_FILE_MOST);
+    for (size_t i = 0; i < set->module_count; i++) {
+        const struct module *module = &set->modules[i];
+        uint64_t length = fiddlemarsh_press(module->bytes, module->length, output, module->length);
+        uint64_t other_length = reference_loader_press(module->bytes, module->length, other, module->length);
+        if (length != other_length || fiddlemarsh_refused(length) || memcmp(output, other, length) != 0) {
+            fprintf(stderr, "library and reference differ on '%s': run the comparison in tests first\n", set->name);
+            exit(1);
+        }
+    }
+    free(other);
+}
+
+/* Work to be timed: one call over a whole set */
+
+static volatile uint64_t kept; /* so that no answer is left out */
+
+static void run_check(const struct set *set, const struct side *side)
+{
+    uint64_t sum = 0;
+    for (size_t i = 0; i < set->module_count; i++)
+        sum += side->check(set->modules[i].bytes, set->modules[i].length);
+    kept += sum;
+}
+
+static void run_unpack(const struct set *set, const struct side *side)
+{
+    uint64_t sum = 0;
+    for (size_t i = 0; i < set->pattern_count; i++) {
+        const struct pattern *pattern = &set->patterns[i];
+        sum += side->unpack(pattern->rows, pattern->channels, pattern->data, pattern->size, output, FIDDLEMARSH_CELLS_MOST);
+    }
+    kept += sum;
+}
+
+static void run_pack(const struct set *set, const struct side *side)
+{
+    uint64_t sum = 0;
+    for (size_t i = 0; i < set->pattern_count; i++) {
+        const struct pattern *pattern = &set->patterns[i];
+        sum += side->pack(pattern->rows, pattern->channels, pattern->cells, pattern->cells_len, output, FIDDLEMARSH_DATA_MOST);
+    }
+    kept += sum;
+}
+
+static void run_press(const struct set *set, const struct side *side)
+{
+    uint64_t sum = 0;
+    for (size_t i = 0; i < set->module_count; i++)
+        sum += side->press(set->modules[i].bytes, set->modules[i].length, output, set->modules[i].length);
+    kept += sum;
+}
+
+static void run_copy(const struct set *set, const struct side *side)
+{
+    (void)side;
+    for (size_t i = 0; i < set->module_count; i++) {
+        memcpy(output, set->modules[i].bytes, set->modules[i].length);
+        kept += output[set->modules[i].length - 1];
+    }
+}
+
+/* Timing */
+
+typedef void work(const struct set *, const struct side *);
+
+static double now(void)
+{
+    struct timespec time;
+    clock_gettime(CLOCK_PROCESS_CPUTIME_ID, &time);
+    return (double)time.tv_sec + 1e-9 * (double)time.tv_nsec;
+}
+
+static double time_of(work *run, const struct set *set, const struct side *side, size_t times)
+{
+    double start = now();
+    for (size_t i = 0; i < times; i++)
+        run(set, side);
+    return now() - start;
+}
+
+static size_t times_for_a_turn(work *run, const struct set *set, const struct side *side)
+{
+    size_t times = 1;
+    while (time_of(run, set, side, times) < SECONDS_FOR_A_TURN)
+        times *= 2;
+    return times;
+}
+
+/* Best time of one work on one side, over the best of another, taken in turns. */
+static double ratio(const struct set *set, work *first, const struct side *first_side, work *second, const struct side *second_side)
+{
+    size_t times = times_for_a_turn(second, set, second_side);
+    double first_best = 1e9, second_best = 1e9;
+    for (size_t round = 0; round < rounds; round++) {
+        double first_time = time_of(first, set, first_side, times), second_time = time_of(second, set, second_side, times);
+        first_best = first_time < first_best ? first_time : first_best;
+        second_best = second_time < second_best ? second_time : second_best;
+    }
+    return first_best / second_best;
+}
+
+static void say_ratios(const struct set *set)
+{
+    work *const works[] = {run_check, run_unpack, run_pack, run_press};
+    printf("%-46s", set->name);
+    for (size_t i = 0; i < COUNT(works); i++) {
+        printf(" %7.2f", ratio(set, works[i], &library, works[i], &reference));
+        fflush(stdout);
+    }
+    printf("\n");
+}
+
+/* Stack */
+
+/* One call at a time: the set's loop would count, too. */
+static const struct module *stack_module;
+static const struct pattern *stack_pattern;
+
+static void stack_check(void *nothing)
+{
+    (void)nothing;
+    kept += fiddlemarsh_check(stack_module->bytes, stack_module->length);
+}
+
+static void stack_unpack(void *nothing)
+{
+    (void)nothing;
+    const struct pattern *pattern = stack_pattern;
+    kept += fiddlemarsh_unpack(pattern->rows, pattern->channels, pattern->data, pattern->size, output, FIDDLEMARSH_CELLS_MOST);
+}
+
+static void stack_pack(void *nothing)
+{
+    (void)nothing;
+    const struct pattern *pattern = stack_pattern;
+    kept += fiddlemarsh_pack(pattern->rows, pattern->channels, pattern->cells, pattern->cells_len, output, FIDDLEMARSH_DATA_MOST);
+}
+
+static void stack_press(void *nothing)
+{
+    (void)nothing;
+    kept += fiddlemarsh_press(stack_module->bytes, stack_module->length, output, FIDDLEMARSH_FILE_MOST);
+}
+
+static void keep_largest(size_t *largest, void (*run)(void *))
+{
+    size_t use = stack_use(run, NULL);
+    *largest = use > *largest ? use : *largest;
+}
+
+static void say_stack(const struct set *sets, size_t set_count)
+{
+    size_t check = 0, unpack = 0, pack = 0, press = 0;
+    for (size_t i = 0; i < set_count; i++) {
+        for (size_t j = 0; j < sets[i].module_count && j < 20; j++) {
+            struct module cut = sets[i].modules[j];
+            stack_module = &sets[i].modules[j];
+            keep_largest(&check, stack_check);
+            keep_largest(&press, stack_press);
+            stack_module = &cut;
+            for (cut.length = 1; cut.length < sets[i].modules[j].length; cut.length *= 2) /* refusals too */
+                keep_largest(&check, stack_check), keep_largest(&press, stack_press);
+        }
+        for (size_t j = 0; j < sets[i].pattern_count && j < 50; j++) {
+            stack_pattern = &sets[i].patterns[j];
+            keep_largest(&unpack, stack_unpack);
+            keep_largest(&pack, stack_pack);
+        }
+    }
+    printf("largest stack use of a call, in bytes: check %zu, unpack %zu, pack %zu, press %zu\n", check, unpack, pack, press);
+}
+
+/* The machine */
+
+/* QEMU's translator tells its name where a hypervisor would; other emulators are known only by the command line. */
+static const char *emulator_seen(void)
+{
+#if defined(__x86_64__)
+    unsigned a, b, c, d;
+    char name[13] = {0};
+    if (__get_cpuid(1, &a, &b, &c, &d) && c >> 31) {
+        __cpuid(0x40000000, a, b, c, d);
+        memcpy(name, &b, 4), memcpy(name + 4, &c, 4), memcpy(name + 8, &d, 4);
+        if (strcmp(name, "TCGTCGTCGTCG") == 0)
+            return "QEMU";
+    }
+#endif
+    return NULL;
+}
+
+static void say_conditions(const char *emulator)
+{
+    if (emulator == NULL)
+        emulator = emulator_seen();
+    printf("run: %s%s; %zu rounds in turns, best of each, processor time\n", emulator != NULL ? "EMULATED by " : "native",
+           emulator != NULL ? emulator : "", rounds);
+    printf("buffers: all written once before the timing, not cleared between calls\n");
+    printf("reference: tests/reference.c at -O3, compiled by %s\n\n", __VERSION__);
+}
+
+static const char *read_arguments(int argc, char **argv)
+{
+    const char *emulator = NULL;
+    for (int i = 1; i < argc; i += 2) {
+        if (i + 1 < argc && strcmp(argv[i], "--rounds") == 0 && atoi(argv[i + 1]) > 0) {
+            rounds = (size_t)atoi(argv[i + 1]);
+        } else if (i + 1 < argc && strcmp(argv[i], "--emulated-by") == 0) {
+            emulator = argv[i + 1];
+        } else {
+            fprintf(stderr, "usage: bench [--rounds N] [--emulated-by NAME]\n");
+            exit(2);
+        }
+    }
+    return emulator;
+}
+
+int main(int argc, char **argv)
+{
+    say_conditions(read_arguments(argc, argv));
+    output = want(FIDDLEMARSH_FILE_MOST);
+    memset(output, 0x55, FIDDLEMARSH_FILE_MOST);
+    const struct set sets[] = {
+        make_set("patterns, dense", &dense_shape, 1, 1),
+        make_set("patterns, four cells in five empty, in runs", &sparse_shape, 1, 2),
+        make_set("patterns, cells in every stored form", &any_form_shape, 1, 3),
+        make_set("samples, near 16 MiB", &samples_shape, 1, 4),
+        make_set("400 small modules", &small_shape, 400, 5),
+    };
+    printf("time of the library / time of the reference       check  unpack    pack   press\n");
+    for (size_t i = 0; i < COUNT(sets); i++) {
+        must_agree(&sets[i]);
+        say_ratios(&sets[i]);
+    }
+    printf("\npress of samples / memcpy of the same bytes: %.2f (the reference: %.2f)\n\n",
+           ratio(&sets[3], run_press, &library, run_copy, &library), ratio(&sets[3], run_press, &reference, run_copy, &reference));
+    say_stack(sets, COUNT(sets));
+    return 0;
+}

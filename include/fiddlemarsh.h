@@ -1,0 +1,175 @@
+/* fiddlemarsh.h: checking, unpacking, packing and pressing FastTracker II (XM) modules, version 0x0104.
+
+   Link with libfiddlemarsh.a; of other libraries it needs at most memset and memcpy, which every libc has. C99 or later, and C++.
+
+
+   Memory
+
+   Every slice is a pointer and its length in bytes. The caller owns all of it, before, during and after a call: the library
+   allocates nothing, frees nothing, and keeps no pointer. A pointer must be good for its whole length (readable, and for 'cells'
+   of unpacking and 'out' writable), and may be NULL if the length is 0. No alignment is asked for.
+   What a call writes must not overlap what it reads: pressing or packing in place is not possible.
+
+   Threads
+
+   There is no state. Any number of threads may call at once, also on the same input, as long as no two calls write to the same
+   memory and nobody changes a call's input while it runs. A call takes little stack, never waits and never fails to return.
+
+   Answers
+
+   Each call returns one 64-bit number. From 2^32 up it is a refusal: the refusal's number times 2^32, plus the place. Below
+   2^32 the call did its work, and the answer is what is said at the call. Take an answer apart with the functions at the end of
+   this file:
+
+       uint64_t answer = fiddlemarsh_press(file, file_len, out, out_len);
+       if (fiddlemarsh_refused(answer))
+           printf("refusal %u at place %u\n", (unsigned)fiddlemarsh_refusal(answer), (unsigned)fiddlemarsh_place(answer));
+       else
+           fwrite(out, 1, fiddlemarsh_length(answer), pressed);
+
+   A refused call changed nothing: all memory lent to it holds what it held. A call that did its work changed only what it is
+   said to fill; bytes beyond that stay. Input is never changed. Every number and every byte is fixed by the input: the same
+   call gives the same answer, always.
+
+   The first fault in the order of the file is the answer. A place counts bytes from 0, from the start of the slice that is
+   read. */
+
+#ifndef FIDDLEMARSH_H
+#define FIDDLEMARSH_H
+
+#include <stddef.h>
+#include <stdint.h>
+
+#ifdef __cplusplus
+extern "C" {
+#endif
+
+/* The refusal numbers, and the place that comes with each. */
+enum fiddlemarsh_number {
+    FIDDLEMARSH_ACCEPTED = 0,
+    /* A structure or its data reaches past the end of the file. Place: the start of the header, pattern or instrument that is
+       cut; for cut sample headers, their instrument's start; for cut sample data, where that data would begin. */
+    FIDDLEMARSH_CUT = 1,
+    /* The file is over FIDDLEMARSH_FILE_MOST bytes. Place 0. */
+    FIDDLEMARSH_FILE_TOO_LONG = 2,
+    /* Byte 37 is not 1A hex, or the version is not 0x0104: no XM module, or a Stripped Module. Place 0. */
+    FIDDLEMARSH_MARK_OR_VERSION = 3,
+    /* The header size is below 276. Place 0. */
+    FIDDLEMARSH_HEADER_SIZE = 4,
+    /* Song length or patterns not 1..256, channels not 1..64, or instruments above 128. Place 0. */
+    FIDDLEMARSH_HEADER_COUNTS = 5,
+    /* A pattern header's length is below 9, or its rows are not 1..256. Place: the pattern's start. */
+    FIDDLEMARSH_PATTERN_HEADER = 6,
+    /* A cell needs a byte past its pattern's data. Place: where the cell's lead byte stands, or would stand. */
+    FIDDLEMARSH_CELL_CUT = 7,
+    /* Bytes are left after a pattern's last cell. Place: the first of them. */
+    FIDDLEMARSH_CELLS_LEFT_OVER = 8,
+    /* A note is above 97. Place: the cell's lead byte; in packing, the cell's first byte. */
+    FIDDLEMARSH_NOTE = 9,
+    /* An instrument's size is below 29, it has over 16 samples, or its size is below 263 and it has samples.
+       Place: the instrument's start. */
+    FIDDLEMARSH_INSTRUMENT = 10,
+    /* A sample header size is below 40. Place: the instrument's start. */
+    FIDDLEMARSH_SAMPLE_HEADER_SIZE = 11,
+    /* A sample's kind is AD hex (ADPCM). Place: the sample header's start. */
+    FIDDLEMARSH_SAMPLE_KIND = 12,
+    /* A sample's loop bits are 3, its length is odd at 16 bits, or it loops past its own end. Place: the sample header's start. */
+    FIDDLEMARSH_SAMPLE_LOOP_OR_LENGTH = 13,
+    /* The buffer lent for the answer is too short. Tried last of all: with a longer buffer the call would succeed. Place 0. */
+    FIDDLEMARSH_ROOM = 14,
+    /* The packed pattern would exceed 65,535 bytes. Only packing gives it, and only from 52 channels up. Place 0. */
+    FIDDLEMARSH_PACKED_TOO_LONG = 15,
+    /* An argument is out of its range. Place 0. */
+    FIDDLEMARSH_ARGUMENT = 16
+};
+
+/* Limits, for callers that set memory aside beforehand. */
+#define FIDDLEMARSH_FILE_MOST 16777216  /* bytes of a module */
+#define FIDDLEMARSH_DATA_MOST 65535     /* bytes of one pattern's stored cells */
+#define FIDDLEMARSH_ROWS_MOST 256
+#define FIDDLEMARSH_CHANNELS_MOST 64
+#define FIDDLEMARSH_CELL_BYTES 5        /* note, instrument, volume, effect, parameter */
+#define FIDDLEMARSH_CELLS_MOST (FIDDLEMARSH_ROWS_MOST * FIDDLEMARSH_CHANNELS_MOST * FIDDLEMARSH_CELL_BYTES)
+
+/* Checks a whole module.
+   Returns the end: the place behind the last structure. Bytes from there to file_len are no part of the module.
+   Refusals: 1 to 13. */
+uint64_t fiddlemarsh_check(const uint8_t *file, size_t file_len);
+
+/* Unpacks one pattern's stored data, as it stands in a module, into cells: five bytes each (note, instrument, volume, effect,
+   parameter), row by row and in a row channel by channel.
+   rows 1..256 and channels 1..64 come from the pattern's header and the module's; data_len is at most 65,535.
+   Returns the rows, and has filled rows x channels x 5 bytes of cells. With data_len 0 the pattern is the standard empty one:
+   the answer is 64 rows, whatever rows says, and 64 x channels x 5 bytes are filled with 0.
+   Room of FIDDLEMARSH_CELLS_MOST bytes is enough for every pattern.
+   Refusals, in this order: 16 (rows, channels or data_len), then 7, 9 and 8 over the data, then 14. */
+uint64_t fiddlemarsh_unpack(size_t rows, size_t channels, const uint8_t *data, size_t data_len, uint8_t *cells, size_t cells_len);
+
+/* Packs cells, laid out as unpacking gives them, into the shortest stored data.
+   rows 1..256, channels 1..64, and cells_len is exactly rows x channels x 5.
+   Returns length + 65,536 x rows, and has filled length bytes of out. 64 rows of empty cells have length 0.
+   Room of FIDDLEMARSH_DATA_MOST bytes is enough for every pattern.
+   Refusals, in this order: 16 (rows, channels or cells_len), 9 over all cells, 15, 14. */
+uint64_t fiddlemarsh_pack(size_t rows, size_t channels, const uint8_t *cells, size_t cells_len, uint8_t *out, size_t out_len);
+
+/* Presses a module: writes the shortest file of the same content.
+   Returns the length, and has filled that many bytes of out. The length never exceeds file_len, so room of file_len bytes is
+   always enough. A pressed file is accepted, and pressing it again gives the same bytes.
+   Refusals: those of the check, then 14. */
+uint64_t fiddlemarsh_press(const uint8_t *file, size_t file_len, uint8_t *out, size_t out_len);
+
+/* Taking an answer apart. */
+
+/* 1 if the call was refused, else 0. */
+static inline int fiddlemarsh_refused(uint64_t answer)
+{
+    return answer >> 32 != 0;
+}
+
+/* The refusal's number, one of enum fiddlemarsh_number; FIDDLEMARSH_ACCEPTED if the call did its work. */
+static inline uint32_t fiddlemarsh_refusal(uint64_t answer)
+{
+    return (uint32_t)(answer >> 32);
+}
+
+/* A refusal's place; 0 if the call did its work. */
+static inline uint32_t fiddlemarsh_place(uint64_t answer)
+{
+    return fiddlemarsh_refused(answer) ? (uint32_t)answer : 0;
+}
+
+/* The end that an accepted check reports; 0 of a refusal. */
+static inline uint32_t fiddlemarsh_end(uint64_t answer)
+{
+    return fiddlemarsh_refused(answer) ? 0 : (uint32_t)answer;
+}
+
+/* The rows that unpacking reports; 0 of a refusal. */
+static inline uint32_t fiddlemarsh_unpacked_rows(uint64_t answer)
+{
+    return fiddlemarsh_refused(answer) ? 0 : (uint32_t)answer;
+}
+
+/* The length that packing reports; 0 of a refusal, and of 64 empty rows. */
+static inline uint32_t fiddlemarsh_packed_length(uint64_t answer)
+{
+    return fiddlemarsh_refused(answer) ? 0 : (uint32_t)answer & 0xFFFF;
+}
+
+/* The row number that packing reports; 0 of a refusal. */
+static inline uint32_t fiddlemarsh_packed_rows(uint64_t answer)
+{
+    return fiddlemarsh_refused(answer) ? 0 : (uint32_t)answer >> 16;
+}
+
+/* The length that pressing reports; 0 of a refusal. */
+static inline uint32_t fiddlemarsh_length(uint64_t answer)
+{
+    return fiddlemarsh_refused(answer) ? 0 : (uint32_t)answer;
+}
+
+#ifdef __cplusplus
+}
+#endif
+
+#endif

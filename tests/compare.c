@@ -1,0 +1,913 @@
+/* compare.c: the library's four calls against the reference, over many thousand modules, patterns and cells, whole and damaged.
+
+   Each answer and each byte of lent memory is compared (lent.c). Everything is made from fixed seeds: a run does the same on
+   every machine. Prints a line for each group and a total; on the first difference it says what differs, prints the input,
+   and exits with 1.
+
+   compare [--dump FILE]      FILE gets the whole input of a call that differs (compare-failed.bin) */
+
+#include "../include/fiddlemarsh.h"
+#include "lent.h"
+#include "modules.h"
+#include "reference.h"
+
+#include <stdbool.h>
+#include <stdio.h>
+#include <stdlib.h>
+#include <string.h>
+
+#define COUNT(array) (sizeof(array) / sizeof((array)[0]))
+#define CELLS_MOST FIDDLEMARSH_CELLS_MOST
+#define FILE_MOST FIDDLEMARSH_FILE_MOST
+#define SMALL_RESULT 96 /* cells or packed bytes up to here are tried with every room */
+
+/* Calls */
+
+static uint64_t check(const uint8_t *file, size_t length)
+{
+    return lent_compare(&(struct call){.name = CALL_CHECK, .input = file, .input_len = length});
+}
+
+static uint64_t press(const uint8_t *file, size_t length, size_t room)
+{
+    return lent_compare(&(struct call){.name = CALL_PRESS, .input = file, .input_len = length, .room = room});
+}
+
+static uint64_t unpack(size_t rows, size_t channels, const uint8_t *data, size_t length, size_t room)
+{
+    return lent_compare(&(struct call){CALL_UNPACK, rows, channels, data, length, room});
+}
+
+static uint64_t pack(size_t rows, size_t channels, const uint8_t *cells, size_t length, size_t room)
+{
+    return lent_compare(&(struct call){CALL_PACK, rows, channels, cells, length, room});
+}
+
+/* Check, and press with room that does, that just does, and that just doesn't. */
+static void try_file(const uint8_t *file, size_t length)
+{
+    check(file, length);
+    uint64_t answer = press(file, length, length);
+    if (fiddlemarsh_refused(answer))
+        return;
+    size_t pressed = fiddlemarsh_length(answer);
+    if (pressed > length)
+        lent_unexpected(&(struct call){.name = CALL_PRESS, .input = file, .input_len = length, .room = length},
+                        "a pressed file is longer than its input", answer);
+    press(file, length, pressed);
+    press(file, length, pressed - 1);
+}
+
+static void try_file_rooms(const uint8_t *file, size_t length, size_t step)
+{
+    uint64_t answer = press(file, length, length);
+    size_t most = fiddlemarsh_refused(answer) ? length : fiddlemarsh_length(answer) + 1;
+    for (size_t room = 0; room <= most; room += step)
+        press(file, length, room);
+}
+
+static size_t needed_cells(size_t rows, size_t channels, size_t length)
+{
+    return (length == 0 ? 64 : rows) * channels * 5;
+}
+
+static void try_unpack(size_t rows, size_t channels, const uint8_t *data, size_t length)
+{
+    size_t needed = needed_cells(rows, channels, length);
+    if (needed <= SMALL_RESULT) {
+        for (size_t room = 0; room <= needed + 1; room++)
+            unpack(rows, channels, data, length, room);
+        return;
+    }
+    unpack(rows, channels, data, length, 0);
+    unpack(rows, channels, data, length, needed - 1);
+    unpack(rows, channels, data, length, needed);
+    unpack(rows, channels, data, length, needed + 1);
+}
+
+static void try_pack(size_t rows, size_t channels, const uint8_t *cells)
+{
+    size_t length = rows * channels * 5;
+    uint64_t answer = pack(rows, channels, cells, length, FIDDLEMARSH_DATA_MOST + 1);
+    pack(rows, channels, cells, length, 0);
+    if (fiddlemarsh_refused(answer))
+        return;
+    size_t packed = fiddlemarsh_packed_length(answer);
+    size_t least = packed <= SMALL_RESULT ? 0 : packed - 1;
+    for (size_t room = least; room <= packed + 1; room++)
+        pack(rows, channels, cells, length, room);
+}
+
+/* The paper's bench pieces, with the paper's own answers */
+
+struct piece {
+    enum call_name name;
+    const char *input; /* hex */
+    uint64_t answer;
+    const char *output; /* hex */
+};
+
+#define REFUSED(number, place) ((uint64_t)(number) << 32 | (place))
+#define PACKED(length, rows) ((uint64_t)(length) + 65536 * (rows))
+
+/* One row of one channel each. */
+static const struct piece pieces[] = {
+    {CALL_UNPACK, "830101", 1, "0101000000"},
+    {CALL_PACK, "0101000000", PACKED(3, 1), "830101"},
+    {CALL_PACK, "010100051F", PACKED(5, 1), "9B0101051F"},
+    {CALL_UNPACK, "80", 1, "0000000000"},
+    {CALL_UNPACK, "E0", 1, "0000000000"},
+    {CALL_PACK, "0000000000", PACKED(1, 1), "80"},
+    {CALL_UNPACK, "3102400F06", 1, "3102400F06"},
+    {CALL_PACK, "3102400F06", PACKED(5, 1), "3102400F06"},
+    {CALL_UNPACK, "0001400A0F", 1, "0001400A0F"},
+    {CALL_PACK, "0001400A0F", PACKED(5, 1), "9E01400A0F"},
+    {CALL_UNPACK, "8161", 1, "6100000000"},
+    {CALL_UNPACK, "8162", REFUSED(9, 0), ""},
+    {CALL_UNPACK, "6200000000", REFUSED(9, 0), ""},
+    {CALL_UNPACK, "8301", REFUSED(7, 0), ""},
+    {CALL_UNPACK, "8080", REFUSED(8, 1), ""},
+};
+
+static size_t from_hex(const char *text, uint8_t *bytes)
+{
+    size_t count = 0;
+    for (; text[0] != 0; text += 2)
+        bytes[count++] = (uint8_t)strtoul((const char[]){text[0], text[1], 0}, NULL, 16);
+    return count;
+}
+
+static void try_piece(const struct piece *piece)
+{
+    uint8_t input[16], want[16], got[16];
+    size_t length = from_hex(piece->input, input);
+    size_t written = from_hex(piece->output, want);
+    struct call call = {piece->name, 1, 1, input, length, sizeof got};
+    uint64_t answer = lent_compare(&call);
+    if (answer != piece->answer)
+        lent_unexpected(&call, "not the answer of the paper's bench piece", answer);
+    if (piece->name == CALL_UNPACK)
+        fiddlemarsh_unpack(1, 1, input, length, got, sizeof got);
+    else
+        fiddlemarsh_pack(1, 1, input, length, got, sizeof got);
+    if (memcmp(got, want, written) != 0)
+        lent_unexpected(&call, "not the bytes of the paper's bench piece", answer);
+}
+
+/* 336 header bytes (song length 1, 1 channel, 1 pattern, no instruments), then one pattern header. */
+static void bench_file(uint8_t file[345], uint32_t header_size, uint32_t rows)
+{
+    memset(file, 0, 345);
+    file[37] = 0x1A;
+    field_put(file, (struct field){58, 2}, 0x0104);
+    field_put(file, (struct field){60, 4}, header_size);
+    file[64] = file[68] = file[70] = 1;
+    file[336] = 9;
+    field_put(file, (struct field){341, 2}, rows);
+}
+
+static void try_bench_file(uint32_t header_size, uint32_t rows, uint64_t want)
+{
+    uint8_t file[345];
+    bench_file(file, header_size, rows);
+    uint64_t answer = check(file, sizeof file);
+    if (answer != want)
+        lent_unexpected(&(struct call){.name = CALL_CHECK, .input = file, .input_len = sizeof file},
+                        "not the answer of the paper's bench file", answer);
+    try_file(file, sizeof file);
+}
+
+static void must(bool holds, const char *what)
+{
+    if (holds)
+        return;
+    fprintf(stderr, "the reference itself is wrong: %s\n", what);
+    exit(1);
+}
+
+static void group_pieces(void)
+{
+    for (size_t i = 0; i < COUNT(pieces); i++)
+        try_piece(&pieces[i]);
+    try_bench_file(276, 64, 345);
+    try_bench_file(275, 64, REFUSED(4, 0));
+    try_bench_file(276, 0, REFUSED(6, 336));
+    try_bench_file(276, 257, REFUSED(6, 336));
+    try_bench_file(276, 1, 345);
+    try_bench_file(276, 256, 345);
+}
+
+/* Unpacking */
+
+static void group_one_stored_cell(void)
+{
+    uint8_t data[8];
+    for (unsigned first = 0; first < 256; first++) {
+        data[0] = (uint8_t)first;
+        unpack(1, 1, data, 1, 5);
+        for (unsigned second = 0; second < 256; second++) {
+            data[1] = (uint8_t)second;
+            unpack(1, 1, data, 2, 5);
+            unpack(1, 2, data, 2, 10);
+        }
+    }
+    const uint8_t fills[] = {0, 1, 97, 98, 128, 255};
+    for (size_t fill = 0; fill < COUNT(fills); fill++)
+        for (unsigned lead = 0; lead < 256; lead++)
+            for (size_t length = 0; length <= 7; length++) {
+                memset(data, fills[fill], sizeof data);
+                data[0] = (uint8_t)lead;
+                data[2] = 0;
+                try_unpack(1, 1, data, length);
+            }
+}
+
+#define TWO_TO(power) ((size_t)1 << (power))
+
+static const size_t odd_rows[] = {0, 1, 2, 63, 64, 65, 255, 256, 257, 65537, TWO_TO(32), TWO_TO(32) + 1, TWO_TO(63), SIZE_MAX};
+static const size_t odd_channels[] = {0, 1, 2, 51, 52, 63, 64, 65, 257, 65536, TWO_TO(32), TWO_TO(32) + 1, SIZE_MAX};
+
+static void unpack_arguments(size_t rows, size_t channels, const uint8_t *data)
+{
+    const size_t lengths[] = {0, 1, rows * channels - 1, rows * channels, rows * channels + 1, 65535, 65536, 65537};
+    const size_t rooms[] = {0, 64 * channels * 5, rows * channels * 5 - 1, rows * channels * 5, CELLS_MOST};
+    for (size_t i = 0; i < COUNT(lengths); i++)
+        for (size_t j = 0; j < COUNT(rooms); j++)
+            if (lengths[i] <= 65537 && rooms[j] <= CELLS_MOST)
+                unpack(rows, channels, data, lengths[i], rooms[j]);
+}
+
+static void group_unpack_arguments(void)
+{
+    static uint8_t data[65537];
+    memset(data, 128, sizeof data);
+    for (size_t i = 0; i < COUNT(odd_rows); i++)
+        for (size_t j = 0; j < COUNT(odd_channels); j++)
+            unpack_arguments(odd_rows[i], odd_channels[j], data);
+}
+
+/* The data of one pattern of every form. */
+static void pattern_by_chance(struct module *data, size_t rows, size_t channels, struct chance *chance)
+{
+    data->length = 0;
+    int cells = (int)chance_below(chance, 8);
+    module_put_cells(data, rows * channels, cells > CELLS_SPARSE ? CELLS_EVERY_FORM : cells, chance);
+}
+
+static void group_unpack_shapes(void)
+{
+    static const size_t rows[] = {1, 2, 3, 17, 63, 64, 65, 255, 256}, channels[] = {1, 2, 3, 5, 32, 51, 52, 63, 64};
+    struct chance chance = {1001};
+    struct module data = {0};
+    for (unsigned round = 0; round < 3000; round++) {
+        size_t r = rows[chance_below(&chance, COUNT(rows))];
+        size_t c = channels[chance_below(&chance, round % 4 == 0 ? COUNT(channels) : 4)];
+        if (round % 3 == 0)
+            r = chance_between(&chance, 1, 4);
+        pattern_by_chance(&data, r, c, &chance);
+        try_unpack(r, c, data.bytes, data.length);
+    }
+    module_free(&data);
+}
+
+static void damage_data(const struct module *data, size_t rows, size_t channels)
+{
+    uint8_t bytes[512];
+    const uint8_t values[] = {0, 1, 97, 98, 127, 128, 129, 159, 160, 191, 224, 255};
+    size_t needed = needed_cells(rows, channels, 1);
+    for (size_t length = 0; length <= data->length; length++)
+        unpack(rows, channels, data->bytes, length, CELLS_MOST);
+    for (size_t at = 0; at < data->length; at++)
+        for (size_t i = 0; i < COUNT(values); i++) {
+            memcpy(bytes, data->bytes, data->length);
+            bytes[at] = values[i];
+            unpack(rows, channels, bytes, data->length, needed);
+        }
+    for (size_t extra = 1; extra <= 6; extra++) {
+        memcpy(bytes, data->bytes, data->length);
+        memset(bytes + data->length, extra % 2 ? 128 : 255, extra);
+        unpack(rows, channels, bytes, data->length + extra, needed);
+        unpack(rows, channels, bytes, data->length + extra, 0);
+    }
+}
+
+static void group_unpack_damaged(void)
+{
+    struct chance chance = {1002};
+    struct module data = {0};
+    for (unsigned round = 0; round < 120; round++) {
+        size_t rows = chance_between(&chance, 1, 6), channels = chance_between(&chance, 1, 4);
+        pattern_by_chance(&data, rows, channels, &chance);
+        damage_data(&data, rows, channels);
+    }
+    module_free(&data);
+}
+
+/* Packing */
+
+static void group_one_cell_packed(void)
+{
+    const uint8_t fills[] = {1, 97, 128, 255};
+    for (size_t fill = 0; fill < COUNT(fills); fill++)
+        for (unsigned note = 0; note < 256; note++)
+            for (unsigned mask = 0; mask < 16; mask++) {
+                uint8_t cell[5] = {(uint8_t)note};
+                for (unsigned field = 0; field < 4; field++)
+                    cell[field + 1] = mask >> field & 1 ? fills[fill] : 0;
+                for (size_t room = 0; room <= 6; room++)
+                    pack(1, 1, cell, 5, room);
+            }
+}
+
+static void pack_arguments(size_t rows, size_t channels, const uint8_t *cells)
+{
+    const size_t exact = rows * channels * 5; /* wraps where the arguments are out of range */
+    const size_t lengths[] = {0, 1, 5, exact - 5, exact - 1, exact, exact + 1, exact + 5};
+    for (size_t i = 0; i < COUNT(lengths); i++)
+        if (lengths[i] <= CELLS_MOST + 5) {
+            pack(rows, channels, cells, lengths[i], 65535);
+            pack(rows, channels, cells, lengths[i], 0);
+        }
+}
+
+static void group_pack_arguments(void)
+{
+    static uint8_t cells[CELLS_MOST + 5];
+    for (size_t i = 0; i < COUNT(odd_rows); i++)
+        for (size_t j = 0; j < COUNT(odd_channels); j++)
+            pack_arguments(odd_rows[i], odd_channels[j], cells);
+    pack_arguments((size_t)0x3333333333333334, 1, cells);
+    pack_arguments(1, (size_t)0x3333333333333334, cells);
+    pack_arguments(TWO_TO(33), TWO_TO(31), cells);
+}
+
+static void group_pack_shapes(void)
+{
+    static uint8_t cells[CELLS_MOST];
+    static const size_t rows[] = {1, 2, 3, 17, 63, 64, 65, 255, 256}, channels[] = {1, 2, 3, 5, 32, 51, 52, 63, 64};
+    static const uint32_t percents[] = {0, 1, 10, 20, 50, 80, 100};
+    struct chance chance = {2001};
+    for (unsigned round = 0; round < 2500; round++) {
+        size_t r = rows[chance_below(&chance, COUNT(rows))];
+        size_t c = channels[chance_below(&chance, round % 5 == 0 ? COUNT(channels) : 4)];
+        if (round % 3 == 0)
+            r = chance_between(&chance, 1, 4);
+        cells_by_chance(cells, r * c, percents[chance_below(&chance, COUNT(percents))], &chance);
+        try_pack(r, c, cells);
+    }
+}
+
+static void group_pack_notes(void)
+{
+    uint8_t cells[12 * 5];
+    struct chance chance = {2002};
+    const uint8_t notes[] = {97, 98, 127, 128, 255};
+    for (size_t first = 0; first < 12; first++)
+        for (size_t second = first; second < 12; second++)
+            for (size_t i = 0; i < COUNT(notes); i++) {
+                cells_by_chance(cells, 12, 50, &chance);
+                cells[5 * second] = notes[i];
+                cells[5 * first] = notes[(i + 1) % COUNT(notes)];
+                try_pack(4, 3, cells);
+            }
+}
+
+static void group_pack_empty(void)
+{
+    static uint8_t cells[256 * 64 * 5];
+    static const size_t rows[] = {1, 31, 32, 63, 64, 65, 128, 256};
+    for (size_t i = 0; i < COUNT(rows); i++)
+        for (size_t channels = 1; channels <= 64; channels += rows[i] == 64 ? 1 : 7)
+            try_pack(rows[i], channels, cells);
+    for (size_t byte = 0; byte < 64 * 2 * 5; byte++) { /* 64 rows that are empty but for one byte */
+        cells[byte] = 1;
+        try_pack(64, 2, cells);
+        cells[byte] = 0;
+    }
+}
+
+/* Cells of a given packed length, with the longest in front. */
+static void cells_of_length(uint8_t *cells, size_t count, size_t length)
+{
+    for (size_t left = count; left > 0; left--, cells += 5) {
+        size_t spend = length - (left - 1) < 5 ? length - (left - 1) : 5;
+        memset(cells, 0, 5);
+        memset(cells + 1, 7, spend - 1);
+        cells[0] = spend == 5 ? (uint8_t)(left % 2) : 0; /* five bytes plain, or marked */
+        length -= spend;
+    }
+}
+
+static void group_pack_longest(void)
+{
+    static uint8_t cells[CELLS_MOST];
+    const size_t lengths[] = {65279, 65280, 65534, 65535, 65536, 65537, 66560, 81920};
+    for (size_t channels = 51; channels <= 64; channels++)
+        for (size_t i = 0; i < COUNT(lengths); i++) {
+            size_t count = 256 * channels;
+            cells_of_length(cells, count, lengths[i] < 5 * count ? lengths[i] : 5 * count);
+            try_pack(256, channels, cells);
+            cells[5 * (count - 1)] = 98; /* 9 comes before 15 */
+            try_pack(256, channels, cells);
+        }
+}
+
+/* Modules */
+
+/* A few hundred bytes with every structure: patterns of both kinds, instruments with and without samples. */
+static struct shape small_shape(struct chance *chance)
+{
+    return (struct shape){.song_length = chance_between(chance, 1, 3),
+                          .restart = chance_between(chance, 0, 4),
+                          .channels = chance_between(chance, 1, 2),
+                          .patterns = chance_between(chance, 1, 2),
+                          .instruments = chance_between(chance, 1, 3),
+                          .header_extra_most = 2,
+                          .pattern_extra_most = 2,
+                          .rows_most = 3,
+                          .cells = chance_percent(chance, 80) ? CELLS_EVERY_FORM : -1,
+                          .samples_most = 2,
+                          .instrument_extra_most = 3,
+                          .sample_header_extra_most = 2,
+                          .sample_length_most = 8,
+                          .trailing_most = 3};
+}
+
+static struct module small_module(uint64_t seed)
+{
+    struct chance chance = {seed};
+    struct shape shape = small_shape(&chance);
+    struct module module = {0};
+    module_build(&module, &shape, &chance);
+    return module;
+}
+
+static void must_accept(const struct module *module)
+{
+    struct reference_checked checked = reference_check(module->bytes, module->length);
+    must(checked.refusal.number == 0, "a module that was built whole is refused");
+}
+
+/* Pressing what was pressed changes nothing, and its check ends where it ends. */
+static void try_pressed_again(const struct module *module)
+{
+    uint8_t *pressed = malloc(module->length);
+    must(pressed != NULL, "out of memory");
+    uint64_t length = fiddlemarsh_press(module->bytes, module->length, pressed, module->length);
+    struct call call = {.name = CALL_PRESS, .input = pressed, .input_len = length, .room = length};
+    if (check(pressed, length) != length)
+        lent_unexpected(&call, "the check of a pressed file does not end at its end", length);
+    if (lent_compare(&call) != length)
+        lent_unexpected(&call, "pressing a pressed file gives another length", length);
+    free(pressed);
+}
+
+static void try_shapes(uint64_t seed, unsigned rounds, bool large)
+{
+    struct chance chance = {seed};
+    struct module module = {0};
+    for (; rounds > 0; rounds--) {
+        struct shape shape = shape_by_chance(&chance, large);
+        module_build(&module, &shape, &chance);
+        must_accept(&module);
+        try_file(module.bytes, module.length);
+        press(module.bytes, module.length, 0);
+        press(module.bytes, module.length, module.length + 100);
+        try_pressed_again(&module);
+    }
+    module_free(&module);
+}
+
+static void group_module_shapes(void)
+{
+    try_shapes(3001, 3000, false);
+}
+
+static void group_large_shapes(void)
+{
+    try_shapes(3002, 12, true);
+}
+
+static void group_every_room(void)
+{
+    for (uint64_t seed = 3101; seed < 3125; seed++) {
+        struct module module = small_module(seed);
+        try_file_rooms(module.bytes, module.length, 1);
+        module_free(&module);
+    }
+}
+
+static void group_every_cut(void)
+{
+    for (uint64_t seed = 3201; seed < 3213; seed++) {
+        struct module module = small_module(seed);
+        for (size_t length = 0; length <= module.length; length++) {
+            check(module.bytes, length);
+            press(module.bytes, length, module.length);
+            press(module.bytes, length, length);
+        }
+        module_free(&module);
+    }
+}
+
+static void group_every_byte(void)
+{
+    struct chance chance = {3301};
+    struct shape shape = {.song_length = 2, .restart = 1, .channels = 2, .patterns = 1, .instruments = 1, .rows = 2,
+                          .cells = CELLS_EVERY_FORM, .samples_least = 1, .samples_most = 1, .sample_length_least = 4,
+                          .sample_length_most = 6};
+    struct module module = {0};
+    module_build(&module, &shape, &chance);
+    for (size_t at = 0; at < module.length; at++) {
+        uint8_t kept = module.bytes[at];
+        for (unsigned value = 0; value < 256; value++) {
+            module.bytes[at] = (uint8_t)value;
+            check(module.bytes, module.length);
+            press(module.bytes, module.length, module.length);
+        }
+        module.bytes[at] = kept;
+    }
+    module_free(&module);
+}
+
+/* Numbers at which a rule may turn: the paper's constants, what a field holds, what is left of the file, where 32 bits end. */
+static size_t turning_numbers(const struct module *module, struct field field, uint32_t *numbers)
+{
+    static const uint32_t centers[] = {0, 9, 16, 29, 33, 40, 64, 128, 256, 0x0104, 263, 276,
+                                       0x8000, 0xFFFF, FILE_MOST, 0x7FFFFFFF, 0x80000000};
+    uint32_t own = field_get(module->bytes, field), length = (uint32_t)module->length, left = length - field.place;
+    const uint32_t others[] = {own, left, left - 4, left - 60, length, 0u - own, 0u - field.place, 0u - length};
+    size_t count = 0;
+    for (size_t i = 0; i < COUNT(centers) + COUNT(others); i++) {
+        uint32_t center = i < COUNT(centers) ? centers[i] : others[i - COUNT(centers)];
+        for (uint32_t near = 0; near < 5; near++)
+            numbers[count++] = center + near - 2;
+    }
+    return count;
+}
+
+#define TURNING_MOST 256
+
+static void try_field(struct module *module, struct field field)
+{
+    uint32_t numbers[TURNING_MOST];
+    size_t count = turning_numbers(module, field, numbers);
+    uint32_t kept = field_get(module->bytes, field);
+    for (size_t i = 0; i < (field.width == 1 ? 256 : count); i++) {
+        field_put(module->bytes, field, field.width == 1 ? (uint32_t)i : numbers[i]);
+        try_file(module->bytes, module->length);
+    }
+    field_put(module->bytes, field, kept);
+}
+
+static void group_every_field(void)
+{
+    for (uint64_t seed = 3401; seed < 3413; seed++) {
+        struct module module = small_module(seed);
+        for (size_t i = 0; i < module.field_count; i++)
+            try_field(&module, module.fields[i]);
+        module_free(&module);
+    }
+}
+
+/* Loops that end before, at and behind the sample's end, alone and with sums that pass 32 bits. */
+static void group_loops(void)
+{
+    struct module module = {0};
+    const uint32_t starts[] = {0, 1, 9, 10, 11, 0x7FFFFFFF, 0x80000000, 0xFFFFFFF0, 0xFFFFFFFE, 0xFFFFFFFF};
+    const uint32_t lengths[] = {0, 1, 2, 9, 10, 11, 17, 26, 0x7FFFFFFF, 0x80000000, 0xFFFFFFFF};
+    struct shape shape = {.song_length = 1, .channels = 1, .patterns = 1, .instruments = 1, .rows = 1, .cells = CELLS_NONE,
+                          .samples_least = 1, .samples_most = 1, .sample_length_least = 10, .sample_length_most = 10};
+    struct chance chance = {3501};
+    module_build(&module, &shape, &chance);
+    size_t header = 345 + 263;
+    for (size_t i = 0; i < COUNT(starts); i++)
+        for (size_t j = 0; j < COUNT(lengths); j++)
+            for (unsigned type = 0; type < 256; type++) {
+                field_put(module.bytes, (struct field){(uint32_t)header + 4, 4}, starts[i]);
+                field_put(module.bytes, (struct field){(uint32_t)header + 8, 4}, lengths[j]);
+                module.bytes[header + 14] = (uint8_t)type;
+                check(module.bytes, module.length);
+                if (type < 32)
+                    press(module.bytes, module.length, module.length);
+            }
+    module_free(&module);
+}
+
+/* One thing wrong with a module: a field's number, or (width 0) the file's length. */
+struct fault {
+    struct field field;
+    uint32_t number;
+};
+
+#define FAULTS_MOST 400
+
+static size_t with_fault(struct module *module, size_t length, struct fault fault)
+{
+    if (fault.field.width == 0)
+        return fault.number < length ? fault.number : length;
+    field_put(module->bytes, fault.field, fault.number);
+    return length;
+}
+
+static uint64_t answer_with(struct module *module, struct fault fault)
+{
+    uint32_t kept = fault.field.width == 0 ? 0 : field_get(module->bytes, fault.field);
+    size_t length = with_fault(module, module->length, fault);
+    uint64_t answer = reference_loader_check(module->bytes, length);
+    if (fault.field.width != 0)
+        field_put(module->bytes, fault.field, kept);
+    return answer;
+}
+
+/* The field's numbers that are refused, one for each answer. */
+static size_t field_faults(struct module *module, struct field field, struct fault *faults)
+{
+    uint32_t numbers[TURNING_MOST];
+    uint64_t answers[TURNING_MOST];
+    size_t count = turning_numbers(module, field, numbers), found = 0;
+    numbers[count++] = 0xAD; /* the kind */
+    numbers[count++] = 98;   /* a plain note, in a lead byte */
+    for (size_t i = 0; i < count; i++) {
+        uint64_t answer = answer_with(module, (struct fault){field, numbers[i]});
+        bool known = !fiddlemarsh_refused(answer);
+        for (size_t j = 0; j < found; j++)
+            known = known || answers[j] == answer;
+        if (known)
+            continue;
+        answers[found] = answer;
+        faults[found++] = (struct fault){field, numbers[i]};
+    }
+    return found;
+}
+
+/* The longest cut of each answer. */
+static size_t cut_faults(struct module *module, struct fault *faults)
+{
+    size_t found = 0;
+    uint64_t before = 0;
+    for (size_t length = module->length; length-- > 0;) {
+        struct fault fault = {{0, 0}, (uint32_t)length};
+        uint64_t answer = answer_with(module, fault);
+        if (fiddlemarsh_refused(answer) && answer != before)
+            faults[found++] = fault;
+        before = answer;
+    }
+    return found;
+}
+
+static size_t all_faults(struct module *module, struct fault *faults)
+{
+    size_t count = cut_faults(module, faults);
+    for (size_t i = 0; i < module->field_count && count < FAULTS_MOST - 50; i++)
+        count += field_faults(module, module->fields[i], faults + count);
+    return count;
+}
+
+static void try_two(const struct module *module, struct module *copy, struct fault first, struct fault second)
+{
+    memcpy(copy->bytes, module->bytes, module->length);
+    size_t length = with_fault(copy, module->length, first);
+    length = with_fault(copy, length, second);
+    check(copy->bytes, length);
+    press(copy->bytes, length, length);
+}
+
+static void try_pairs(struct module *module, bool *numbers_met)
+{
+    struct fault faults[FAULTS_MOST];
+    size_t count = all_faults(module, faults);
+    struct module copy = {.bytes = malloc(module->length)};
+    must(copy.bytes != NULL, "out of memory");
+    for (size_t i = 0; i < count; i++) {
+        numbers_met[fiddlemarsh_refusal(answer_with(module, faults[i]))] = true;
+        for (size_t j = 0; j <= i; j++) /* the same bytes come of both orders; j = i is one fault alone */
+            try_two(module, &copy, faults[i], faults[j]);
+    }
+    module_free(&copy);
+}
+
+static void group_two_faults(void)
+{
+    bool numbers_met[17] = {false};
+    for (uint64_t seed = 3601; seed < 3607; seed++) {
+        struct module module = small_module(seed);
+        try_pairs(&module, numbers_met);
+        module_free(&module);
+    }
+    for (unsigned number = 1; number <= 13; number++)
+        must(number == 2 || numbers_met[number], "a refusal number has no fault of its own");
+}
+
+static void change_by_chance(struct module *module, struct chance *chance)
+{
+    uint32_t numbers[TURNING_MOST];
+    uint32_t at = chance_below(chance, (uint32_t)module->length);
+    struct field field = module->fields[chance_below(chance, (uint32_t)module->field_count)];
+    switch (chance_below(chance, 6)) {
+    case 0:
+        module->bytes[at] = (uint8_t)chance_next(chance);
+        break;
+    case 1:
+        module->bytes[at] ^= (uint8_t)(1u << chance_below(chance, 8));
+        break;
+    case 2: /* a byte lost */
+        memmove(module->bytes + at, module->bytes + at + 1, module->length - at - 1);
+        module->length--;
+        break;
+    case 3: /* a byte doubled, in the place of the last one */
+        memmove(module->bytes + at + 1, module->bytes + at, module->length - at - 1);
+        break;
+    case 4:
+        if (field.place + field.width <= module->length)
+            field_put(module->bytes, field, numbers[chance_below(chance, (uint32_t)turning_numbers(module, field, numbers))]);
+        break;
+    default: /* behind the header, where changes tell more */
+        module->bytes[336 + chance_below(chance, (uint32_t)module->length - 336)] ^= (uint8_t)chance_next(chance);
+    }
+}
+
+static void group_changes(void)
+{
+    struct chance chance = {3701};
+    for (unsigned round = 0; round < 400; round++) {
+        struct module module = small_module(3702 + round);
+        size_t whole = module.length;
+        uint8_t *kept = malloc(whole);
+        must(kept != NULL, "out of memory");
+        memcpy(kept, module.bytes, whole);
+        for (unsigned change = 0; change < 100; change++) {
+            memcpy(module.bytes, kept, whole);
+            module.length = whole;
+            for (uint32_t times = chance_between(&chance, 1, 4); times > 0; times--)
+                change_by_chance(&module, &chance);
+            try_file(module.bytes, module.length);
+        }
+        free(kept);
+        module_free(&module);
+    }
+}
+
+/* Patterns of one form throughout: what the press makes of them, at 32, 63, 64 and 65 rows too. */
+static void try_pattern_forms(uint32_t channels)
+{
+    struct chance chance = {3801 + channels};
+    struct module module = {0};
+    const uint32_t rows[] = {1, 32, 63, 64, 65, 256};
+    for (size_t i = 0; i < COUNT(rows); i++)
+        for (int cells = CELLS_EVERY_FORM; cells <= CELLS_SPARSE; cells++) {
+            struct shape shape = {.song_length = 1, .channels = channels, .patterns = 3, .rows = rows[i], .cells = cells};
+            module_build(&module, &shape, &chance);
+            must_accept(&module);
+            try_file(module.bytes, module.length);
+            try_file_rooms(module.bytes, module.length, module.length / 50 + 1);
+        }
+    module_free(&module);
+}
+
+static void group_pattern_forms(void)
+{
+    try_pattern_forms(1);
+    try_pattern_forms(3);
+}
+
+static void group_wide_pattern_forms(void)
+{
+    try_pattern_forms(64);
+}
+
+/* A small module with bytes behind it, up to the size limit and over it. */
+static void group_size_limit(void)
+{
+    struct chance chance = {3851};
+    struct module module = small_module(3851);
+    module_put_noise(&module, FILE_MOST + 1 - module.length, &chance);
+    check(module.bytes, FILE_MOST);
+    check(module.bytes, FILE_MOST + 1);
+    module.bytes[37] = 0; /* 2 comes before 3 */
+    press(module.bytes, FILE_MOST + 1, 0);
+    module_free(&module);
+}
+
+/* The largest counts of everything, and samples up to the size limit. */
+static void group_large(void)
+{
+    struct chance chance = {3901};
+    struct module module = {0};
+    struct shape full = {.song_length = 256, .restart = 255, .channels = 64, .patterns = 256, .instruments = 128,
+                         .rows_most = 256, .cells = -1, .samples_least = 16, .samples_most = 16, .sample_length_most = 50};
+    module_build(&module, &full, &chance);
+    must_accept(&module);
+    try_file(module.bytes, module.length);
+    struct shape samples = {.song_length = 1, .channels = 4, .patterns = 1, .instruments = 2, .rows = 64, .cells = CELLS_DENSE,
+                            .samples_least = 16, .samples_most = 16, .sample_length_least = 500000, .sample_length_most = 520000};
+    module_build(&module, &samples, &chance);
+    size_t end = module.length;
+    module_put_noise(&module, FILE_MOST + 1 - end, &chance);
+    try_file(module.bytes, FILE_MOST);
+    try_file(module.bytes, FILE_MOST + 1);
+    check(module.bytes, FILE_MOST - 1);
+    press(module.bytes, end, end);
+    try_file(module.bytes, end - 1);
+    module_free(&module);
+}
+
+/* Running the groups */
+
+struct group {
+    const char *name;
+    void (*run)(void);
+};
+
+/* Those that take longest stand last: must-see.sh is then done soon with most faults. */
+static const struct group groups[] = {
+    {"the paper's bench pieces", group_pieces},
+    {"modules: every cut", group_every_cut},
+    {"modules: every room", group_every_room},
+    {"modules: loops", group_loops},
+    {"modules: every field at its limits", group_every_field},
+    {"modules: every two faults", group_two_faults},
+    {"modules: changes by chance", group_changes},
+    {"modules: every byte at every value", group_every_byte},
+    {"modules: the size limit", group_size_limit},
+    {"modules: every pattern form", group_pattern_forms},
+    {"unpack: one stored cell, every lead byte", group_one_stored_cell},
+    {"unpack: cut, changed and overlong data", group_unpack_damaged},
+    {"unpack: arguments at their limits", group_unpack_arguments},
+    {"pack: one cell, every note and field", group_one_cell_packed},
+    {"pack: arguments at their limits", group_pack_arguments},
+    {"pack: bad notes at every place", group_pack_notes},
+    {"pack: empty patterns", group_pack_empty},
+    {"pack: around 65,535 bytes", group_pack_longest},
+    {"unpack: patterns of every shape", group_unpack_shapes},
+    {"pack: cells of every shape", group_pack_shapes},
+    {"modules: every shape", group_module_shapes},
+    {"modules: every pattern form, 64 channels", group_wide_pattern_forms},
+    {"modules: large ones of every shape", group_large_shapes},
+    {"modules: the largest", group_large},
+};
+
+/* A comparison that never met a refusal says nothing about it. */
+static void must_have_met(enum call_name name, unsigned from, unsigned to)
+{
+    for (unsigned number = from; number <= to; number++)
+        must(lent_seen(name, number) > 0, "a refusal number was never met");
+}
+
+static void must_have_met_all(void)
+{
+    must_have_met(CALL_CHECK, 0, 13);
+    must_have_met(CALL_PRESS, 0, 14);
+    must_have_met(CALL_UNPACK, 7, 9);
+    must_have_met(CALL_UNPACK, 14, 14);
+    must_have_met(CALL_UNPACK, 16, 16);
+    must_have_met(CALL_PACK, 9, 9);
+    must_have_met(CALL_PACK, 14, 16);
+}
+
+static uint64_t accepted_so_far(void)
+{
+    uint64_t accepted = 0;
+    for (int name = 0; name < CALL_NAMES; name++)
+        accepted += lent_seen(name, 0);
+    return accepted;
+}
+
+static void run_group(const struct group *group)
+{
+    uint64_t calls = lent_calls(), accepted = accepted_so_far();
+    lent_group(group->name);
+    group->run();
+    calls = lent_calls() - calls;
+    accepted = accepted_so_far() - accepted;
+    printf("%-42s %8llu calls, %8llu refused\n", group->name, (unsigned long long)calls, (unsigned long long)(calls - accepted));
+    fflush(stdout);
+}
+
+static void say_numbers(enum call_name name)
+{
+    printf("%-6s by refusal number:", call_text(name));
+    for (unsigned number = 0; number <= 16; number++)
+        if (lent_seen(name, number) > 0)
+            printf(" %u:%llu", number, (unsigned long long)lent_seen(name, number));
+    printf("\n");
+}
+
+int main(int argc, char **argv)
+{
+    const char *dump = "compare-failed.bin";
+    if (argc == 3 && strcmp(argv[1], "--dump") == 0) {
+        dump = argv[2];
+    } else if (argc != 1) {
+        fprintf(stderr, "usage: compare [--dump FILE]\n");
+        return 2;
+    }
+    lent_start(dump);
+    for (size_t i = 0; i < COUNT(groups); i++)
+        run_group(&groups[i]);
+    must_have_met_all();
+    for (int name = 0; name < CALL_NAMES; name++)
+        say_numbers(name);
+    printf("compare: %zu groups, %llu calls, 0 differences\n", COUNT(groups), (unsigned long long)lent_calls());
+    return 0;
+}

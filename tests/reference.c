@@ -1,0 +1,841 @@
+/* reference.c: the base's rules in plain C, written from the rules paper alone. See reference.h.
+
+   A call that writes reads its input twice: the first pass decides every refusal and measures, the second writes. */
+
+#include "reference.h"
+
+#include <stdbool.h>
+#include <string.h>
+
+enum {
+    FILE_MOST = 16777216,
+    HEADER_FIXED = 80,      /* the header's bytes in front of the order table */
+    HEADER_SIZE_FROM = 60,  /* header size counts from here */
+    HEADER_SIZE_LEAST = 276,
+    ORDER_TABLE = 256,
+    PATTERN_HEADER = 9,
+    EMPTY_ROWS = 64,        /* of the standard empty pattern */
+    ROWS_MOST = 256,
+    CHANNELS_MOST = 64,
+    DATA_MOST = 65535,
+    CELL = 5,
+    EMPTY_CELL = 128,       /* the lead byte of a marked cell without fields */
+    NOTE_MOST = 97,
+    INSTRUMENT_LEAST = 29,  /* with no samples */
+    INSTRUMENT_FULL = 263,  /* with samples */
+    INSTRUMENT_FIELDS = 33, /* note map, envelopes and the rest, up to the reserved bytes */
+    INSTRUMENT_RESERVED = 241,
+    SAMPLES_MOST = 16,
+    SAMPLE_HEADER = 40,
+    KIND_ADPCM = 0xAD
+};
+
+static const char id_text[] = "Extended module: ";
+
+static inline uint32_t number16(const uint8_t *from)
+{
+    return (uint32_t)from[0] | (uint32_t)from[1] << 8;
+}
+
+static inline uint32_t number32(const uint8_t *from)
+{
+    return number16(from) | number16(from + 2) << 16;
+}
+
+static inline void put16(uint8_t *to, uint32_t number)
+{
+    to[0] = (uint8_t)number;
+    to[1] = (uint8_t)(number >> 8);
+}
+
+static inline void put32(uint8_t *to, uint32_t number)
+{
+    put16(to, number);
+    put16(to + 2, number >> 16);
+}
+
+static inline struct reference_refusal refuse(uint32_t number, size_t place)
+{
+    return (struct reference_refusal){number, (uint32_t)place};
+}
+
+static const struct reference_refusal accepted = {0, 0};
+
+/* Cells as they are stored
+
+   Which fields a cell has is as good as random, and a branch on it costs more than the cell's whole work. So these functions
+   choose numbers, not ways: a field that is absent is read at the lead byte, and made 0. */
+
+static inline bool is_marked(uint8_t lead)
+{
+    return lead >= 128;
+}
+
+/* Bit by bit which of the five fields are stored. */
+static inline unsigned stored_mask(uint8_t lead)
+{
+    return is_marked(lead) ? lead & 31 : 31;
+}
+
+/* Where the first field stands: a plain lead byte is itself the note. */
+static inline size_t first_field(uint8_t lead)
+{
+    return is_marked(lead);
+}
+
+/* Bytes that a cell takes, by its lead byte: five if plain, else one and the ones in the low five bits. Every cell's place hangs
+   on the cell before, so this is one table and no sum. */
+#define PLAIN_16 5, 5, 5, 5, 5, 5, 5, 5, 5, 5, 5, 5, 5, 5, 5, 5
+#define MARKED_32 1, 2, 2, 3, 2, 3, 3, 4, 2, 3, 3, 4, 3, 4, 4, 5, 2, 3, 3, 4, 3, 4, 4, 5, 3, 4, 4, 5, 4, 5, 5, 6
+
+static const uint8_t stored_lengths[256] = {PLAIN_16, PLAIN_16, PLAIN_16, PLAIN_16, PLAIN_16, PLAIN_16, PLAIN_16, PLAIN_16,
+                                            MARKED_32, MARKED_32, MARKED_32, MARKED_32};
+
+static inline size_t stored_length(uint8_t lead)
+{
+    return stored_lengths[lead];
+}
+
+/* The field that stands at a place of a whole cell if it is there, else 0. */
+static inline uint8_t stored_field(const uint8_t *stored, size_t place, unsigned there)
+{
+    return (uint8_t)(stored[place * there] * there);
+}
+
+static inline uint8_t stored_note(const uint8_t *stored)
+{
+    return stored_field(stored, first_field(stored[0]), stored_mask(stored[0]) & 1);
+}
+
+/* Reads a whole cell into five bytes and returns what it takes. */
+static inline size_t read_cell(const uint8_t *stored, uint8_t *cell)
+{
+    unsigned mask = stored_mask(stored[0]);
+    size_t place = first_field(stored[0]);
+    for (unsigned field = 0; field < CELL; field++) {
+        unsigned there = mask >> field & 1;
+        cell[field] = stored_field(stored, place, there);
+        place += there;
+    }
+    return stored_length(stored[0]);
+}
+
+static inline unsigned fields_used(const uint8_t *cell)
+{
+    unsigned used = 0;
+    for (unsigned field = 0; field < CELL; field++)
+        used += cell[field] != 0;
+    return used;
+}
+
+/* A marked cell takes its lead byte too; five fields are shorter plain. */
+static inline size_t shortest_length(unsigned used)
+{
+    return used == CELL ? CELL : 1 + used;
+}
+
+/* Writes a cell in its shortest form and returns what it takes. May write a 0 behind that, if 'spare' says there is room. */
+static inline size_t write_cell(const uint8_t *cell, uint8_t *out, bool spare)
+{
+    unsigned mask = 0;
+    for (unsigned field = 0; field < CELL; field++)
+        mask |= (unsigned)(cell[field] != 0) << field;
+    if (mask == 31) {
+        memcpy(out, cell, CELL);
+        return CELL;
+    }
+    out[0] = (uint8_t)(EMPTY_CELL | mask);
+    size_t to = 1;
+    for (unsigned field = 0; field < CELL; field++) {
+        if (spare || cell[field] != 0)
+            out[to] = cell[field];
+        to += cell[field] != 0;
+    }
+    return to;
+}
+
+struct scan {
+    struct reference_refusal refusal; /* its place counts from the data's start */
+    size_t shortest;                  /* bytes of all cells, each in its shortest form, if measured */
+};
+
+static inline struct scan scan_refused(uint32_t number, size_t place)
+{
+    return (struct scan){refuse(number, place), 0};
+}
+
+/* Tries every cell for 7 and 9, and what is left for 8. 'measure' is always a constant: two loops come of it. */
+static inline struct scan scan_cells(const uint8_t *data, size_t size, size_t count, bool measure)
+{
+    size_t at = 0;
+    size_t shortest = 0;
+    for (size_t cell = 0; cell < count; cell++) {
+        if (at == size)
+            return scan_refused(7, at);
+        if (data[at] == EMPTY_CELL) { /* four in five, and in runs */
+            at++;
+            shortest++;
+            continue;
+        }
+        size_t length = stored_length(data[at]);
+        if (length > size - at)
+            return scan_refused(7, at);
+        if (stored_note(data + at) > NOTE_MOST)
+            return scan_refused(9, at);
+        if (measure) {
+            uint8_t fields[CELL];
+            read_cell(data + at, fields);
+            shortest += shortest_length(fields_used(fields));
+        }
+        at += length;
+    }
+    if (at < size)
+        return scan_refused(8, at);
+    return (struct scan){accepted, shortest};
+}
+
+/* The parts of a file */
+
+struct header {
+    uint32_t size;
+    uint32_t song_length;
+    uint32_t channels;
+    uint32_t patterns;
+    uint32_t instruments;
+};
+
+struct pattern {
+    size_t data;
+    uint32_t size;
+    uint32_t rows;   /* that it reads as */
+    uint32_t stored; /* bytes in its shortest stored form, if measured */
+};
+
+struct instrument {
+    size_t headers; /* of its samples */
+    size_t data;
+    size_t end;
+    uint32_t header_size;
+    uint32_t samples;
+};
+
+struct sample {
+    uint32_t length;
+    uint32_t loop_start;
+    uint32_t loop_length;
+    uint8_t type;
+    uint8_t kind;
+};
+
+static struct header header_fields(const uint8_t *file)
+{
+    return (struct header){.size = number32(file + 60),
+                           .song_length = number16(file + 64),
+                           .channels = number16(file + 68),
+                           .patterns = number16(file + 70),
+                           .instruments = number16(file + 72)};
+}
+
+static bool counts_fit(const struct header *header)
+{
+    return header->song_length >= 1 && header->song_length <= 256 &&
+           header->patterns >= 1 && header->patterns <= 256 &&
+           header->channels >= 1 && header->channels <= CHANNELS_MOST &&
+           header->instruments <= 128;
+}
+
+static struct reference_refusal try_header(const uint8_t *file, size_t file_len, struct header *header)
+{
+    if (file_len > FILE_MOST)
+        return refuse(2, 0);
+    if (file_len < HEADER_FIXED)
+        return refuse(1, 0);
+    if (file[37] != 0x1A || number16(file + 58) != 0x0104)
+        return refuse(3, 0);
+    *header = header_fields(file);
+    if (header->size < HEADER_SIZE_LEAST)
+        return refuse(4, 0);
+    if (!counts_fit(header))
+        return refuse(5, 0);
+    if (header->size > file_len - HEADER_SIZE_FROM)
+        return refuse(1, 0);
+    return accepted;
+}
+
+/* A pattern of an accepted file, or of one known so far to be whole up to this pattern's end. */
+static inline struct pattern pattern_fields(const uint8_t *file, size_t at)
+{
+    uint32_t size = number16(file + at + 7);
+    return (struct pattern){.data = at + number32(file + at),
+                            .size = size,
+                            .rows = size == 0 ? EMPTY_ROWS : number16(file + at + 5)};
+}
+
+/* 64 empty rows are stored in no bytes; a cell takes one byte exactly when it is empty. */
+static uint32_t pattern_stored(uint32_t rows, size_t cells, size_t shortest)
+{
+    return rows == EMPTY_ROWS && shortest == cells ? 0 : (uint32_t)shortest;
+}
+
+static inline struct reference_refusal try_pattern(const uint8_t *file, size_t file_len, size_t at, uint32_t channels,
+                                                   bool measure, struct pattern *pattern)
+{
+    if (file_len - at < PATTERN_HEADER)
+        return refuse(1, at);
+    uint32_t header_length = number32(file + at);
+    uint32_t rows = number16(file + at + 5);
+    if (header_length < PATTERN_HEADER || rows < 1 || rows > ROWS_MOST)
+        return refuse(6, at);
+    *pattern = pattern_fields(file, at);
+    if ((uint64_t)header_length + pattern->size > file_len - at)
+        return refuse(1, at);
+    if (pattern->size == 0)
+        return accepted;
+    size_t cells = pattern->rows * channels;
+    struct scan scan = scan_cells(file + pattern->data, pattern->size, cells, measure);
+    if (scan.refusal.number != 0)
+        return refuse(scan.refusal.number, pattern->data + scan.refusal.place);
+    pattern->stored = pattern_stored(pattern->rows, cells, scan.shortest);
+    return accepted;
+}
+
+static inline struct sample sample_fields(const uint8_t *header)
+{
+    return (struct sample){.length = number32(header),
+                           .loop_start = number32(header + 4),
+                           .loop_length = number32(header + 8),
+                           .type = header[14],
+                           .kind = header[17]};
+}
+
+static inline unsigned sample_width(uint8_t type)
+{
+    return type & 16 ? 16 : 8;
+}
+
+static bool sample_loops(const struct sample *sample)
+{
+    return sample->loop_length > 0 && (sample->type & 3) != 0;
+}
+
+/* The sum of loop start and loop length may need 33 bits. */
+static uint64_t loop_end(const struct sample *sample)
+{
+    return (uint64_t)sample->loop_start + sample->loop_length;
+}
+
+static struct reference_refusal try_sample_header(const uint8_t *file, size_t at)
+{
+    struct sample sample = sample_fields(file + at);
+    if (sample.kind == KIND_ADPCM)
+        return refuse(12, at);
+    if ((sample.type & 3) == 3)
+        return refuse(13, at);
+    if (sample_width(sample.type) == 16 && sample.length % 2 != 0)
+        return refuse(13, at);
+    if (sample_loops(&sample) && loop_end(&sample) > sample.length)
+        return refuse(13, at);
+    return accepted;
+}
+
+/* The parts of an instrument whose sample headers are known to be present; its end is not known yet. */
+static inline struct instrument instrument_fields(const uint8_t *file, size_t at)
+{
+    uint32_t samples = number16(file + at + 27);
+    uint32_t header_size = samples > 0 ? number32(file + at + 29) : 0;
+    size_t headers = at + number32(file + at);
+    size_t data = headers + (size_t)samples * header_size;
+    return (struct instrument){headers, data, data, header_size, samples};
+}
+
+static size_t samples_end(const uint8_t *file, const struct instrument *instrument)
+{
+    size_t end = instrument->data;
+    for (uint32_t i = 0; i < instrument->samples; i++)
+        end += number32(file + instrument->headers + (size_t)i * instrument->header_size);
+    return end;
+}
+
+static struct reference_refusal try_samples(const uint8_t *file, size_t file_len, size_t at, struct instrument *instrument)
+{
+    uint32_t header_size = number32(file + at + 29);
+    if (header_size < SAMPLE_HEADER)
+        return refuse(11, at);
+    *instrument = instrument_fields(file, at);
+    if ((uint64_t)instrument->samples * header_size > file_len - instrument->headers)
+        return refuse(1, at);
+    for (uint32_t i = 0; i < instrument->samples; i++) {
+        struct reference_refusal refusal = try_sample_header(file, instrument->headers + (size_t)i * header_size);
+        if (refusal.number != 0)
+            return refusal;
+    }
+    for (uint32_t i = 0; i < instrument->samples; i++) {
+        uint32_t length = number32(file + instrument->headers + (size_t)i * header_size);
+        if (length > file_len - instrument->end)
+            return refuse(1, instrument->end);
+        instrument->end += length;
+    }
+    return accepted;
+}
+
+static struct reference_refusal try_instrument(const uint8_t *file, size_t file_len, size_t at, struct instrument *instrument)
+{
+    if (file_len - at < INSTRUMENT_LEAST)
+        return refuse(1, at);
+    uint32_t size = number32(file + at);
+    uint32_t samples = number16(file + at + 27);
+    if (size < INSTRUMENT_LEAST || samples > SAMPLES_MOST || (size < INSTRUMENT_FULL && samples > 0))
+        return refuse(10, at);
+    if (size > file_len - at)
+        return refuse(1, at);
+    if (samples > 0)
+        return try_samples(file, file_len, at, instrument);
+    *instrument = instrument_fields(file, at);
+    return accepted;
+}
+
+/* The walk over a file */
+
+struct walk {
+    struct reference_checked checked;
+    size_t pressed; /* the pressed file's length, if measured */
+};
+
+static struct walk walk_refused(struct reference_refusal refusal)
+{
+    return (struct walk){.checked = {.refusal = refusal}};
+}
+
+static size_t instrument_pressed(const struct instrument *instrument)
+{
+    if (instrument->samples == 0)
+        return INSTRUMENT_LEAST;
+    return INSTRUMENT_FULL + instrument->samples * SAMPLE_HEADER + (instrument->end - instrument->data);
+}
+
+static inline struct walk walk_file(const uint8_t *file, size_t file_len, bool measure)
+{
+    struct header header;
+    struct reference_refusal refusal = try_header(file, file_len, &header);
+    if (refusal.number != 0)
+        return walk_refused(refusal);
+    size_t at = HEADER_SIZE_FROM + (size_t)header.size;
+    size_t pressed = HEADER_FIXED + ORDER_TABLE;
+    for (uint32_t i = 0; i < header.patterns; i++) {
+        struct pattern pattern;
+        refusal = try_pattern(file, file_len, at, header.channels, measure, &pattern);
+        if (refusal.number != 0)
+            return walk_refused(refusal);
+        pressed += PATTERN_HEADER + pattern.stored;
+        at = pattern.data + pattern.size;
+    }
+    uint32_t samples = 0;
+    for (uint32_t i = 0; i < header.instruments; i++) {
+        struct instrument instrument;
+        refusal = try_instrument(file, file_len, at, &instrument);
+        if (refusal.number != 0)
+            return walk_refused(refusal);
+        pressed += instrument_pressed(&instrument);
+        samples += instrument.samples;
+        at = instrument.end;
+    }
+    return (struct walk){{accepted, (uint32_t)at, header.channels, header.patterns, header.instruments, samples}, pressed};
+}
+
+REFERENCE_CALL struct reference_checked reference_check(const uint8_t *file, size_t file_len)
+{
+    return walk_file(file, file_len, false).checked;
+}
+
+/* Tables */
+
+static size_t fill_pattern_rows(const uint8_t *file, size_t at, uint32_t patterns, struct reference_pattern_row *rows)
+{
+    for (uint32_t i = 0; i < patterns; i++) {
+        struct pattern pattern = pattern_fields(file, at);
+        rows[i] = (struct reference_pattern_row){(uint32_t)pattern.data, pattern.size, pattern.rows};
+        at = pattern.data + pattern.size;
+    }
+    return at;
+}
+
+static void fill_sample_rows(const uint8_t *file, const struct instrument *instrument, struct reference_sample_row *rows)
+{
+    size_t data = instrument->data;
+    for (uint32_t i = 0; i < instrument->samples; i++) {
+        size_t place = instrument->headers + (size_t)i * instrument->header_size;
+        struct sample sample = sample_fields(file + place);
+        rows[i] = (struct reference_sample_row){.header_place = (uint32_t)place,
+                                                .data_place = (uint32_t)data,
+                                                .length = sample.length,
+                                                .width = sample_width(sample.type),
+                                                .finetune = (int8_t)file[place + 13],
+                                                .relative_note = (int8_t)file[place + 16]};
+        data += sample.length;
+    }
+}
+
+static void fill_instrument_rows(const uint8_t *file, size_t at, uint32_t instruments, const struct reference_tables *tables)
+{
+    uint32_t samples = 0;
+    for (uint32_t i = 0; i < instruments; i++) {
+        struct instrument instrument = instrument_fields(file, at);
+        tables->instruments[i] = (struct reference_instrument_row){(uint32_t)at, instrument.samples, samples};
+        if (instrument.samples > 0)
+            fill_sample_rows(file, &instrument, tables->samples + samples);
+        samples += instrument.samples;
+        at = samples_end(file, &instrument);
+    }
+}
+
+REFERENCE_CALL struct reference_checked reference_check_tables(const uint8_t *file, size_t file_len,
+                                                               const struct reference_tables *tables)
+{
+    struct reference_checked checked = reference_check(file, file_len);
+    if (checked.refusal.number != 0)
+        return checked;
+    if (tables->pattern_room < checked.patterns || tables->instrument_room < checked.instruments ||
+        tables->sample_room < checked.samples)
+        return (struct reference_checked){.refusal = refuse(14, 0)};
+    size_t at = HEADER_SIZE_FROM + (size_t)number32(file + 60);
+    at = fill_pattern_rows(file, at, checked.patterns, tables->patterns);
+    fill_instrument_rows(file, at, checked.instruments, tables);
+    return checked;
+}
+
+/* Structures in file order */
+
+/* Looks for the structure of a number, or for the first at or after a place; the other of the two lets everything pass. */
+struct search {
+    size_t place_least;
+    size_t number_least;
+    size_t number; /* of the structure that is met next */
+};
+
+static bool search_meets(struct search *search, size_t place)
+{
+    return search->number++ >= search->number_least && place >= search->place_least;
+}
+
+static struct reference_structure search_instruments(const uint8_t *file, size_t at, uint32_t instruments, struct search *search)
+{
+    for (uint32_t i = 0; i < instruments; i++) {
+        struct instrument instrument = instrument_fields(file, at);
+        if (search_meets(search, at))
+            return (struct reference_structure){accepted, REFERENCE_INSTRUMENT, (uint32_t)at};
+        for (uint32_t j = 0; j < instrument.samples; j++) {
+            size_t header = instrument.headers + (size_t)j * instrument.header_size;
+            if (search_meets(search, header))
+                return (struct reference_structure){accepted, REFERENCE_SAMPLE_HEADER, (uint32_t)header};
+        }
+        at = samples_end(file, &instrument);
+    }
+    return (struct reference_structure){accepted, REFERENCE_END, 0};
+}
+
+static struct reference_structure search_file(const uint8_t *file, size_t file_len, struct search search)
+{
+    struct reference_checked checked = reference_check(file, file_len);
+    if (checked.refusal.number != 0)
+        return (struct reference_structure){checked.refusal, REFERENCE_END, 0};
+    size_t at = HEADER_SIZE_FROM + (size_t)number32(file + 60);
+    for (uint32_t i = 0; i < checked.patterns; i++) {
+        if (search_meets(&search, at))
+            return (struct reference_structure){accepted, REFERENCE_PATTERN, (uint32_t)at};
+        struct pattern pattern = pattern_fields(file, at);
+        at = pattern.data + pattern.size;
+    }
+    return search_instruments(file, at, checked.instruments, &search);
+}
+
+REFERENCE_CALL struct reference_structure reference_structure_from(const uint8_t *file, size_t file_len, size_t place)
+{
+    return search_file(file, file_len, (struct search){.place_least = place});
+}
+
+REFERENCE_CALL struct reference_structure reference_structure_at(const uint8_t *file, size_t file_len, size_t number)
+{
+    return search_file(file, file_len, (struct search){.number_least = number});
+}
+
+/* Unpacking and packing */
+
+static bool rows_and_channels_fit(size_t rows, size_t channels)
+{
+    return rows >= 1 && rows <= ROWS_MOST && channels >= 1 && channels <= CHANNELS_MOST;
+}
+
+static void read_cells(const uint8_t *data, size_t count, uint8_t *cells)
+{
+    for (; count > 0; count--, cells += CELL) {
+        if (data[0] == EMPTY_CELL) {
+            memset(cells, 0, CELL);
+            data++;
+            continue;
+        }
+        data += read_cell(data, cells);
+    }
+}
+
+REFERENCE_CALL struct reference_count reference_unpack(size_t rows, size_t channels, const uint8_t *data, size_t data_len,
+                                                       uint8_t *cells, size_t cells_len)
+{
+    if (!rows_and_channels_fit(rows, channels) || data_len > DATA_MOST)
+        return (struct reference_count){refuse(16, 0), 0};
+    if (data_len == 0)
+        rows = EMPTY_ROWS;
+    size_t count = rows * channels;
+    if (data_len > 0) {
+        struct scan scan = scan_cells(data, data_len, count, false);
+        if (scan.refusal.number != 0)
+            return (struct reference_count){scan.refusal, 0};
+    }
+    if (cells_len < count * CELL)
+        return (struct reference_count){refuse(14, 0), 0};
+    if (data_len == 0)
+        memset(cells, 0, count * CELL);
+    else
+        read_cells(data, count, cells);
+    return (struct reference_count){accepted, (uint32_t)rows};
+}
+
+/* Tries every cell for 9; counts the bytes of all cells, each in its shortest form. */
+static struct scan measure_cells(const uint8_t *cells, size_t count)
+{
+    size_t shortest = 0;
+    for (size_t cell = 0; cell < count; cell++) {
+        const uint8_t *fields = cells + cell * CELL;
+        if (fields[0] > NOTE_MOST)
+            return scan_refused(9, cell * CELL);
+        shortest += shortest_length(fields_used(fields));
+    }
+    return (struct scan){accepted, shortest};
+}
+
+/* The last cell is the only one with perhaps no room behind it. */
+static void write_cells(const uint8_t *cells, size_t count, uint8_t *out)
+{
+    for (; count > 1; count--, cells += CELL)
+        out += write_cell(cells, out, true);
+    write_cell(cells, out, false);
+}
+
+REFERENCE_CALL struct reference_packed reference_pack(size_t rows, size_t channels, const uint8_t *cells, size_t cells_len,
+                                                      uint8_t *out, size_t out_len)
+{
+    if (!rows_and_channels_fit(rows, channels) || cells_len != rows * channels * CELL)
+        return (struct reference_packed){.refusal = refuse(16, 0)};
+    size_t count = rows * channels;
+    struct scan scan = measure_cells(cells, count);
+    if (scan.refusal.number != 0)
+        return (struct reference_packed){.refusal = scan.refusal};
+    uint32_t length = pattern_stored((uint32_t)rows, count, scan.shortest);
+    if (length > DATA_MOST)
+        return (struct reference_packed){.refusal = refuse(15, 0)};
+    if (length > out_len)
+        return (struct reference_packed){.refusal = refuse(14, 0)};
+    if (length > 0)
+        write_cells(cells, count, out);
+    return (struct reference_packed){accepted, length, (uint32_t)rows};
+}
+
+/* Pressing */
+
+/* The writers below put one structure of an accepted file and return the output's next place. */
+
+static uint8_t *press_header(const uint8_t *file, const struct header *header, uint8_t *out)
+{
+    uint32_t restart = number16(file + 66);
+    memcpy(out, id_text, 17);
+    memcpy(out + 17, file + 17, HEADER_FIXED - 17);
+    put32(out + 60, HEADER_SIZE_LEAST);
+    put16(out + 66, restart < header->song_length ? restart : 0);
+    memcpy(out + HEADER_FIXED, file + HEADER_FIXED, header->song_length);
+    memset(out + HEADER_FIXED + header->song_length, 0, ORDER_TABLE - header->song_length);
+    return out + HEADER_FIXED + ORDER_TABLE;
+}
+
+/* Ends at the first cell that isn't empty, so that other patterns cost nothing here. */
+static bool cells_all_empty(const uint8_t *data, size_t count)
+{
+    for (size_t i = 0; i < count; i++) {
+        uint8_t cell[CELL];
+        data += read_cell(data, cell);
+        if (fields_used(cell) != 0)
+            return false;
+    }
+    return true;
+}
+
+static uint8_t *press_cells(const uint8_t *data, size_t count, uint8_t *out)
+{
+    for (; count > 0; count--) {
+        if (data[0] == EMPTY_CELL) {
+            *out++ = EMPTY_CELL;
+            data++;
+            continue;
+        }
+        uint8_t cell[CELL];
+        data += read_cell(data, cell);
+        out += write_cell(cell, out, count > 1);
+    }
+    return out;
+}
+
+static uint8_t *press_pattern(const uint8_t *file, const struct pattern *pattern, uint32_t channels, uint8_t *out)
+{
+    const uint8_t *data = file + pattern->data;
+    size_t cells = pattern->rows * channels;
+    uint8_t *to = out + PATTERN_HEADER;
+    bool stores_none = pattern->size == 0 || (pattern->rows == EMPTY_ROWS && cells_all_empty(data, cells));
+    uint8_t *end = stores_none ? to : press_cells(data, cells, to);
+    put32(out, PATTERN_HEADER);
+    out[4] = 0;
+    put16(out + 5, pattern->rows);
+    put16(out + 7, (uint32_t)(end - to));
+    return end;
+}
+
+static uint8_t *press_samples(const uint8_t *file, size_t at, const struct instrument *instrument, uint8_t *out)
+{
+    put32(out + INSTRUMENT_LEAST, SAMPLE_HEADER);
+    memcpy(out + INSTRUMENT_FIELDS, file + at + INSTRUMENT_FIELDS, INSTRUMENT_RESERVED - INSTRUMENT_FIELDS);
+    memset(out + INSTRUMENT_RESERVED, 0, INSTRUMENT_FULL - INSTRUMENT_RESERVED);
+    out += INSTRUMENT_FULL;
+    for (uint32_t i = 0; i < instrument->samples; i++, out += SAMPLE_HEADER)
+        memcpy(out, file + instrument->headers + (size_t)i * instrument->header_size, SAMPLE_HEADER);
+    memcpy(out, file + instrument->data, instrument->end - instrument->data);
+    return out + (instrument->end - instrument->data);
+}
+
+static uint8_t *press_instrument(const uint8_t *file, size_t at, const struct instrument *instrument, uint8_t *out)
+{
+    memcpy(out + 4, file + at + 4, INSTRUMENT_LEAST - 4);
+    put32(out, instrument->samples > 0 ? INSTRUMENT_FULL : INSTRUMENT_LEAST);
+    if (instrument->samples > 0)
+        return press_samples(file, at, instrument, out);
+    return out + INSTRUMENT_LEAST;
+}
+
+static void press_file(const uint8_t *file, uint8_t *out)
+{
+    struct header header = header_fields(file);
+    out = press_header(file, &header, out);
+    size_t at = HEADER_SIZE_FROM + (size_t)header.size;
+    for (uint32_t i = 0; i < header.patterns; i++) {
+        struct pattern pattern = pattern_fields(file, at);
+        out = press_pattern(file, &pattern, header.channels, out);
+        at = pattern.data + pattern.size;
+    }
+    for (uint32_t i = 0; i < header.instruments; i++) {
+        struct instrument instrument = instrument_fields(file, at);
+        instrument.end = samples_end(file, &instrument);
+        out = press_instrument(file, at, &instrument, out);
+        at = instrument.end;
+    }
+}
+
+REFERENCE_CALL struct reference_count reference_press(const uint8_t *file, size_t file_len, uint8_t *out, size_t out_len)
+{
+    struct walk walk = walk_file(file, file_len, true);
+    if (walk.checked.refusal.number != 0)
+        return (struct reference_count){walk.checked.refusal, 0};
+    if (walk.pressed > out_len)
+        return (struct reference_count){refuse(14, 0), 0};
+    press_file(file, out);
+    return (struct reference_count){accepted, (uint32_t)walk.pressed};
+}
+
+/* Samples */
+
+REFERENCE_CALL struct reference_count reference_delta_decode(size_t width, const uint8_t *bytes, size_t byte_count,
+                                                             int16_t *values, size_t value_room)
+{
+    if (width != 8 && width != 16)
+        return (struct reference_count){refuse(16, 0), 0};
+    if (width == 16 && byte_count % 2 != 0)
+        return (struct reference_count){refuse(16, 0), 0};
+    size_t count = byte_count / (width / 8);
+    if (count > value_room)
+        return (struct reference_count){refuse(14, 0), 0};
+    uint16_t value = 0;
+    for (size_t i = 0; i < count; i++) {
+        value = (uint16_t)(value + (width == 8 ? bytes[i] : number16(bytes + 2 * i)));
+        values[i] = width == 8 ? (int8_t)value : (int16_t)value;
+    }
+    return (struct reference_count){accepted, (uint32_t)count};
+}
+
+static bool values_fit_bytes(const int16_t *values, size_t count)
+{
+    for (size_t i = 0; i < count; i++)
+        if (values[i] < -128 || values[i] > 127)
+            return false;
+    return true;
+}
+
+REFERENCE_CALL struct reference_count reference_delta_code(size_t width, const int16_t *values, size_t value_count,
+                                                           uint8_t *bytes, size_t room)
+{
+    if (width != 8 && width != 16)
+        return (struct reference_count){refuse(16, 0), 0};
+    if (width == 8 && !values_fit_bytes(values, value_count))
+        return (struct reference_count){refuse(16, 0), 0};
+    size_t length = value_count * (width / 8);
+    if (length > room)
+        return (struct reference_count){refuse(14, 0), 0};
+    uint16_t before = 0;
+    for (size_t i = 0; i < value_count; i++) {
+        uint16_t delta = (uint16_t)((uint16_t)values[i] - before);
+        if (width == 8)
+            bytes[i] = (uint8_t)delta;
+        else
+            put16(bytes + 2 * i, delta);
+        before = (uint16_t)values[i];
+    }
+    return (struct reference_count){accepted, (uint32_t)length};
+}
+
+REFERENCE_CALL struct reference_stretch reference_sample_stretch(size_t file_len, const struct reference_sample_row *rows,
+                                                                 size_t rows_lent, size_t number)
+{
+    if (number >= rows_lent)
+        return (struct reference_stretch){refuse(16, 0), 0, 0};
+    const struct reference_sample_row *row = &rows[number];
+    if (row->data_place > file_len || row->length > file_len - row->data_place)
+        return (struct reference_stretch){refuse(16, 0), 0, 0};
+    return (struct reference_stretch){accepted, row->data_place, row->length};
+}
+
+/* The loader's numbers */
+
+static uint64_t loader_number(struct reference_refusal refusal, uint64_t otherwise)
+{
+    return refusal.number != 0 ? (uint64_t)refusal.number << 32 | refusal.place : otherwise;
+}
+
+REFERENCE_CALL uint64_t reference_loader_check(const uint8_t *file, size_t file_len)
+{
+    struct reference_checked checked = reference_check(file, file_len);
+    return loader_number(checked.refusal, checked.end);
+}
+
+REFERENCE_CALL uint64_t reference_loader_unpack(size_t rows, size_t channels, const uint8_t *data, size_t data_len,
+                                                uint8_t *cells, size_t cells_len)
+{
+    struct reference_count unpacked = reference_unpack(rows, channels, data, data_len, cells, cells_len);
+    return loader_number(unpacked.refusal, unpacked.count);
+}
+
+REFERENCE_CALL uint64_t reference_loader_pack(size_t rows, size_t channels, const uint8_t *cells, size_t cells_len,
+                                              uint8_t *out, size_t out_len)
+{
+    struct reference_packed packed = reference_pack(rows, channels, cells, cells_len, out, out_len);
+    return loader_number(packed.refusal, packed.length + 65536ull * packed.rows);
+}
+
+REFERENCE_CALL uint64_t reference_loader_press(const uint8_t *file, size_t file_len, uint8_t *out, size_t out_len)
+{
+    struct reference_count pressed = reference_press(file, file_len, out, out_len);
+    return loader_number(pressed.refusal, pressed.count);
+}

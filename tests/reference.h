@@ -1,0 +1,130 @@
+/* reference.h: the base's rules once more, in plain C, written from the rules paper alone. It shares nothing with the proved
+   code; the comparison and the benchmark hold the library against it.
+
+   Memory rules are those of the library: what is written must not overlap what is read, a refused call changes nothing. */
+
+#ifndef REFERENCE_H
+#define REFERENCE_H
+
+#include <stddef.h>
+#include <stdint.h>
+
+/* A second copy of the reference in one program (faulty.c) makes the calls its own by defining this as static. */
+#ifndef REFERENCE_CALL
+#define REFERENCE_CALL
+#endif
+
+/* number 0 (with place 0): accepted. */
+struct reference_refusal {
+    uint32_t number;
+    uint32_t place;
+};
+
+/* What an accepted check reports; all 0 behind a refusal. */
+struct reference_checked {
+    struct reference_refusal refusal;
+    uint32_t end;
+    uint32_t channels;
+    uint32_t patterns;
+    uint32_t instruments;
+    uint32_t samples;
+};
+
+struct reference_pattern_row {
+    uint32_t data_place;
+    uint32_t data_size;
+    uint32_t rows; /* that it reads as: 64 where data_size is 0 */
+};
+
+struct reference_instrument_row {
+    uint32_t place;
+    uint32_t samples;
+    uint32_t first_sample; /* the next sample's number where samples is 0 */
+};
+
+struct reference_sample_row {
+    uint32_t header_place;
+    uint32_t data_place;
+    uint32_t length; /* in bytes */
+    uint32_t width;  /* 8 or 16 */
+    int8_t finetune;
+    int8_t relative_note;
+};
+
+/* Three lent tables, with the number of rows that each has room for. */
+struct reference_tables {
+    struct reference_pattern_row *patterns;
+    size_t pattern_room;
+    struct reference_instrument_row *instruments;
+    size_t instrument_room;
+    struct reference_sample_row *samples;
+    size_t sample_room;
+};
+
+enum reference_kind { REFERENCE_PATTERN, REFERENCE_INSTRUMENT, REFERENCE_SAMPLE_HEADER, REFERENCE_END };
+
+/* One structure of a file; kind REFERENCE_END with place 0 behind the last one, and of a refused file. */
+struct reference_structure {
+    struct reference_refusal refusal;
+    enum reference_kind kind;
+    uint32_t place;
+};
+
+/* Refusal and one result number: the rows of unpacking, the length of pressing, the count of values or bytes of deltas. */
+struct reference_count {
+    struct reference_refusal refusal;
+    uint32_t count;
+};
+
+struct reference_packed {
+    struct reference_refusal refusal;
+    uint32_t length;
+    uint32_t rows;
+};
+
+/* A sample's data inside the file; 0 and 0 behind a refusal. */
+struct reference_stretch {
+    struct reference_refusal refusal;
+    uint32_t place;
+    uint32_t length;
+};
+
+REFERENCE_CALL struct reference_checked reference_check(const uint8_t *file, size_t file_len);
+
+/* As the check; then 14 if a table is too short; then the tables are filled. */
+REFERENCE_CALL struct reference_checked reference_check_tables(const uint8_t *file, size_t file_len,
+                                                               const struct reference_tables *tables);
+
+/* The first structure that starts at or after a place, in file order (an instrument, its sample headers, the next one). */
+REFERENCE_CALL struct reference_structure reference_structure_from(const uint8_t *file, size_t file_len, size_t place);
+
+/* The structure of a number, counted from 0 in file order. */
+REFERENCE_CALL struct reference_structure reference_structure_at(const uint8_t *file, size_t file_len, size_t number);
+
+REFERENCE_CALL struct reference_count reference_unpack(size_t rows, size_t channels, const uint8_t *data, size_t data_len,
+                                                       uint8_t *cells, size_t cells_len);
+
+REFERENCE_CALL struct reference_packed reference_pack(size_t rows, size_t channels, const uint8_t *cells, size_t cells_len,
+                                                      uint8_t *out, size_t out_len);
+
+REFERENCE_CALL struct reference_count reference_press(const uint8_t *file, size_t file_len, uint8_t *out, size_t out_len);
+
+/* Reading deltas into values, and coding values as deltas; value_room counts values, room counts bytes. */
+REFERENCE_CALL struct reference_count reference_delta_decode(size_t width, const uint8_t *bytes, size_t byte_count,
+                                                             int16_t *values, size_t value_room);
+REFERENCE_CALL struct reference_count reference_delta_code(size_t width, const int16_t *values, size_t value_count,
+                                                           uint8_t *bytes, size_t room);
+
+/* Where a sample of a lent table stands in the file. */
+REFERENCE_CALL struct reference_stretch reference_sample_stretch(size_t file_len, const struct reference_sample_row *rows,
+                                                                 size_t rows_lent, size_t number);
+
+/* The loader's one number for each of its four calls. */
+REFERENCE_CALL uint64_t reference_loader_check(const uint8_t *file, size_t file_len);
+REFERENCE_CALL uint64_t reference_loader_unpack(size_t rows, size_t channels, const uint8_t *data, size_t data_len,
+                                                uint8_t *cells, size_t cells_len);
+REFERENCE_CALL uint64_t reference_loader_pack(size_t rows, size_t channels, const uint8_t *cells, size_t cells_len,
+                                              uint8_t *out, size_t out_len);
+REFERENCE_CALL uint64_t reference_loader_press(const uint8_t *file, size_t file_len, uint8_t *out, size_t out_len);
+
+#endif

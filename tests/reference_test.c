@@ -1,0 +1,247 @@
+/* reference_test.c: what the library has no call for (tables, structures, deltas, stretches), held against numbers worked out by
+   hand from the rules paper; and laws between them over generated modules. */
+
+#include "modules.h"
+#include "reference.h"
+
+#include <stdbool.h>
+#include <stdio.h>
+#include <stdlib.h>
+#include <string.h>
+
+#define COUNT(array) (sizeof(array) / sizeof((array)[0]))
+
+static unsigned long held;
+
+static void must_at(bool holds, const char *what, int line)
+{
+    held++;
+    if (holds)
+        return;
+    fprintf(stderr, "reference_test.c:%d: does not hold: %s\n", line, what);
+    exit(1);
+}
+
+#define must(condition) must_at(condition, #condition, __LINE__)
+
+/* Deltas */
+
+static void deltas_hold_the_papers_pieces(void)
+{
+    const uint8_t narrow[] = {0x00, 0x01, 0xFF, 0x02, 0x01, 0xFE}, wraps[] = {0x7F, 0x01}, wide[] = {0xFF, 0x7F, 0x01, 0x00};
+    const int16_t narrow_values[] = {0, 1, 0, 2, 3, 1};
+    int16_t values[8];
+    uint8_t bytes[8];
+    must(reference_delta_decode(8, narrow, 6, values, 6).count == 6 && memcmp(values, narrow_values, 12) == 0);
+    must(reference_delta_code(8, values, 6, bytes, 6).count == 6 && memcmp(bytes, narrow, 6) == 0);
+    must(reference_delta_decode(8, wraps, 2, values, 2).count == 2 && values[0] == 127 && values[1] == -128);
+    must(reference_delta_code(8, values, 2, bytes, 2).count == 2 && memcmp(bytes, wraps, 2) == 0);
+    must(reference_delta_decode(16, wide, 4, values, 2).count == 2 && values[0] == 32767 && values[1] == -32768);
+    must(reference_delta_code(16, values, 2, bytes, 4).count == 4 && memcmp(bytes, wide, 4) == 0);
+}
+
+static void deltas_refuse_in_order(void)
+{
+    const uint8_t bytes[4] = {1, 2, 3, 4};
+    const int16_t value[1] = {128}, least[1] = {-129}, fits[2] = {127, -128};
+    int16_t values[4] = {7, 7, 7, 7};
+    uint8_t out[4] = {9, 9, 9, 9};
+    must(reference_delta_decode(12, bytes, 3, values, 0).refusal.number == 16);
+    must(reference_delta_decode(0, bytes, 0, values, 0).refusal.number == 16);
+    must(reference_delta_decode(16, bytes, 3, values, 0).refusal.number == 16);
+    must(reference_delta_decode(16, bytes, 4, values, 1).refusal.number == 14);
+    must(reference_delta_decode(8, bytes, 4, values, 3).refusal.number == 14);
+    must(reference_delta_code(12, value, 1, out, 0).refusal.number == 16);
+    must(reference_delta_code(8, value, 1, out, 0).refusal.number == 16);
+    must(reference_delta_code(8, least, 1, out, 4).refusal.number == 16);
+    must(reference_delta_code(8, fits, 2, out, 1).refusal.number == 14);
+    must(reference_delta_code(16, value, 1, out, 1).refusal.number == 14);
+    must(values[0] == 7 && out[0] == 9);
+    must(reference_delta_decode(8, NULL, 0, NULL, 0).refusal.number == 0);
+    must(reference_delta_code(16, NULL, 0, NULL, 0).refusal.number == 0);
+    must(reference_delta_decode(8, bytes, 2, values, 4).count == 2 && values[1] == 3 && values[2] == 7);
+}
+
+static void deltas_come_back(void)
+{
+    struct chance chance = {4001};
+    for (unsigned round = 0; round < 300; round++) {
+        uint8_t bytes[64], again[64];
+        int16_t values[64];
+        size_t width = round % 2 ? 16 : 8, count = 2 * chance_below(&chance, 33);
+        for (size_t i = 0; i < count; i++)
+            bytes[i] = (uint8_t)chance_next(&chance);
+        struct reference_count read = reference_delta_decode(width, bytes, count, values, 64);
+        must(read.count == count * 8 / width);
+        struct reference_count coded = reference_delta_code(width, values, read.count, again, 64);
+        must(coded.refusal.number == 0 && coded.count == count && memcmp(bytes, again, count) == 0);
+    }
+}
+
+/* A module laid out by hand */
+
+#define PUT(place, width, number) field_put(file, (struct field){place, width}, number)
+
+enum { HAND_LENGTH = 1500 };
+
+/* Two patterns (one stored in no bytes), an empty instrument, one of two samples, an empty one.
+
+     0  header, size 278                     388  instrument 1: I = 264, two samples, H = 41
+   338  pattern 0: L = 10, 1 row, S = 2      652  its sample headers, at 652 and 693
+   350  pattern 1: L = 9, 7 rows, S = 0      734  data of 3 bytes, then of 4 (16-bit)
+   359  instrument 0: I = 29, no samples     741  instrument 2: I = 30, no samples; the end is 771 */
+static void hand_module(uint8_t *file)
+{
+    memset(file, 0xEE, HAND_LENGTH);
+    file[37] = 0x1A;
+    PUT(58, 2, 0x0104);
+    PUT(60, 4, 278);
+    PUT(64, 2, 1), PUT(66, 2, 0), PUT(68, 2, 2), PUT(70, 2, 2), PUT(72, 2, 3);
+    PUT(338, 4, 10), PUT(343, 2, 1), PUT(345, 2, 2), PUT(348, 2, 0x8080);
+    PUT(350, 4, 9), PUT(355, 2, 7), PUT(357, 2, 0);
+    PUT(359, 4, 29), PUT(386, 2, 0);
+    PUT(388, 4, 264), PUT(415, 2, 2), PUT(417, 4, 41);
+    PUT(652, 4, 3), PUT(660, 4, 0), PUT(665, 1, 0x80), PUT(666, 1, 0), PUT(668, 1, 0x7F), PUT(669, 1, 0);
+    PUT(693, 4, 4), PUT(701, 4, 0), PUT(706, 1, 0xFF), PUT(707, 1, 0x10), PUT(709, 1, 0x80), PUT(710, 1, 0);
+    PUT(741, 4, 30), PUT(768, 2, 0);
+}
+
+static void tables_of_the_hand_module(void)
+{
+    uint8_t file[HAND_LENGTH];
+    struct reference_pattern_row patterns[3];
+    struct reference_instrument_row instruments[4];
+    struct reference_sample_row samples[3];
+    memset(samples, 0x55, sizeof samples);
+    struct reference_tables tables = {patterns, 3, instruments, 4, samples, 3};
+    hand_module(file);
+    struct reference_checked checked = reference_check_tables(file, sizeof file, &tables);
+    must(checked.refusal.number == 0 && checked.refusal.place == 0 && checked.end == 771);
+    must(checked.channels == 2 && checked.patterns == 2 && checked.instruments == 3 && checked.samples == 2);
+    must(patterns[0].data_place == 348 && patterns[0].data_size == 2 && patterns[0].rows == 1);
+    must(patterns[1].data_place == 359 && patterns[1].data_size == 0 && patterns[1].rows == 64);
+    must(instruments[0].place == 359 && instruments[0].samples == 0 && instruments[0].first_sample == 0);
+    must(instruments[1].place == 388 && instruments[1].samples == 2 && instruments[1].first_sample == 0);
+    must(instruments[2].place == 741 && instruments[2].samples == 0 && instruments[2].first_sample == 2);
+    must(samples[0].header_place == 652 && samples[0].data_place == 734 && samples[0].length == 3 && samples[0].width == 8);
+    must(samples[0].finetune == -128 && samples[0].relative_note == 127);
+    must(samples[1].header_place == 693 && samples[1].data_place == 737 && samples[1].length == 4 && samples[1].width == 16);
+    must(samples[1].finetune == -1 && samples[1].relative_note == -128);
+    must(samples[2].header_place == 0x55555555);
+}
+
+static void a_short_table_leaves_all_alone(void)
+{
+    uint8_t file[HAND_LENGTH];
+    hand_module(file);
+    for (unsigned which = 0; which < 3; which++) {
+        struct reference_pattern_row patterns[2] = {{1, 1, 1}};
+        struct reference_instrument_row instruments[3] = {{1, 1, 1}};
+        struct reference_sample_row samples[2] = {{1, 1, 1, 1, 1, 1}};
+        struct reference_tables tables = {patterns, 2, instruments, 3, samples, 2};
+        tables.pattern_room -= which == 0;
+        tables.instrument_room -= which == 1;
+        tables.sample_room -= which == 2;
+        struct reference_checked checked = reference_check_tables(file, sizeof file, &tables);
+        must(checked.refusal.number == 14 && checked.refusal.place == 0 && checked.end == 0 && checked.samples == 0);
+        must(patterns[0].data_place == 1 && instruments[0].place == 1 && samples[0].header_place == 1);
+    }
+}
+
+static void structures_of_the_hand_module(void)
+{
+    const struct { enum reference_kind kind; uint32_t place; } all[] = {
+        {REFERENCE_PATTERN, 338}, {REFERENCE_PATTERN, 350}, {REFERENCE_INSTRUMENT, 359}, {REFERENCE_INSTRUMENT, 388},
+        {REFERENCE_SAMPLE_HEADER, 652}, {REFERENCE_SAMPLE_HEADER, 693}, {REFERENCE_INSTRUMENT, 741}, {REFERENCE_END, 0}};
+    uint8_t file[HAND_LENGTH];
+    hand_module(file);
+    for (size_t i = 0; i < COUNT(all) + 3; i++) {
+        struct reference_structure structure = reference_structure_at(file, sizeof file, i);
+        size_t want = i < COUNT(all) ? i : COUNT(all) - 1;
+        must(structure.refusal.number == 0 && structure.kind == all[want].kind && structure.place == all[want].place);
+    }
+    size_t next = 0;
+    for (size_t place = 0; place <= sizeof file + 1; place++) {
+        while (all[next].kind != REFERENCE_END && all[next].place < place)
+            next++;
+        struct reference_structure structure = reference_structure_from(file, sizeof file, place);
+        must(structure.kind == all[next].kind && structure.place == all[next].place);
+    }
+    file[37] = 0;
+    must(reference_structure_at(file, sizeof file, 0).refusal.number == 3);
+    must(reference_structure_from(file, sizeof file, 9999).refusal.number == 3);
+}
+
+static void stretches(void)
+{
+    const struct reference_sample_row rows[] = {{.data_place = 10, .length = 5},
+                                                {.data_place = 20, .length = 0},
+                                                {.data_place = 21, .length = 0},
+                                                {.data_place = 10, .length = 11},
+                                                {.data_place = 0xFFFFFFFF, .length = 0xFFFFFFFF}};
+    struct reference_stretch first = reference_sample_stretch(20, rows, COUNT(rows), 0);
+    must(first.refusal.number == 0 && first.place == 10 && first.length == 5);
+    struct reference_stretch at_end = reference_sample_stretch(20, rows, COUNT(rows), 1);
+    must(at_end.refusal.number == 0 && at_end.place == 20 && at_end.length == 0);
+    for (size_t number = 2; number < COUNT(rows) + 2; number++) {
+        struct reference_stretch none = reference_sample_stretch(20, rows, COUNT(rows), number);
+        must(none.refusal.number == 16 && none.refusal.place == 0 && none.place == 0 && none.length == 0);
+    }
+    must(reference_sample_stretch(20, rows, 1, SIZE_MAX).refusal.number == 16);
+}
+
+/* Over generated modules: structures are what the tables name, and regions follow one another without gap or overlap. */
+static void tables_and_structures_agree(const struct module *module)
+{
+    static struct reference_pattern_row patterns[256];
+    static struct reference_instrument_row instruments[128];
+    static struct reference_sample_row samples[2048];
+    struct reference_tables tables = {patterns, 256, instruments, 128, samples, 2048};
+    struct reference_checked checked = reference_check_tables(module->bytes, module->length, &tables);
+    must(checked.refusal.number == 0);
+    size_t number = 0, end = field_get(module->bytes, (struct field){60, 4}) + 60;
+    for (uint32_t i = 0; i < checked.patterns; i++) {
+        struct reference_structure structure = reference_structure_at(module->bytes, module->length, number++);
+        must(structure.kind == REFERENCE_PATTERN && structure.place == end);
+        end = patterns[i].data_place + patterns[i].data_size;
+    }
+    for (uint32_t i = 0; i < checked.instruments; i++) {
+        struct reference_structure structure = reference_structure_at(module->bytes, module->length, number++);
+        must(structure.kind == REFERENCE_INSTRUMENT && structure.place == end && instruments[i].place == end);
+        end += field_get(module->bytes, (struct field){(uint32_t)end, 4});
+        for (uint32_t j = 0; j < instruments[i].samples; j++) {
+            const struct reference_sample_row *row = &samples[instruments[i].first_sample + j];
+            structure = reference_structure_at(module->bytes, module->length, number++);
+            must(structure.kind == REFERENCE_SAMPLE_HEADER && structure.place == row->header_place);
+            must(reference_structure_from(module->bytes, module->length, row->header_place).place == row->header_place);
+            end = row->data_place + row->length;
+        }
+    }
+    must(end == checked.end && reference_structure_at(module->bytes, module->length, number).kind == REFERENCE_END);
+}
+
+static void generated_modules(void)
+{
+    struct chance chance = {4002};
+    struct module module = {0};
+    for (unsigned round = 0; round < 200; round++) {
+        struct shape shape = shape_by_chance(&chance, false);
+        module_build(&module, &shape, &chance);
+        tables_and_structures_agree(&module);
+    }
+    module_free(&module);
+}
+
+int main(void)
+{
+    deltas_hold_the_papers_pieces();
+    deltas_refuse_in_order();
+    deltas_come_back();
+    tables_of_the_hand_module();
+    a_short_table_leaves_all_alone();
+    structures_of_the_hand_module();
+    stretches();
+    generated_modules();
+    printf("reference_test: %lu statements hold\n", held);
+    return 0;
+}
