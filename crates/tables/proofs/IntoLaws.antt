@@ -39,12 +39,12 @@ rows-from : (first : ℕ) (is : List InstrumentFound) → length (instrumentRows
 rows-from first [] = refl
 rows-from first (i ∷ is) = rw (rows-from (first + sampleCount i) is)
 
-record Counted (found : Found) (x : Module) : Type 0 where
-  patterns : length (patternRows found) ≡ x .patterns
-  instruments : length (instrumentRows found) ≡ x .instruments
-  samples : length (sampleRows found) ≡ x .samples
+pub record Counted (found : Found) (x : Module) : Type 0 where
+  pub patterns : length (patternRows found) ≡ x .patterns
+  pub instruments : length (instrumentRows found) ≡ x .instruments
+  pub samples : length (sampleRows found) ≡ x .samples
 
-rows-counted : (file : List ℕ) (found : Found) (end : ℕ) → readFile file ≡ got found end → {x : Module} → verdict.Accepted x ≡ verdictOf (gives (checkedAs found end)) → Counted found x
+pub rows-counted : (file : List ℕ) (found : Found) (end : ℕ) → readFile file ≡ got found end → {x : Module} → verdict.Accepted x ≡ verdictOf (gives (checkedAs found end)) → Counted found x
 rows-counted file found end e {x} v =
     let w = file-reads file found end e in
     let same = same-module v in

@@ -5,16 +5,19 @@ use mathlib.Core.List.{List, [], _∷_, _++_, append-assoc}
 use mathlib.Core.Path.{_≡_, refl, sym, ap, ap₂, _∙_}
 use lib.Dec.{leb}
 use lib.ListN.{drop, replicate}
-use Rattle.xm.specs.Got.{got}
-use Rattle.xm.specs.Format.{Region, patternHeader, instrument, sampleHeader, sampleData, each, joined}
+use Rattle.xm.specs.Got.{Got, got, refused}
+use Rattle.xm.specs.Format.{Kind, Region, header, patternHeader, patternData, instrument, sampleHeader, sampleData, each, joined, All}
+use Rattle.xm.specs.Answer.{gives, answered}
 use Rattle.xm.specs.PatternInFile.{PatternFound, patternFormat}
 use Rattle.xm.specs.Sample.{Stretch, stretchRegion, headFormat}
 use Rattle.xm.specs.Instrument.{instrumentSizeAt, countAt, headerSizeAt, InstrumentFound, readInstrument, instrumentFormat}
-use Rattle.xm.specs.Structure.{structuresOf, standingAt}
+use Rattle.xm.specs.Module.{Found, moduleFormat, readFile}
+use Rattle.xm.specs.Structure.{isStructure, structuresOf, structures, standingAt, reading}
 use Rattle.xm.specs.Structure as structure
-use Rattle.xm.proofs.Got.{passed, bind-got, got-carry}
+use Rattle.xm.specs.Demands.{kindNumber}
+use Rattle.xm.proofs.Got.{no-true, passed, bind-got, got-carry}
 use Rattle.tables.specs.Place.{headSizeOf, instrumentAt}
-use Rattle.tables.specs.Standing.{standing, headsAfter, amongHeads}
+use Rattle.tables.specs.Standing.{kindAt, standing, standingOf, standingNumbers, readingNumbers, headsAfter, amongHeads}
 use Rattle.tables.specs.declared.standing.Standing.{Standing}
 use Rattle.tables.specs.declared.standing.Standing.the-variants.{Pattern, Instrument, SampleHeader, End, Refused}
 use Rattle.tables.proofs.InstrumentLaws.{head-found}
@@ -109,3 +112,50 @@ module _ (place : ℕ) where
           ≡ cond b (Instrument at) (orElse (amongHeads place (instrumentAt at s)) (among rest))
       go true hs ds e = refl
       go false hs ds e = e
+
+-- What holds of each region of a list holds of what stands among them
+abbrev pub OfStanding : (Region → Type 0) → structure.Standing → Type 0
+OfStanding P (structure.stands r) = P r
+OfStanding P structure.ended = Unit {0}
+
+pub standing-holds : (P : Region → Type 0) (place : ℕ) (rs : List Region) → All P rs → OfStanding P (standingAt place rs)
+standing-holds P place [] h = tt
+standing-holds P place (r ∷ rs) h = go (leb place (r .place)) (standing-holds P place rs (h .1))
+  where
+    go : (t : Bool) → OfStanding P (standingAt place rs) → OfStanding P (cond t (structure.stands r) (standingAt place rs))
+    go true w = h .0
+    go false w = w
+
+-- and it is a structure, so that its kind is told
+abbrev pub IsStructure : Region → Type 0
+IsStructure r = isStructure (r .kind) ≡ true
+
+pub all-structures : (rs : List Region) → All IsStructure (structuresOf rs)
+all-structures [] = tt
+all-structures (r ∷ rs) = go (isStructure (r .kind)) refl (all-structures rs)
+  where
+    go : (t : Bool) → isStructure (r .kind) ≡ t → All IsStructure (structuresOf rs) → All IsStructure (cond t (r ∷ structuresOf rs) (structuresOf rs))
+    go true e w = (e, w)
+    go false e w = w
+
+kind-told : (kind : Kind) (place : ℕ) → isStructure kind ≡ true → standingNumbers (kindAt kind place) ≡ 0 ∷ 0 ∷ kindNumber kind ∷ place ∷ []
+kind-told header place h = absurd (no-true h)
+kind-told patternHeader place h = refl
+kind-told patternData place h = absurd (no-true h)
+kind-told instrument place h = refl
+kind-told sampleHeader place h = refl
+kind-told sampleData place h = absurd (no-true h)
+
+standing-told : (s : structure.Standing) → OfStanding IsStructure s → standingNumbers (standing s) ≡ readingNumbers (gives s)
+standing-told (structure.stands r) h = kind-told (r .kind) (r .place) h
+standing-told structure.ended h = refl
+
+-- The numbers are the paper's
+pub reading-numbers : (file : List ℕ) (place : ℕ) → standingNumbers (standingOf (reading file place)) ≡ readingNumbers (reading file place)
+unfolding reading
+reading-numbers file place = go (readFile file)
+  where
+    go : (g : Got Found)
+        → standingNumbers (standingOf (answered (λ found end. standingAt place (structures found)) g)) ≡ readingNumbers (answered (λ found end. standingAt place (structures found)) g)
+    go (got found end) = standing-told (standingAt place (structures found)) (standing-holds IsStructure place (structures found) (all-structures (moduleFormat .regions found)))
+    go (refused r) = refl

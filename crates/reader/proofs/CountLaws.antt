@@ -1,0 +1,173 @@
+-- The structures counted one by one, as a reader from the start hands them over. Assumes nothing.
+use Prim.Native.Nat.{ℕ, zero, suc, _+_, _≤_, _<_, _^_}
+use mathlib.Core.Bool.{Bool, true, false, cond}
+use mathlib.Core.List.{List, [], _∷_, _++_}
+use mathlib.Core.Path.{_≡_, refl, sym, ap, _∙_, subst}
+use native.Mathlib.Omega.{arith}
+use lib.Dec.{leb}
+use borrow.Author.Tests.{leb-true}
+use lib.ListN.{length, take, length-append}
+use Rattle.xm.specs.Number.{Bytes}
+use Rattle.xm.specs.Got.{Got, got, refused}
+use Rattle.xm.specs.Format.{Kind, Region, header, patternHeader, patternData, instrument, sampleHeader, sampleData, All}
+use Rattle.xm.specs.Answer.{Answer, gives, answered}
+use Rattle.xm.specs.Module.{Found, moduleFormat, readFile}
+use Rattle.xm.specs.Structure.{isStructure, structures, standingAt, reading, readUpTo, placeAfter}
+use Rattle.xm.specs.Structure as structure
+use Rattle.xm.specs.Demands.{ofKind, regionAt, ReaderHandsOver}
+use Rattle.xm.proofs.Got.{no-true}
+use Rattle.xm.proofs.Answer.{answer-gives, answer-refuses}
+use Rattle.xm.proofs.Format.{cons-path}
+use Rattle.xm.proofs.Region.{kind-append}
+use Rattle.xm.proofs.Structure.{readers-tell}
+use Rattle.tables.specs.Accepted.{listIn}
+use Rattle.tables.specs.Standing.{kindAt, standingOf}
+use Rattle.tables.specs.declared.standing.Standing.{Standing}
+use Rattle.tables.proofs.StandingLaws.{OfStanding, IsStructure, all-structures}
+use Rattle.reader.specs.declared.count.Counts.{Counts}
+use Rattle.reader.specs.Count.{countsOf, handsOver, oneMore, endsAs, counting, countedOf}
+use Rattle.reader.proofs.StepLaws.{OfReading, Inside, all-inside}
+
+-- Lists
+take-next : (rs : List Region) (i : ℕ) → i < length rs → take (suc i) rs ≡ take i rs ++ (regionAt rs i ∷ [])
+take-next [] i l = absurd (omega arith)
+take-next (r ∷ rs) zero l = refl
+take-next (r ∷ rs) (suc i) l = cons-path refl (take-next rs i (omega arith))
+
+take-whole : (rs : List Region) → take (length rs) rs ≡ rs
+take-whole [] = refl
+take-whole (r ∷ rs) = cons-path refl (take-whole rs)
+
+all-at : (P : Region → Type 0) (rs : List Region) (i : ℕ) → All P rs → i < length rs → P (regionAt rs i)
+all-at P [] i h l = absurd (omega arith)
+all-at P (r ∷ rs) zero h l = h .0
+all-at P (r ∷ rs) (suc i) h l = all-at P rs i (h .1) (omega arith)
+
+-- One structure more
+pub kind-count : (kind : Kind) (xs ys : List Region) → length (ofKind kind (xs ++ ys)) ≡ length (ofKind kind xs) + length (ofKind kind ys)
+kind-count kind xs ys = ap length (kind-append kind xs ys) ∙ length-append (ofKind kind xs) (ofKind kind ys)
+
+same-counts : {a b : Counts} → a .patterns ≡ b .patterns → a .instruments ≡ b .instruments → a .samples ≡ b .samples → a ≡ b
+same-counts p q r = λ i. record { patterns = p i; instruments = q i; samples = r i }
+
+abbrev plus : Counts → Counts → Counts
+plus a b = record { patterns = a .patterns + b .patterns; instruments = a .instruments + b .instruments; samples = a .samples + b .samples }
+
+counts-append : (xs ys : List Region) → countsOf (xs ++ ys) ≡ plus (countsOf xs) (countsOf ys)
+counts-append xs ys = same-counts (kind-count patternHeader xs ys) (kind-count instrument xs ys) (kind-count sampleHeader xs ys)
+
+abbrev only : (kind : Kind) (place size : ℕ) → List Region
+only kind place size = record { kind = kind; place = place; size = size } ∷ []
+
+counts-one : (counts : Counts) (kind : Kind) (place size : ℕ) → isStructure kind ≡ true → oneMore counts (kindAt kind place) ≡ plus counts (countsOf (only kind place size))
+counts-one counts header place size h = absurd (no-true h)
+counts-one counts patternHeader place size h = same-counts (omega arith) (omega arith) (omega arith)
+counts-one counts patternData place size h = absurd (no-true h)
+counts-one counts instrument place size h = same-counts (omega arith) (omega arith) (omega arith)
+counts-one counts sampleHeader place size h = same-counts (omega arith) (omega arith) (omega arith)
+counts-one counts sampleData place size h = absurd (no-true h)
+
+hands-kind : (kind : Kind) (place : ℕ) → isStructure kind ≡ true → handsOver (kindAt kind place) ≡ true
+hands-kind header place h = absurd (no-true h)
+hands-kind patternHeader place h = refl
+hands-kind patternData place h = absurd (no-true h)
+hands-kind instrument place h = refl
+hands-kind sampleHeader place h = refl
+hands-kind sampleData place h = absurd (no-true h)
+
+-- No more are counted than were handed over
+abbrev total : Counts → ℕ
+total counts = counts .patterns + counts .instruments + counts .samples
+
+total-more : (kind : Kind) (place size : ℕ) (xs : List Region) → total (countsOf (only kind place size ++ xs)) ≤ total (countsOf xs) + 1
+total-more header place size xs = omega arith
+total-more patternHeader place size xs = omega arith
+total-more patternData place size xs = omega arith
+total-more instrument place size xs = omega arith
+total-more sampleHeader place size xs = omega arith
+total-more sampleData place size xs = omega arith
+
+counts-few : (rs : List Region) (i : ℕ) → total (countsOf (take i rs)) ≤ i
+counts-few rs zero = omega arith
+counts-few [] (suc i) = omega arith
+counts-few (r ∷ rs) (suc i) = omega (arith, total-more (r .kind) (r .place) (r .size) (take i rs), counts-few rs i)
+
+-- A reader goes up: what it hands over stands where it is or after it
+standing-after : (place : ℕ) (rs : List Region) → OfStanding (λ (r : Region). place ≤ r .place) (standingAt place rs)
+standing-after place [] = tt
+standing-after place (r ∷ rs) = go (leb place (r .place)) refl (standing-after place rs)
+  where
+    go : (t : Bool) → leb place (r .place) ≡ t → OfStanding (λ (x : Region). place ≤ x .place) (standingAt place rs)
+        → OfStanding (λ (x : Region). place ≤ x .place) (cond t (structure.stands r) (standingAt place rs))
+    go true e w = leb-true place (r .place) e
+    go false e w = w
+
+reading-after : (file : List ℕ) (place : ℕ) → OfReading (λ (r : Region). place ≤ r .place) (reading file place)
+unfolding reading
+reading-after file place = go (readFile file)
+  where
+    go : (g : Got Found) → OfReading (λ (r : Region). place ≤ r .place) (answered (λ found end. standingAt place (structures found)) g)
+    go (got found end) = standing-after place (structures found)
+    go (refused r) = tt
+
+-- What a reader from the start hands over after i calls
+abbrev pub standAfter : (file : List ℕ) (i : ℕ) → Standing
+standAfter file i = standingOf (reading file (placeAfter file i))
+
+-- A reader that is run to the end, where these are the structures
+pub record Running (file : List ℕ) (rs : List Region) : Type 0 where
+  pub goes-on : (i : ℕ) → i < length rs → handsOver (standAfter file i) ≡ true
+  pub counts-on : (i : ℕ) → i < length rs → oneMore (countsOf (take i rs)) (standAfter file i) ≡ countsOf (take (suc i) rs)
+  pub fits : (i : ℕ) → i < length rs → total (countsOf (take i rs)) + 1 < 2 ^ 64
+  pub stops : handsOver (standAfter file (length rs)) ≡ false
+  pub counted : endsAs (countsOf (take (length rs) rs)) (standAfter file (length rs)) ≡ countedOf (counting file)
+
+module _ (file : List ℕ) (plain : Bytes file) (found : Found) (end : ℕ) (reads : readFile file ≡ got found end) where
+  abbrev rs : List Region
+  rs = structures found
+
+  tell : ReaderHandsOver file found
+  tell = readers-tell .hands-over file found end plain reads
+
+  is-structure : (i : ℕ) → i < length rs → IsStructure (regionAt rs i)
+  is-structure i l = all-at IsStructure rs i (all-structures (moduleFormat .regions found)) l
+
+  climbs : (i : ℕ) → i < length rs → i ≤ regionAt rs i .place
+  climbs zero l = omega arith
+  climbs (suc i) l =
+      let here : placeAfter file (suc i) ≡ regionAt rs i .place + 1 = ap (readUpTo (placeAfter file i)) (tell .each-one i (omega arith)) in
+      let ahead : placeAfter file (suc i) ≤ regionAt rs (suc i) .place =
+      subst (OfReading (λ (r : Region). placeAfter file (suc i) ≤ r .place)) (tell .each-one (suc i) l) (reading-after file (placeAfter file (suc i))) in
+      omega (arith, here, ahead, climbs i (omega arith))
+
+  accepted-runs : Running file rs
+  unfolding counting
+  accepted-runs = record {
+    goes-on = λ i l. ap (λ (answer : Answer structure.Standing). handsOver (standingOf answer)) (tell .each-one i l) ∙ hands-kind (regionAt rs i .kind) (regionAt rs i .place) (is-structure i l);
+    counts-on = λ i l.
+        ap (λ (answer : Answer structure.Standing). oneMore (countsOf (take i rs)) (standingOf answer)) (tell .each-one i l)
+        ∙ counts-one (countsOf (take i rs)) (regionAt rs i .kind) (regionAt rs i .place) (regionAt rs i .size) (is-structure i l)
+        ∙ sym (ap countsOf (take-next rs i l) ∙ counts-append (take i rs) (regionAt rs i ∷ []));
+    fits = λ i l. omega (arith, counts-few rs i, climbs i l, all-at Inside rs i (all-inside file plain found end reads) l);
+    stops = ap (λ (answer : Answer structure.Standing). handsOver (standingOf answer)) (tell .end-then (length rs) (omega arith));
+    counted =
+        ap (λ (answer : Answer structure.Standing). endsAs (countsOf (take (length rs) rs)) (standingOf answer)) (tell .end-then (length rs) (omega arith))
+        ∙ ap (λ (xs : List Region). countedOf (gives (countsOf xs))) (take-whole rs)
+        ∙ sym (ap countedOf (answer-gives _ reads));
+  }
+
+pub running : (file : List ℕ) → Bytes file → Running file (listIn structures (readFile file))
+unfolding counting
+running file plain = go (readFile file) refl
+  where
+    go : (g : Got Found) → readFile file ≡ g → Running file (listIn structures g)
+    go (got found end) e = accepted-runs file plain found end e
+    go (refused r) e =
+        let told = readers-tell .refuses-so file r 0 e in
+        record {
+          goes-on = λ i l. absurd (omega arith);
+          counts-on = λ i l. absurd (omega arith);
+          fits = λ i l. absurd (omega arith);
+          stops = ap (λ (answer : Answer structure.Standing). handsOver (standingOf answer)) told;
+          counted = ap (λ (answer : Answer structure.Standing). endsAs (countsOf []) (standingOf answer)) told ∙ sym (ap countedOf (answer-refuses _ e));
+        }

@@ -1,0 +1,5 @@
+pub mod StepLaws
+pub mod CountLaws
+pub mod Calls
+pub mod KnownBytes
+pub mod CallNext
