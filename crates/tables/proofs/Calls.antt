@@ -2,25 +2,22 @@
 -- at a place. Assumes nothing.
 use Prim.Native.Nat.{ℕ, zero, suc, _+_, _*_, _≤_, _<_}
 use mathlib.Core.List.{List, [], _∷_}
-use mathlib.Core.Path.{_≡_, refl, sym, ap, ap₂, _∙_}
+use mathlib.Core.Path.{_≡_, refl, sym, ap, _∙_}
 use native.Mathlib.Omega.{arith}
 use lib.IntN.{ℤ}
 use lib.ListN.{length, getD, drop}
 use Rattle.xm.specs.Number.{Bytes, part}
-use Rattle.xm.specs.Got.{got}
 use Rattle.xm.specs.Format.{joined}
 use Rattle.xm.specs.Answer.{Answer, gives, refuses}
-use Rattle.xm.specs.Module.{readFile}
 use Rattle.xm.specs.Stored.{Pattern, standard}
 use Rattle.xm.specs.Packing.{cellBytes, unpacking}
 use Rattle.xm.specs.Instrument.{Instrument}
 use Rattle.xm.specs.Delta.{decoding, valuesOf}
 use Rattle.xm.specs.Press.{contentOf}
-use Rattle.xm.specs.Table.{PatternRow, SampleRow, patternRows, sampleRows, Checked, checkedAs, roomTests, checkIntoNumbers, checkingInto, patternStride, sampleStride, patternNumbers, sampleNumbers, Tables, Room, roomOf, tablesAfter}
+use Rattle.xm.specs.Table.{PatternRow, SampleRow, patternRows, sampleRows, Checked, checkIntoNumbers, checkingInto, patternStride, sampleStride, patternNumbers, sampleNumbers, Tables, Room, roomOf, tablesAfter}
 use Rattle.xm.specs.Asking.{Lies, stretchOf, askingFlat, askNumbers, noRow}
 use Rattle.xm.specs.Structure.{reading}
 use Rattle.xm.specs.Demands.{RowUnpacks, RowsUnpack, RowDecodes, RowsDecode, AcceptedFile, liesAt}
-use Rattle.xm.proofs.Answer.{gives-bound, gives-passed, gives-same}
 use Rattle.xm.proofs.Accepted.{accepted-files, number-at}
 use Rattle.walk.specs.declared.Verdict.{Verdict}
 use Rattle.walk.specs.File.{verdictOf, verdictNumbers}
@@ -29,6 +26,7 @@ use Rattle.tables.specs.declared.ask.Asked.{Asked}
 use Rattle.tables.specs.Ask.{askedOf, askedNumbers}
 use Rattle.tables.specs.declared.standing.Standing.{Standing}
 use Rattle.tables.specs.Standing.{standingOf, standingNumbers, readingNumbers}
+use Rattle.tables.proofs.IntoLaws.{into-accepted}
 use Rattle.tables.proofs.StandingLaws.{reading-numbers}
 
 -- The numbers are the paper's
@@ -58,14 +56,6 @@ asked-once file table number met e = met ∙ sym e
 pub standing-once : (file : List ℕ) (place : ℕ) {answer other : Standing} → answer ≡ standingOf (reading file place) → other ≡ standingOf (reading file place) → answer ≡ other
 standing-once file place met e = met ∙ sym e
 
--- An accepted check says what is found
-into-found : (room : Room) (file : List ℕ) (c : Checked) → checkingInto room file ≡ gives c → readFile file ≡ got (c .found) (c .end)
-unfolding checkingInto
-into-found room file c e =
-    gives-bound _ (readFile file) _ e λ found end q d.
-    gives-passed _ (roomTests room found) _ d λ h d.
-    let same : checkedAs found end ≡ c = gives-same d in q ∙ ap₂ got (ap Checked.found same) (ap Checked.end same)
-
 -- What holds row by row holds of the row of a number
 unpacks-at : (file : List ℕ) (channels : ℕ) (rows : List PatternRow) (ps : List Pattern) (row : PatternRow) (p : Pattern) (number : ℕ) → number < length rows
     → RowsUnpack file channels rows ps → RowUnpacks file channels (getD rows number row) (getD ps number p)
@@ -74,7 +64,7 @@ unpacks-at file channels (r ∷ rs) [] row p number low u = absurd u
 unpacks-at file channels (r ∷ rs) (q ∷ qs) row p zero low u = u .0
 unpacks-at file channels (r ∷ rs) (q ∷ qs) row p (suc number) low u = unpacks-at file channels rs qs row p number (omega arith) (u .1)
 
-decodes-at : (file : List ℕ) (rows : List SampleRow) (heads bytes : List (List ℕ)) (number : ℕ) → number < length rows → RowsDecode file rows heads bytes
+pub decodes-at : (file : List ℕ) (rows : List SampleRow) (heads bytes : List (List ℕ)) (number : ℕ) → number < length rows → RowsDecode file rows heads bytes
     → RowDecodes file (getD rows number noRow) (getD heads number []) (getD bytes number [])
 decodes-at file [] heads bytes number low u = absurd (omega arith)
 decodes-at file (r ∷ rs) [] bytes number low u = absurd u
@@ -82,10 +72,18 @@ decodes-at file (r ∷ rs) (h ∷ hs) [] number low u = absurd u
 decodes-at file (r ∷ rs) (h ∷ hs) (b ∷ bs) zero low u = u .0
 decodes-at file (r ∷ rs) (h ∷ hs) (b ∷ bs) (suc number) low u = decodes-at file rs hs bs number (omega arith) (u .1)
 
+-- The content's values of a sample
+abbrev contents : Checked → List Instrument
+contents c = contentOf (c .found) .1 .1
+
+abbrev pub valuesAt : Checked → (number : ℕ) → List ℤ
+valuesAt c number =
+    valuesOf (getD (joined (λ (x : Instrument). x .samples .0) (contents c)) number []) (getD (joined (λ (x : Instrument). x .samples .1) (contents c)) number [])
+
 -- Of the tables that an accepted check leaves
 module _ (file : List ℕ) (plain : Bytes file) (lent : Tables) (c : Checked) (accepted : checkingInto (roomOf lent) file ≡ gives c) where
   found : AcceptedFile file (c .found) (c .end)
-  found = accepted-files file (c .found) (c .end) plain (into-found (roomOf lent) file c accepted)
+  found = accepted-files file (c .found) (c .end) plain (into-accepted (roomOf lent) file c accepted λ q room. q)
 
   abbrev pub filled : Tables
   filled = tablesAfter (checkingInto (roomOf lent) file) lent
@@ -96,14 +94,8 @@ module _ (file : List ℕ) (plain : Bytes file) (lent : Tables) (c : Checked) (a
   filled-asked number low = rw accepted (found .asked .flat (drop (length (joined sampleNumbers (sampleRows (c .found)))) (lent .samples)) number low)
 
   -- which decodes at the row's width to the content's values,
-  abbrev contents : List Instrument
-  contents = contentOf (c .found) .1 .1
-
-  abbrev pub valuesAt : (number : ℕ) → List ℤ
-  valuesAt number = valuesOf (getD (joined (λ (x : Instrument). x .samples .0) contents) number []) (getD (joined (λ (x : Instrument). x .samples .1) contents) number [])
-
   pub filled-decodes : (number : ℕ) → number < length (sampleRows (c .found))
-      → decoding (getD (filled .samples) (sampleStride * number + 3) 0) (stretchOf file (askingFlat file (filled .samples) number)) (length (valuesAt number)) ≡ gives (valuesAt number)
+      → decoding (getD (filled .samples) (sampleStride * number + 3) 0) (stretchOf file (askingFlat file (filled .samples) number)) (length (valuesAt c number)) ≡ gives (valuesAt c number)
   unfolding tablesAfter
   filled-decodes number low =
       let rows = sampleRows (c .found) in

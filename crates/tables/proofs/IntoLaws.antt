@@ -1,8 +1,8 @@
--- The check that fills the tables: refused as the check is, refused for room, or accepted and filled. Assumes nothing.
-use Prim.Native.Nat.{ℕ, _+_, _/_, _≤_}
+-- The check beside rows for samples, and the check into the tables: refused as the check is, refused for room, or accepted and filled. Assumes nothing.
+use Prim.Native.Nat.{ℕ, _+_, _/_, _≤_, min}
 use mathlib.Core.Bool.{Bool, true, false}
 use mathlib.Core.List.{List, [], _∷_}
-use mathlib.Core.Path.{_≡_, refl, sym, ap, _∙_}
+use mathlib.Core.Path.{_≡_, refl, sym, ap, ap₂, _∙_, subst}
 use native.Mathlib.Nat.{min-le-left, min-le-right}
 use native.Mathlib.Omega.{arith}
 use lib.IntN.{ℤ}
@@ -14,8 +14,9 @@ use Rattle.xm.specs.Header.{Header, channelsAt, patternsAt, instrumentsAt, head
 use Rattle.xm.specs.PatternInFile.{patternFormat}
 use Rattle.xm.specs.Instrument.{InstrumentFound, instrumentFormat}
 use Rattle.xm.specs.Module.{Found, readFile}
-use Rattle.xm.specs.Table.{patternRow, patternRows, sampleCount, instrumentRowsFrom, instrumentRows, sampleRows, Checked, checkedAs, checking, checkingInto, Tables, roomOf, tablesAfter, patternStride, instrumentStride, sampleStride, tuneStride, patternNumbers, instrumentNumbers, sampleNumbers, sampleTunes}
+use Rattle.xm.specs.Table.{patternRow, patternRows, sampleCount, instrumentRowsFrom, instrumentRows, sampleRows, Checked, checkedAs, checking, checkingInto, Tables, Room, roomOf, roomTests, tablesAfter, patternStride, instrumentStride, sampleStride, tuneStride, patternNumbers, instrumentNumbers, sampleNumbers, sampleTunes}
 use Rattle.xm.specs.Demands.{RoomFor}
+use Rattle.xm.proofs.Answer.{gives-bound, gives-passed, gives-same}
 use Rattle.xm.proofs.Format.{joined-length, read-length}
 use Rattle.xm.proofs.Demands.{tables-tell}
 use Rattle.refusal.specs.Fault.{faultOf}
@@ -27,9 +28,9 @@ use Rattle.walk.specs.declared.Verdict.{Verdict}
 use Rattle.walk.specs.declared.Verdict.the-variants as verdict
 use Rattle.steps.proofs.Tests.{all-hold, not-all-hold}
 use Rattle.tables.specs.Accepted.{Accepted, listIn}
-use Rattle.tables.specs.Into.{lent, roomFor, roomTestsOf}
+use Rattle.tables.specs.Into.{lent, roomFor, roomTestsOf, patternsAfter, instrumentsAfter}
 use Rattle.tables.proofs.Reading.{file-reads}
-use Rattle.tables.proofs.VerdictLaws.{verdict-got, verdict-refused}
+use Rattle.tables.proofs.VerdictLaws.{never, verdict-got, verdict-refused}
 
 same-module : {x y : Module} → verdict.Accepted x ≡ verdict.Accepted y → x ≡ y
 same-module e = cc
@@ -62,38 +63,51 @@ rows-counted file found end e {x} v =
       samples = sym (ap Module.samples same);
     }
 
-module _ (file patterns instruments samples : List ℕ) (tunes : List ℤ) where
-  abbrev tables : Tables
-  tables = lent patterns instruments samples tunes
+-- Accepted, a check into some room says what is found, and that there is room for it
+module _ (room : Room) (file : List ℕ) where
+  pub into-accepted : {R : Type 0} (c : Checked) → checkingInto room file ≡ gives c → (readFile file ≡ got (c .found) (c .end) → RoomFor room (c .found) → R) → R
+  unfolding checkingInto
+  into-accepted c e k =
+      gives-bound _ (readFile file) _ e λ found end q d.
+      gives-passed _ (roomTests room found) _ d λ h d.
+      let same : checkedAs found end ≡ c = gives-same d in
+      let there : RoomFor room (c .found) = rw (← ap Checked.found same) (h .0, h .1 .0, h .1 .1 .0) in
+      k (q ∙ ap₂ got (ap Checked.found same) (ap Checked.end same)) there
 
+-- Beside so many rows
+module _ (file patterns instruments : List ℕ) (rows : ℕ) where
   abbrev into : Answer Checked
-  into = checkingInto (roomOf tables) file
+  into = checkingInto (roomFor (length patterns) (length instruments) rows) file
 
-  -- what a call answers, and what it leaves in the tables
-  pub record Told (answer : Verdict) (left : Tables) : Type 0 where
+  -- what a call answers, and what it leaves in the two tables
+  pub record Told (answer : Verdict) (patterns′ instruments′ : List ℕ) : Type 0 where
     pub answers : answer ≡ verdictOf into
-    pub leaves : left ≡ tablesAfter into tables
+    pub leaves-patterns : patterns′ ≡ patternsAfter into patterns
+    pub leaves-instruments : instruments′ ≡ instrumentsAfter into instruments
 
-  told-refused : {r : Refusal} → into ≡ refuses r → Told (verdict.Refused (faultOf r)) tables
-  unfolding tablesAfter
-  told-refused e = record { answers = sym (ap verdictOf e); leaves = sym (ap (λ (a : Answer Checked). tablesAfter a tables) e) }
+  told-refused : {r : Refusal} → into ≡ refuses r → Told (verdict.Refused (faultOf r)) patterns instruments
+  told-refused e = record {
+    answers = sym (ap verdictOf e);
+    leaves-patterns = sym (ap (λ (a : Answer Checked). patternsAfter a patterns) e);
+    leaves-instruments = sym (ap (λ (a : Answer Checked). instrumentsAfter a instruments) e);
+  }
 
-  pub into-refused : {v : Verdict} {f : Fault} → v ≡ verdictOf (checking file) → v ≡ verdict.Refused f → Told v tables
-  into-refused e told = verdict-refused file e told λ r q same. rw same (told-refused (tables-tell file (roomOf tables) .own-first r q))
+  pub beside-refused : {v : Verdict} {f : Fault} → v ≡ verdictOf (checking file) → v ≡ verdict.Refused f → Told v patterns instruments
+  beside-refused e told = verdict-refused file e told λ r q same. rw same (told-refused (tables-tell file _ .own-first r q))
 
   module _ {x : Module} (e : verdict.Accepted x ≡ verdictOf (checking file)) where
     accepted : {R : Type 0} → ((found : Found) (end : ℕ) → readFile file ≡ got found end → verdict.Accepted x ≡ verdictOf (gives (checkedAs found end)) → Counted found x → R) → R
     accepted k = verdict-got file e λ found end q v. k found end q v (rows-counted file found end q v)
 
     abbrev fits : Bool
-    fits = allPass (roomTestsOf (roomFor (length patterns) (length instruments) (length samples) (length tunes)) x)
+    fits = allPass (roomTestsOf (roomFor (length patterns) (length instruments) rows) x)
 
-    pub into-cramped : fits ≡ false → Told (verdict.Refused (faultOf (14 at 0))) tables
-    into-cramped f = accepted λ found end q v c.
-        told-refused (tables-tell file (roomOf tables) .no-room-exactly found end q .1
+    pub beside-cramped : fits ≡ false → Told (verdict.Refused (faultOf (14 at 0))) patterns instruments
+    beside-cramped f = accepted λ found end q v c.
+        told-refused (tables-tell file _ .no-room-exactly found end q .1
         (λ h. not-all-hold _ f (omega (arith, h .0, c .patterns), (omega (arith, h .1, c .instruments), (omega (arith, h .2, c .samples), tt)))))
 
-    room-for : fits ≡ true → (found : Found) → Counted found x → RoomFor (roomOf tables) found
+    room-for : fits ≡ true → (found : Found) → Counted found x → RoomFor (roomFor (length patterns) (length instruments) rows) found
     room-for f found c = let h = all-hold _ f in (omega (arith, h .0, c .patterns), omega (arith, h .1 .0, c .instruments), omega (arith, h .1 .1 .0, c .samples))
 
     -- there is room for every number, so that the tables can be filled
@@ -101,39 +115,89 @@ module _ (file patterns instruments samples : List ℕ) (tunes : List ℤ) where
       pub accepts : Accepted (readFile file)
       pub for-patterns : length (joined patternNumbers (listIn patternRows (readFile file))) ≤ length patterns
       pub for-instruments : length (joined instrumentNumbers (listIn instrumentRows (readFile file))) ≤ length instruments
-      pub count : x .samples ≡ length (listIn sampleRows (readFile file))
-      pub for-samples : length (joined sampleNumbers (listIn sampleRows (readFile file))) ≤ length samples
-      pub for-tunes : length (joined sampleTunes (listIn sampleRows (readFile file))) ≤ length tunes
 
-    pub into-roomy : fits ≡ true → Roomy
-    into-roomy f = accepted λ found end q v c.
+    pub beside-roomy : fits ≡ true → Roomy
+    beside-roomy f = accepted λ found end q v c.
         let h = room-for f found c in
-        let l = min-le-left (length samples / sampleStride) (length tunes / tuneStride) in
-        let r = min-le-right (length samples / sampleStride) (length tunes / tuneStride) in
         record {
           accepts = rw q tt;
           for-patterns = rw q (omega (arith, h .0, joined-length patternStride patternNumbers (λ row. refl) (patternRows found)));
           for-instruments = rw q (omega (arith, h .1, joined-length instrumentStride instrumentNumbers (λ row. refl) (instrumentRows found)));
-          count = rw q (sym (c .samples));
-          for-samples = rw q (omega (arith, h .2, l, joined-length sampleStride sampleNumbers (λ row. refl) (sampleRows found)));
-          for-tunes = rw q (omega (arith, h .2, r, joined-length tuneStride sampleTunes (λ row. refl) (sampleRows found)));
         }
 
-    pub into-filled : fits ≡ true → {patterns′ instruments′ samples′ : List ℕ} {tunes′ : List ℤ}
+    pub beside-filled : fits ≡ true → {patterns′ instruments′ : List ℕ}
         → patterns′ ≡ inFront (joined patternNumbers (listIn patternRows (readFile file))) patterns
         → instruments′ ≡ inFront (joined instrumentNumbers (listIn instrumentRows (readFile file))) instruments
-        → samples′ ≡ inFront (joined sampleNumbers (listIn sampleRows (readFile file))) samples
-        → tunes′ ≡ inFront (joined sampleTunes (listIn sampleRows (readFile file))) tunes
-        → Told (verdict.Accepted x) (lent patterns′ instruments′ samples′ tunes′)
-    unfolding tablesAfter
-    into-filled f p i s t = accepted λ found end q v c.
-        let a : into ≡ gives (checkedAs found end) = tables-tell file (roomOf tables) .filled-else found end q (room-for f found c) in
+        → Told (verdict.Accepted x) patterns′ instruments′
+    beside-filled f p i = accepted λ found end q v c.
+        let a : into ≡ gives (checkedAs found end) = tables-tell file _ .filled-else found end q (room-for f found c) in
         record {
           answers = v ∙ sym (ap verdictOf a);
-          leaves =
-              lent-path (p ∙ rw q refl) (i ∙ rw q refl) (s ∙ rw q refl) (t ∙ rw q refl)
-              ∙ sym (ap (λ (a : Answer Checked). tablesAfter a tables) a);
+          leaves-patterns = p ∙ rw q refl ∙ sym (ap (λ (a : Answer Checked). patternsAfter a patterns) a);
+          leaves-instruments = i ∙ rw q refl ∙ sym (ap (λ (a : Answer Checked). instrumentsAfter a instruments) a);
         }
+
+-- Into the tables: beside the rows for samples that are lent as flat numbers, which stay to be filled
+module _ (file patterns instruments samples : List ℕ) (tunes : List ℤ) where
+  abbrev tables : Tables
+  tables = lent patterns instruments samples tunes
+
+  abbrev answer : Answer Checked
+  answer = checkingInto (roomOf tables) file
+
+  abbrev rowsLent : ℕ
+  rowsLent = min (length samples / sampleStride) (length tunes / tuneStride)
+
+  -- what a call answers, and what it leaves in the tables
+  pub record ToldInto (v : Verdict) (left : Tables) : Type 0 where
+    pub answers : v ≡ verdictOf answer
+    pub leaves : left ≡ tablesAfter answer tables
+
+  lent-path : {a b c d e f : List ℕ} {g h : List ℤ} → a ≡ b → c ≡ d → e ≡ f → g ≡ h → lent a c e g ≡ lent b d f h
+  lent-path p q r s = cc
+
+  module _ {rows : ℕ} {v : Verdict} {patterns′ instruments′ : List ℕ} (n : rows ≡ rowsLent) (told : Told file patterns instruments rows v patterns′ instruments′) where
+    here : Told file patterns instruments rowsLent v patterns′ instruments′
+    here = subst (λ (rows : ℕ). Told file patterns instruments rows v patterns′ instruments′) n told
+
+    pub into-refused : {f : Fault} → v ≡ verdict.Refused f → ToldInto v (lent patterns′ instruments′ samples tunes)
+    unfolding tablesAfter
+    into-refused refused = record { answers = here .answers; leaves = go answer refl }
       where
-        lent-path : {a b c d e f : List ℕ} {g h : List ℤ} → a ≡ b → c ≡ d → e ≡ f → g ≡ h → lent a c e g ≡ lent b d f h
-        lent-path p q r s = cc
+        go : (a : Answer Checked) → answer ≡ a → lent patterns′ instruments′ samples tunes ≡ tablesAfter answer tables
+        go (gives c) q = never (sym (here .answers ∙ ap verdictOf q) ∙ refused)
+        go (refuses r) q = rw q (lent-path (here .leaves-patterns ∙ rw q refl) (here .leaves-instruments ∙ rw q refl) refl refl)
+
+    module _ {x : Module} (is : v ≡ verdict.Accepted x) where
+      accepts : {R : Type 0} → ((c : Checked) → answer ≡ gives c → readFile file ≡ got (c .found) (c .end) → RoomFor (roomOf tables) (c .found) → x .samples ≡ length (sampleRows (c .found)) → R) → R
+      accepts {R} k = go answer refl
+        where
+          go : (a : Answer Checked) → answer ≡ a → R
+          go (gives c) q = into-accepted (roomOf tables) file c q λ found h. k c q found h (ap Module.samples (same-module (sym is ∙ here .answers ∙ ap verdictOf q)))
+          go (refuses r) q = never (sym is ∙ here .answers ∙ ap verdictOf q)
+
+      -- there is room for every number of a sample
+      pub record RoomyInto : Type 0 where
+        pub count : x .samples ≡ length (listIn sampleRows (readFile file))
+        pub for-samples : length (joined sampleNumbers (listIn sampleRows (readFile file))) ≤ length samples
+        pub for-tunes : length (joined sampleTunes (listIn sampleRows (readFile file))) ≤ length tunes
+
+      pub into-roomy : RoomyInto
+      into-roomy = accepts λ c q found h n.
+          let l = min-le-left (length samples / sampleStride) (length tunes / tuneStride) in
+          let r = min-le-right (length samples / sampleStride) (length tunes / tuneStride) in
+          record {
+            count = rw found n;
+            for-samples = rw found (omega (arith, h .2, l, joined-length sampleStride sampleNumbers (λ row. refl) (sampleRows (c .found))));
+            for-tunes = rw found (omega (arith, h .2, r, joined-length tuneStride sampleTunes (λ row. refl) (sampleRows (c .found))));
+          }
+
+      pub into-filled : {samples′ : List ℕ} {tunes′ : List ℤ}
+          → samples′ ≡ inFront (joined sampleNumbers (listIn sampleRows (readFile file))) samples
+          → tunes′ ≡ inFront (joined sampleTunes (listIn sampleRows (readFile file))) tunes
+          → ToldInto (verdict.Accepted x) (lent patterns′ instruments′ samples′ tunes′)
+      unfolding tablesAfter
+      into-filled s t = accepts λ c q found h n. record {
+        answers = sym is ∙ here .answers;
+        leaves = rw q (lent-path (here .leaves-patterns ∙ rw q refl) (here .leaves-instruments ∙ rw q refl) (s ∙ rw found refl) (t ∙ rw found refl));
+      }

@@ -15,7 +15,7 @@ use Rattle.walk.specs.declared.Verdict.{Verdict}
 use Rattle.walk.specs.declared.Verdict.the-variants as verdict
 
 -- A verdict is one of the two
-never : {A : Type 0} {x : Module} {f : Fault} → verdict.Accepted x ≡ verdict.Refused f → A
+pub never : {A : Type 0} {x : Module} {f : Fault} → verdict.Accepted x ≡ verdict.Refused f → A
 never e = absurd (let z : _≡_ {A = ℕ} 0 1 = cc in omega arith)
 
 pub verdict-got : {R : Type 0} (file : List ℕ) {x : Module} → verdict.Accepted x ≡ verdictOf (checking file)

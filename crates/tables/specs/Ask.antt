@@ -1,9 +1,12 @@
 -- What is answered to a sample asked for by number: this paper's place and length, or its refusal.
-use Prim.Native.Nat.{ℕ}
+use Prim.Native.Nat.{ℕ, _+_, _≤_}
 use mathlib.Core.List.{List, [], _∷_}
+use lib.ListN.{length}
+use Rattle.xm.specs.Number.{part}
 use Rattle.xm.specs.Answer.{Answer, gives, refuses}
 use Rattle.xm.specs.Asking.{Lies}
 use Rattle.refusal.specs.Fault.{faultOf}
+use Rattle.tables.specs.declared.ask.Stretch.{Stretch}
 use Rattle.tables.specs.declared.ask.Asked.{Asked}
 use Rattle.tables.specs.declared.ask.Asked.the-variants as asked
 
@@ -15,3 +18,20 @@ askedOf (refuses r) = asked.Refused (faultOf r)
 abbrev pub askedNumbers : Asked → List ℕ
 askedNumbers (asked.Lies stretch) = 0 ∷ 0 ∷ stretch .place ∷ stretch .length ∷ []
 askedNumbers (asked.Refused fault) = fault .number ∷ fault .place ∷ 0 ∷ 0 ∷ []
+
+-- The data that a row speaks of.
+abbrev pub liesIn : Stretch → Lies
+liesIn row = record { place = row .place; size = row .length }
+
+-- What an answer speaks of is inside the file; as its very stretch; and 0 or the refusal's number.
+abbrev pub Inside : (file : List ℕ) → Asked → Type 0
+Inside file (asked.Lies stretch) = stretch .place + stretch .length ≤ length file
+Inside file (asked.Refused fault) = Unit {0}
+
+abbrev pub stretchAsked : (file : List ℕ) → Asked → List ℕ
+stretchAsked file (asked.Lies stretch) = part (stretch .place) (stretch .length) file
+stretchAsked file (asked.Refused fault) = []
+
+abbrev pub refusalAsked : Asked → ℕ
+refusalAsked (asked.Lies stretch) = 0
+refusalAsked (asked.Refused fault) = fault .number

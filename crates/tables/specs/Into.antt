@@ -1,10 +1,11 @@
 -- The check that fills the tables: what is lent, and its room.
-use Prim.Native.Nat.{ℕ, _/_, min}
+use Prim.Native.Nat.{ℕ, _/_}
 use mathlib.Core.List.{List, [], _∷_}
 use lib.IntN.{ℤ}
 use Rattle.xm.specs.Got.{Test, present, _at_}
-use Rattle.xm.specs.Answer.{Answer}
-use Rattle.xm.specs.Table.{Checked, patternStride, instrumentStride, sampleStride, tuneStride, Tables, Room, roomOf, checkingInto, tablesAfter}
+use Rattle.xm.specs.Format.{joined}
+use Rattle.xm.specs.Answer.{Answer, after}
+use Rattle.xm.specs.Table.{Checked, patternRows, instrumentRows, patternNumbers, instrumentNumbers, patternStride, instrumentStride, Tables, Room, roomOf, checkingInto, tablesAfter}
 use Rattle.walk.specs.declared.Module.{Module}
 
 abbrev pub lent : (patterns instruments samples : List ℕ) (tunes : List ℤ) → Tables
@@ -17,14 +18,17 @@ checkedInto file tables = checkingInto (roomOf tables) file
 abbrev pub tablesThen : (file : List ℕ) → Tables → Tables
 tablesThen file tables = tablesAfter (checkedInto file tables) tables
 
--- The room by the lengths of what is lent, and its tests by the counts of an accepted file.
-abbrev pub roomFor : (patterns instruments samples tunes : ℕ) → Room
-roomFor patterns instruments samples tunes = record {
-  patterns = patterns / patternStride;
-  instruments = instruments / instrumentStride;
-  samples = min (samples / sampleStride) (tunes / tuneStride);
-}
+-- The room by the lengths of what is lent, and the rows for samples; and its tests by the counts of an accepted file.
+abbrev pub roomFor : (patterns instruments rows : ℕ) → Room
+roomFor patterns instruments rows = record { patterns = patterns / patternStride; instruments = instruments / instrumentStride; samples = rows }
 
 abbrev pub roomTestsOf : Room → Module → List Test
 roomTestsOf room x =
     present (x .patterns) (room .patterns) (14 at 0) ∷ present (x .instruments) (room .instruments) (14 at 0) ∷ present (x .samples) (room .samples) (14 at 0) ∷ []
+
+-- The pattern table and the instrument table afterwards, each by itself.
+abbrev pub patternsAfter : Answer Checked → (lent : List ℕ) → List ℕ
+patternsAfter = after (λ (c : Checked). joined patternNumbers (patternRows (c .found)))
+
+abbrev pub instrumentsAfter : Answer Checked → (lent : List ℕ) → List ℕ
+instrumentsAfter = after (λ (c : Checked). joined instrumentNumbers (instrumentRows (c .found)))

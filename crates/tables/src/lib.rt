@@ -17,19 +17,26 @@ use walk::Module;
 use walk::Verdict;
 use walk::check;
 ghost use mathlib.Core.Path.{_≡_};
+ghost use Prim.Native.Nat.{_/_, min};
+ghost use lib.ListN.{length};
+ghost use Rattle.xm.specs.Table.{sampleStride, tuneStride, checkingInto};
 ghost use Rattle.steps.specs.Test.{allPass};
 ghost use Rattle.walk.specs.File.{verdictOf};
-ghost use Rattle.tables.specs.Into.{lent, checkedInto, tablesThen, roomFor, roomTestsOf};
+ghost use Rattle.tables.specs.Into.{lent, checkedInto, tablesThen, roomFor, roomTestsOf, patternsAfter, instrumentsAfter};
 
-// Whether each table has a row for each structure. What is left of a last row that is not whole counts for none.
-fn has_room(
-    found: Module,
-    patterns: usize,
-    instruments: usize,
-    samples: usize,
-    tunes: usize,
-) -> bool
-    ensures { λ r. ⌜ r ≡ allPass (roomTestsOf (roomFor patterns instruments samples tunes) found) ⌝ }
+// How many rows are lent for samples: four numbers to a row, and apart its two tunes. What is left of a last row that is not whole
+// counts for none.
+fn rows_lent(samples: usize, tunes: usize) -> usize
+    ensures { λ r. ⌜ r ≡ min (samples / sampleStride) (tunes / tuneStride) ⌝ }
+{
+    let rows = samples / SAMPLE_STRIDE;
+    let tuned = tunes / TUNE_STRIDE;
+    if rows < tuned { rows } else { tuned }
+}
+
+// Whether there is a row for each structure: the pattern and instrument tables by their numbers, the samples' by its rows.
+fn has_room(found: Module, patterns: usize, instruments: usize, rows: usize) -> bool
+    ensures { λ r. ⌜ r ≡ allPass (roomTestsOf (roomFor patterns instruments rows) found) ⌝ }
 {
     if patterns / PATTERN_STRIDE < found.patterns {
         return false;
@@ -37,13 +44,39 @@ fn has_room(
     if instruments / INSTRUMENT_STRIDE < found.instruments {
         return false;
     }
-    if samples / SAMPLE_STRIDE < found.samples {
-        return false;
-    }
-    if tunes / TUNE_STRIDE < found.samples {
+    if rows < found.samples {
         return false;
     }
     true
+}
+
+// The check of a file beside so many rows for its samples, which are filled apart: once nothing can be refused any more it fills the
+// pattern and instrument tables, three numbers to a row.
+pub fn check_beside(
+    file: &[u8],
+    patterns: &mut [u32],
+    instruments: &mut [u32],
+    rows: usize,
+) -> Verdict
+    ensures answer { λ r. ⌜ r ≡ verdictOf (checkingInto (roomFor (length (now (patterns .entry))) (length (now (instruments .entry))) rows) (now (file .entry))) ⌝ }
+    ensures patterns { λ _. ⌜ now (patterns .exit)
+        ≡ patternsAfter (checkingInto (roomFor (length (now (patterns .entry))) (length (now (instruments .entry))) rows) (now (file .entry))) (now (patterns .entry)) ⌝ }
+    ensures instruments { λ _. ⌜ now (instruments .exit)
+        ≡ instrumentsAfter (checkingInto (roomFor (length (now (patterns .entry))) (length (now (instruments .entry))) rows) (now (file .entry))) (now (instruments .entry)) ⌝ }
+{
+    let verdict = check(file);
+    let Verdict::Accepted(found) = verdict else {
+        return verdict;
+    };
+    if !has_room(found, patterns.len(), instruments.len(), rows) {
+        return Verdict::Refused(Fault {
+            number: 14,
+            place: 0,
+        });
+    }
+    fill_patterns(file, patterns);
+    fill_instruments(file, instruments);
+    verdict
 }
 
 // The check of a file, which fills the three tables once nothing can be refused any more: three numbers to a pattern, three to an
@@ -59,24 +92,11 @@ pub fn check_into(
     ensures memory { λ _. ⌜ lent (now (patterns .exit)) (now (instruments .exit)) (now (samples .exit)) (now (tunes .exit))
         ≡ tablesThen (now (file .entry)) (lent (now (patterns .entry)) (now (instruments .entry)) (now (samples .entry)) (now (tunes .entry))) ⌝ }
 {
-    let verdict = check(file);
+    let rows = rows_lent(samples.len(), tunes.len());
+    let verdict = check_beside(file, patterns, instruments, rows);
     let Verdict::Accepted(found) = verdict else {
         return verdict;
     };
-    if !has_room(
-        found,
-        patterns.len(),
-        instruments.len(),
-        samples.len(),
-        tunes.len(),
-    ) {
-        return Verdict::Refused(Fault {
-            number: 14,
-            place: 0,
-        });
-    }
-    fill_patterns(file, patterns);
-    fill_instruments(file, instruments);
     fill_samples(file, found.samples, samples, tunes);
     verdict
 }

@@ -1,7 +1,5 @@
 -- `tables::has_room` meets its contract. Assumes nothing.
-use Prim.Native.Nat.{_/_}
 use mathlib.Core.Path.{sym}
-use native.Mathlib.Nat.{le-min, min-le-left, min-le-right}
 use native.Mathlib.Omega.{arith}
 use Rattle.steps.proofs.Tests.{all-pass, not-all-pass}
 use Rattle.tables.proofs.has_room.Statement.{statement}
@@ -14,15 +12,10 @@ returns-2 : tie.Need-returns-2
 returns-2 c = sym (not-all-pass _ (λ h. omega (arith, h .1 .0)))
 
 returns-3 : tie.Need-returns-3
-returns-3 c =
-    let a = c .before .before .before .before .before .before .args in sym (not-all-pass _ (λ h. omega (arith, h .1 .1 .0, min-le-left (a .samples / 4) (a .tunes / 2))))
+returns-3 c = sym (not-all-pass _ (λ h. omega (arith, h .1 .1 .0)))
 
 returns-4 : tie.Need-returns-4
-returns-4 c =
-    let a = c .before .before .before .before .before .before .before .before .args in sym (not-all-pass _ (λ h. omega (arith, h .1 .1 .0, min-le-right (a .samples / 4) (a .tunes / 2))))
-
-returns-5 : tie.Need-returns-5
-returns-5 c = sym (all-pass _ (omega arith, (omega arith, (le-min (omega arith) (omega arith), tt))))
+returns-4 c = sym (all-pass _ (omega arith, (omega arith, (omega arith, tt))))
 
 pub has-room-spec : {M : Type 1} → statement M
-has-room-spec = tie.close (tie.spec returns returns-2 returns-3 returns-4 returns-5)
+has-room-spec = tie.close (tie.spec returns returns-2 returns-3 returns-4)

@@ -1,0 +1,163 @@
+-- What holds of every answer and memory that meet the contracts of the check with records and of the calls about a record. Assumes nothing.
+use Prim.Native.Nat.{ℕ, zero, suc, _/_, _<_, _≤_, min}
+use mathlib.Core.List.{List, [], _∷_, _++_, map}
+use mathlib.Core.Path.{_≡_, refl, sym, ap, ap₂, _∙_}
+use lib.IntN.{ℤ}
+use lib.ListN.{length, getD, take, drop, length-map, List·getD-append, List·getD-map}
+use lib.Seq.{take-append-seam}
+use native.Mathlib.Omega.{arith}
+use Rattle.xm.specs.Number.{Bytes}
+use Rattle.xm.specs.Got.{Refusal, _at_}
+use Rattle.xm.specs.Format.{joined}
+use Rattle.xm.specs.Answer.{Answer, gives, refuses, inFront}
+use Rattle.xm.specs.Delta.{decoding}
+use Rattle.xm.specs.Table.{Checked, sampleRows, sampleStride, tuneStride, checkIntoNumbers, checkingInto, roomWith, rowsAfter, Tables, tablesAfter}
+use Rattle.xm.specs.Table as paper
+use Rattle.xm.specs.Asking.{stretchOf, askingRows, noRow}
+use Rattle.xm.specs.Demands.{AcceptedFile, liesAt}
+use Rattle.xm.proofs.Accepted.{accepted-files}
+use Rattle.xm.proofs.Table.{joined-map}
+use Rattle.refusal.specs.Fault.{faultOf}
+use Rattle.walk.specs.File.{verdictOf, verdictNumbers}
+use Rattle.walk.specs.declared.Verdict.{Verdict}
+use Rattle.tables.specs.Into.{lent, checkedInto, roomFor, patternsAfter, instrumentsAfter}
+use Rattle.tables.specs.Place.{sampleRow, numbersOf, tunesOf}
+use Rattle.tables.specs.declared.sample.SampleRow.{SampleRow}
+use Rattle.tables.proofs.Calls.{into-numbers, decodes-at, valuesAt}
+use Rattle.tables.proofs.IntoLaws.{into-accepted}
+use Rattle.records.specs.Records.{rowOf, rowsOf, recordsOf, noRecord, checkedRecords, recordsAfter, rowAsking, rowAskingIn, rowAskedOf, rowAskedNumbers, rowAskedTunes, rowNumbers, rowTunes}
+use Rattle.records.specs.declared.row.RowAsked.{RowAsked}
+use Rattle.records.specs.declared.row.RowAsked.the-variants as asked
+use Rattle.records.proofs.Records.{Told, row-lent, row-beyond, asks-row}
+
+-- The numbers are the paper's
+pub records-numbers : (file patterns instruments : List ℕ) (records : List SampleRow) {answer : Verdict} → answer ≡ verdictOf (checkedRecords file patterns instruments records)
+    → verdictNumbers answer ≡ checkIntoNumbers (roomWith patterns instruments (rowsOf records)) file
+records-numbers file patterns instruments records met = into-numbers (roomWith patterns instruments (rowsOf records)) file met
+
+numbers-same : (answer : Answer paper.SampleRow) → rowAskedNumbers (rowAskedOf answer) ≡ rowNumbers answer
+numbers-same (gives row) = refl
+numbers-same (refuses r) = refl
+
+tunes-same : (answer : Answer paper.SampleRow) → rowAskedTunes (rowAskedOf answer) ≡ rowTunes answer
+tunes-same (gives row) = refl
+tunes-same (refuses r) = refl
+
+module _ (records : List SampleRow) (number : ℕ) {answer : RowAsked} (met : answer ≡ rowAskedOf (rowAskingIn (rowsOf records) number)) where
+  pub row-numbers : rowAskedNumbers answer ≡ rowNumbers (rowAskingIn (rowsOf records) number)
+  row-numbers = ap rowAskedNumbers met ∙ numbers-same (rowAskingIn (rowsOf records) number)
+
+  pub row-tunes : rowAskedTunes answer ≡ rowTunes (rowAskingIn (rowsOf records) number)
+  row-tunes = ap rowAskedTunes met ∙ tunes-same (rowAskingIn (rowsOf records) number)
+
+  -- A row lent is given as it stands, and 16 else
+  asked-here : answer ≡ rowAskedOf (rowAsking (length records) number (rowOf (getD records number noRecord)))
+  asked-here = met ∙ sym (ap rowAskedOf (asks-row records number))
+
+  pub row-given : number < length records → answer ≡ asked.Row (getD records number noRecord)
+  row-given low = asked-here ∙ sym (row-lent (length records) number (getD records number noRecord) low)
+
+  pub row-refused : length records ≤ number → answer ≡ asked.Refused (faultOf (16 at 0))
+  row-refused high = asked-here ∙ sym (row-beyond (length records) number (getD records number noRecord) high)
+
+  -- No second answer fits
+  pub row-once : (other : RowAsked) → other ≡ rowAskedOf (rowAskingIn (rowsOf records) number) → answer ≡ other
+  row-once other e = met ∙ sym e
+
+-- nor another answer of the check, nor other tables or records
+pub records-once : (file patterns instruments : List ℕ) (records : List SampleRow) {answer other : Verdict} {patterns₁ patterns₂ instruments₁ instruments₂ : List ℕ} {records₁ records₂ : List SampleRow}
+    → Told file patterns instruments records answer patterns₁ instruments₁ records₁ → Told file patterns instruments records other patterns₂ instruments₂ records₂
+    → (answer ≡ other) × (patterns₁ ≡ patterns₂) × (instruments₁ ≡ instruments₂) × (records₁ ≡ records₂)
+records-once file patterns instruments records t u = (
+  t .answers ∙ sym (u .answers),
+  t .leaves-patterns ∙ sym (u .leaves-patterns),
+  t .leaves-instruments ∙ sym (u .leaves-instruments),
+  t .leaves-records ∙ sym (u .leaves-records),
+)
+
+-- A refused check changes nothing
+pub records-unchanged : (file patterns instruments : List ℕ) (records : List SampleRow) {answer : Verdict} {patterns₁ instruments₁ : List ℕ} {records₁ : List SampleRow} {r : Refusal}
+    → Told file patterns instruments records answer patterns₁ instruments₁ records₁ → checkedRecords file patterns instruments records ≡ refuses r
+    → (patterns₁ ≡ patterns) × (instruments₁ ≡ instruments) × (records₁ ≡ records)
+records-unchanged file patterns instruments records t e = (
+  t .leaves-patterns ∙ ap (λ (a : Answer Checked). patternsAfter a patterns) e,
+  t .leaves-instruments ∙ ap (λ (a : Answer Checked). instrumentsAfter a instruments) e,
+  t .leaves-records ∙ ap (λ (a : Answer Checked). recordsAfter a records) e,
+)
+
+-- The same answer as of the check into flat tables that have as many rows
+pub same-answer : (file patterns instruments samples : List ℕ) (tunes : List ℤ) (records : List SampleRow) → min (length samples / sampleStride) (length tunes / tuneStride) ≡ length records
+    → checkedInto file (lent patterns instruments samples tunes) ≡ checkedRecords file patterns instruments records
+same-answer file patterns instruments samples tunes records e =
+    ap (λ (rows : ℕ). checkingInto (roomFor (length patterns) (length instruments) rows) file) (e ∙ sym (length-map records rowOf))
+
+-- The records afterwards are the paper's rows afterwards
+map-append : {A B : Type 0} (f : A → B) (xs ys : List A) → map f (xs ++ ys) ≡ map f xs ++ map f ys
+map-append f [] ys = refl
+map-append f (x ∷ xs) ys = ap (λ (zs : List _). f x ∷ zs) (map-append f xs ys)
+
+map-drop : {A B : Type 0} (f : A → B) (n : ℕ) (xs : List A) → map f (drop n xs) ≡ drop n (map f xs)
+map-drop f zero xs = refl
+map-drop f (suc n) [] = refl
+map-drop f (suc n) (x ∷ xs) = map-drop f n xs
+
+rows-records : (rows : List paper.SampleRow) → rowsOf (recordsOf rows) ≡ rows
+rows-records [] = refl
+rows-records (r ∷ rows) = ap (λ (more : List paper.SampleRow). r ∷ more) (rows-records rows)
+
+pub rows-in-front : (rows : List paper.SampleRow) (records : List SampleRow) → rowsOf (inFront (recordsOf rows) records) ≡ inFront rows (rowsOf records)
+rows-in-front rows records =
+    map-append rowOf (recordsOf rows) (drop (length (recordsOf rows)) records)
+    ∙ ap₂ (λ (front beyond : List paper.SampleRow). front ++ beyond) (rows-records rows)
+    (map-drop rowOf (length (recordsOf rows)) records ∙ ap (λ (n : ℕ). drop n (rowsOf records)) (length-map rows sampleRow))
+
+pub rows-after : (answer : Answer Checked) (records : List SampleRow) → rowsOf (recordsAfter answer records) ≡ rowsAfter answer (rowsOf records)
+rows-after (gives c) records = rows-in-front (sampleRows (c .found)) records
+rows-after (refuses r) records = refl
+
+-- and the same rows as the flat tables': their numbers are those of the records, in the same order
+module _ (c : Checked) (tables : Tables) (records : List SampleRow) where
+  abbrev stored : List SampleRow
+  stored = take (length (sampleRows (c .found))) (recordsAfter (gives c) records)
+
+  stored-all : stored ≡ recordsOf (sampleRows (c .found))
+  stored-all =
+      ap (λ (n : ℕ). take n (recordsAfter (gives c) records)) (sym (length-map (sampleRows (c .found)) sampleRow))
+      ∙ take-append-seam (recordsOf (sampleRows (c .found))) (drop (length (recordsOf (sampleRows (c .found)))) records)
+
+  pub same-numbers : tablesAfter (gives c) tables .samples ≡ inFront (joined numbersOf stored) (tables .samples)
+  unfolding tablesAfter
+  same-numbers =
+      ap (λ (written : List ℕ). inFront written (tables .samples)) (sym (ap (joined numbersOf) stored-all ∙ joined-map numbersOf sampleRow (sampleRows (c .found))))
+
+  pub same-tunes : tablesAfter (gives c) tables .tunes ≡ inFront (joined tunesOf stored) (tables .tunes)
+  unfolding tablesAfter
+  same-tunes =
+      ap (λ (written : List ℤ). inFront written (tables .tunes)) (sym (ap (joined tunesOf) stored-all ∙ joined-map tunesOf sampleRow (sampleRows (c .found))))
+
+-- Of the records that an accepted check leaves
+module _ (file : List ℕ) (plain : Bytes file) (patterns instruments : List ℕ) (records : List SampleRow) (c : Checked) (accepted : checkedRecords file patterns instruments records ≡ gives c)
+    (number : ℕ) (low : number < length (sampleRows (c .found))) where
+  found : AcceptedFile file (c .found) (c .end)
+  found = accepted-files file (c .found) (c .end) plain (into-accepted _ file c accepted λ q room. q)
+
+  abbrev pub after : List SampleRow
+  after = recordsAfter (checkedRecords file patterns instruments records) records
+
+  -- each is that of its sample,
+  pub stored-record : getD after number noRecord ≡ sampleRow (getD (sampleRows (c .found)) number noRow)
+  stored-record =
+      ap (λ (answer : Answer Checked). getD (recordsAfter answer records) number noRecord) accepted
+      ∙ List·getD-append (recordsOf (sampleRows (c .found))) _ noRecord number (omega (arith, low, length-map (sampleRows (c .found)) sampleRow))
+      ∙ List·getD-map sampleRow (sampleRows (c .found)) number noRow
+
+  -- is handed back as the content's stretch,
+  pub stored-asked : askingRows file (rowsOf after) number ≡ gives (liesAt (sampleRows (c .found)) number)
+  stored-asked =
+      ap (λ (answer : Answer Checked). askingRows file (rowsOf (recordsAfter answer records)) number) accepted
+      ∙ ap (λ (rows : List paper.SampleRow). askingRows file rows number) (rows-in-front (sampleRows (c .found)) records)
+      ∙ found .asked .records (drop (length (sampleRows (c .found))) (rowsOf records)) number low
+
+  -- and decodes at its width to the content's values.
+  pub stored-decodes : decoding (getD after number noRecord .width) (stretchOf file (askingRows file (rowsOf after) number)) (length (valuesAt c number)) ≡ gives (valuesAt c number)
+  stored-decodes = rw (stored-record, stored-asked) (decodes-at file (sampleRows (c .found)) _ _ number low (found .rows-decode) .1)

@@ -1,0 +1,94 @@
+-- "The sample table is a lent row of records, one to a sample": the paper's rows, as the code has them.
+use Prim.Native.Nat.{ℕ, _+_}
+use mathlib.Core.List.{List, [], _∷_, map}
+use lib.IntN.{ℤ, pos}
+use lib.ListN.{length, getD}
+use Rattle.xm.specs.Got.{got, _>>_, checked, present, _at_}
+use Rattle.xm.specs.Answer.{Answer, gives, refuses, answered, numbers, after}
+use Rattle.xm.specs.Module.{readFile}
+use Rattle.xm.specs.Table.{Checked, sampleRows, sampleTunes, roomWith, checkingInto}
+use Rattle.xm.specs.Table as paper
+use Rattle.xm.specs.Asking.{Lies, noRow}
+use Rattle.refusal.specs.Fault.{faultOf}
+use Rattle.walk.specs.declared.Verdict.{Verdict}
+use Rattle.walk.specs.declared.Verdict.the-variants as verdict
+use Rattle.tables.specs.Accepted.{listIn}
+use Rattle.tables.specs.Place.{sampleRow, numbersOf, tunesOf}
+use Rattle.tables.specs.declared.ask.Stretch.{Stretch}
+use Rattle.tables.specs.declared.sample.SampleRow.{SampleRow}
+use Rattle.records.specs.declared.row.RowAsked.{RowAsked}
+use Rattle.records.specs.declared.row.RowAsked.the-variants as asked
+
+-- A record as the paper's row, and rows; `sampleRow` goes the other way.
+abbrev pub rowOf : SampleRow → paper.SampleRow
+rowOf r = record {
+  headerPlace = r .«header_place»;
+  dataPlace = r .«data_place»;
+  size = r .length;
+  width = r .width;
+  finetune = r .finetune;
+  relativeNote = r .«relative_note»;
+}
+
+abbrev pub rowsOf : List SampleRow → List paper.SampleRow
+rowsOf = map rowOf
+
+abbrev pub recordsOf : List paper.SampleRow → List SampleRow
+recordsOf = map sampleRow
+
+abbrev pub noRecord : SampleRow
+noRecord = sampleRow noRow
+
+-- The records of a file's samples: of a refused file none.
+abbrev pub recordsIn : (file : List ℕ) → List SampleRow
+recordsIn file = recordsOf (listIn sampleRows (readFile file))
+
+-- What the check answers where these records are lent, and what they hold afterwards: each row the record of that sample, "rows beyond
+-- the count stay", and on a refusal every row.
+abbrev pub checkedRecords : (file patterns instruments : List ℕ) (records : List SampleRow) → Answer Checked
+checkedRecords file patterns instruments records = checkingInto (roomWith patterns instruments (rowsOf records)) file
+
+abbrev pub recordsAfter : Answer Checked → (lent : List SampleRow) → List SampleRow
+recordsAfter = after (λ (c : Checked). recordsOf (sampleRows (c .found)))
+
+-- How many rows an answer gives.
+abbrev pub samplesOf : Verdict → ℕ
+samplesOf (verdict.Accepted found) = found .samples
+samplesOf (verdict.Refused fault) = 0
+
+-- The data that a row speaks of.
+abbrev pub liesOf : paper.SampleRow → Lies
+liesOf row = record { place = row .dataPlace; size = row .size }
+
+abbrev pub stretchIn : SampleRow → Stretch
+stretchIn row = record { place = row .«data_place»; length = row .length }
+
+-- A row asked for by number: "a number at or above the rows lent" is out of its range.
+unfoldable pub rowAsking : (rows number : ℕ) (row : paper.SampleRow) → Answer paper.SampleRow
+rowAsking rows number row = answered (λ row used. row) (do
+  checked (present (number + 1) rows (16 at 0) ∷ [])
+  got row 0)
+
+abbrev pub rowAskingIn : (rows : List paper.SampleRow) (number : ℕ) → Answer paper.SampleRow
+rowAskingIn rows number = rowAsking (length rows) number (getD rows number noRow)
+
+abbrev pub rowAskedOf : Answer paper.SampleRow → RowAsked
+rowAskedOf (gives row) = asked.Row (sampleRow row)
+rowAskedOf (refuses r) = asked.Refused (faultOf r)
+
+-- The paper's numbers for each case: number and place of the refusal, header place, data place, length, width; and the two tunes.
+abbrev pub rowAskedNumbers : RowAsked → List ℕ
+rowAskedNumbers (asked.Row row) = 0 ∷ 0 ∷ numbersOf row
+rowAskedNumbers (asked.Refused fault) = fault .number ∷ fault .place ∷ 0 ∷ 0 ∷ 0 ∷ 0 ∷ []
+
+abbrev pub rowAskedTunes : RowAsked → List ℤ
+rowAskedTunes (asked.Row row) = tunesOf row
+rowAskedTunes (asked.Refused fault) = pos 0 ∷ pos 0 ∷ []
+
+-- and the same of the definition's answer.
+abbrev pub rowNumbers : Answer paper.SampleRow → List ℕ
+rowNumbers = numbers (paper.SampleRow.headerPlace ∷ paper.SampleRow.dataPlace ∷ paper.SampleRow.size ∷ paper.SampleRow.width ∷ [])
+
+abbrev pub rowTunes : Answer paper.SampleRow → List ℤ
+rowTunes (gives row) = sampleTunes row
+rowTunes (refuses r) = pos 0 ∷ pos 0 ∷ []
