@@ -1,5 +1,5 @@
 -- Cells are all empty exactly if they take a byte each: so the length of the cells tells the length of the stored form. Assumes nothing.
-use Prim.Native.Nat.{ℕ, suc, _+_, _≤_, _<_}
+use Prim.Native.Nat.{ℕ, suc, _+_, _≤_}
 use mathlib.Core.Path.{_≡_, refl, sym, ap, ap₂, _∙_}
 use mathlib.Core.Bool.{Bool, true, false, cond, _&&_}
 use mathlib.Core.List.{List, [], _∷_}
@@ -12,6 +12,7 @@ use Rattle.xm.specs.Cell.{bit, kepts, marked, goesPlain, writeCell}
 use Rattle.xm.specs.Stored.{Pattern, allZero, needsNoData, writeStored}
 use Rattle.xm.proofs.Cell.{bit-none, bit-some, kept-length, marked-length, write-plain, write-marked, write-some}
 use Rattle.xm.proofs.Stored.{Fives, zero-append, write-none, write-cells}
+use Rattle.shortest.proofs.Long.{cells-least}
 use Rattle.packing.specs.Packed.{sizeBy}
 
 -- Nothing is kept exactly of an empty cell
@@ -48,10 +49,6 @@ zero-cell cell h = go (ltb (length cell) (length (marked cell))) refl
     go true e =
         rw (write-plain cell e, h) (sym (ne-eqb (length (kepts cell)) 0 (λ z. omega (arith, m, ltb-true (length cell) (length (marked cell)) e))) ∙ zero-kepts cell)
     go false e = rw (write-marked cell e, m) (sum-least 1 0 1 (length (kepts cell)) (omega arith) (omega arith) ∙ zero-kepts cell)
-
-cells-least : (cells : List (List ℕ)) → Fives cells → length cells ≤ length (joined writeCell cells)
-cells-least [] h = omega arith
-cells-least (c ∷ cells) h = rw length-append (omega (arith, write-some c (h .0), cells-least cells (h .1)))
 
 pub zero-cells : (cells : List (List ℕ)) → Fives cells → eqb (length (joined writeCell cells)) (length cells) ≡ allZero (flat cells)
 unfolding allZero

@@ -31,7 +31,7 @@ fn write_patterns(
     at: usize,
     channels: usize,
     count: usize,
-    marks: &[u16; 256],
+    marks: &[u8; 256],
     out: &mut [u8],
 ) -> Reached
     requires { ⌜ (1 ≤ channels) × (channels ≤ channelsMost) ⌝ }
@@ -78,7 +78,7 @@ fn write_instruments(file: &[u8], at: usize, count: usize, out: &mut [u8])
 }
 
 // An accepted file, pressed, at the front of out.
-pub fn write_module(file: &[u8], marks: &[u16; 256], out: &mut [u8])
+pub fn write_module(file: &[u8], marks: &[u8; 256], out: &mut [u8])
     requires { ⌜ Told (λ found. Marks (now file) (found .1 .0) (now marks)) (readFile (now file)) ⌝ }
     requires { ⌜ length (pressedFile (now file)) ≤ length (now out) ⌝ }
     ensures { λ _. ⌜ now (out .exit) ≡ inFront (pressedFile (now (file .entry))) (now (out .entry)) ⌝ }

@@ -15,11 +15,12 @@ use Rattle.xm.specs.Cell.{lengthBy, fieldsBy, needed, cellAt, readCell, writeCe
 use Rattle.xm.specs.Stored.{Pattern, standard, readCells, readStored, writeStored}
 use Rattle.xm.proofs.Got.{no-true, passed, pass, bind-got, got-value, got-used, step}
 use Rattle.xm.proofs.Format.{cons-path}
-use Rattle.xm.proofs.Cell.{length-some, cell-marked, read-got}
-use Rattle.xm.proofs.Stored.{standard-none, write-none, stored-used}
+use Rattle.xm.proofs.Cell.{length-some, cell-length, cell-marked, read-got}
+use Rattle.xm.proofs.Lay.{laid-long}
+use Rattle.xm.proofs.Stored.{Fives, standard-none, write-none, stored-used}
 use Rattle.shortest.specs.Found.{accepted, rewritten, cellsRead, storedRead, cellsPressed, storedPressed}
 use Rattle.shortest.specs.Over.{overMost, Over}
-use Rattle.shortest.proofs.Long.{stored-cells}
+use Rattle.shortest.proofs.Long.{stored-cells, cells-least}
 use Rattle.shortest.proofs.Fields.{empty-written}
 use Rattle.shortest.proofs.Row.{Writing, writing-none, writing-done, writing-room, writing-part, writing-over, writing-empty}
 
@@ -91,6 +92,25 @@ first-read (suc n) place s h g =
       cells = rw (less, drop-drop);
     }
 
+-- A cell takes a byte at least: where it stands, and in its shortest form
+cells-stand : (n place : ℕ) (s : List ℕ) → accepted (eachRead cellFormat (replicate n tt) place s) ≡ true → n ≤ length s
+cells-stand zero place s g = omega arith
+cells-stand (suc n) place s g =
+    accepted-got (eachRead cellFormat (replicate (suc n) tt) place s) g λ cells used e.
+    bind-got (readCell place s) _ e λ c k ec e. bind-got (eachRead cellFormat (replicate n tt) (place + k) (drop k s)) _ e λ cs m es e.
+    let r = cell-read place s c k ec in
+    omega (arith, cells-stand n (place + k) (drop k s) (got-accepted es), length-drop k s, r .fits, r .long, length-some (getD s 0 0))
+
+cells-count : (n : ℕ) (s : List ℕ) → length (cellsIn n s) ≡ n
+unfolding cellsIn
+cells-count zero s = refl
+cells-count (suc n) s = ap suc (cells-count n (drop (needed s) s))
+
+cells-fives : (n : ℕ) (s : List ℕ) → Fives (cellsIn n s)
+unfolding cellsIn
+cells-fives zero s = tt
+cells-fives (suc n) s = (cell-length s, cells-fives n (drop (needed s) s))
+
 -- The state of the loop: `left` cells are still to be written again, from `place` on
 pub record Rewriting (stored lent goal out : List ℕ) (place to left : ℕ) : Type 0 where
   pub inside : place ≤ length stored
@@ -111,6 +131,20 @@ module _ {stored lent goal out : List ℕ} {place to left : ℕ} (f : Rewriting 
   pub rewriting-done : left ≡ 0 → out ≡ inFront goal lent
   unfolding cellsIn
   rewriting-done z = writing-done (f .writing) (ap (λ (n : ℕ). cellsIn n (drop place stored)) z)
+
+  pub rewriting-long : left ≡ 0 → to ≡ length goal
+  unfolding cellsIn
+  rewriting-long z = laid-long (f .writing .writes) (ap (λ (n : ℕ). joined writeCell (cellsIn n (drop place stored))) z)
+
+  -- as many bytes as cells are left to read, and to write
+  pub rewriting-stored : left ≤ length (drop place stored)
+  rewriting-stored = cells-stand left place (drop place stored) (f .fine)
+
+  rewriting-more : left ≤ length (joined writeCell (cellsIn left (drop place stored)))
+  rewriting-more = omega (arith, cells-least (cellsIn left (drop place stored)) (cells-fives left (drop place stored)), cells-count left (drop place stored))
+
+  pub rewriting-lent : left ≤ length (drop to out)
+  rewriting-lent = omega (arith, rewriting-more, f .writing .writes .room, length-drop to out)
 
   module _ (h : 0 < left) where
     first : FirstRead left place stored
@@ -138,10 +172,10 @@ module _ {stored lent goal out : List ℕ} {place to left : ℕ} (f : Rewriting 
           → Rewriting stored lent goal (putMid to (length out - to) out ys) (place + used) (to + size) (left - 1)
       rewriting-part e = next used isUsed (writing-part (f .writing) (first .cells) ys size isSize e)
 
-      pub rewriting-over : overMost ≤ length (joined writeCell (cellsIn left (drop place stored)))
+      pub rewriting-over : overMost ≤ left
           → Over (writeCell (cellAt (drop place stored))) (take (length out - to) (drop to out)) ys → length ys ≡ length (take (length out - to) (drop to out))
           → Rewriting stored lent goal (putMid to (length out - to) out ys) (place + used) (to + size) (left - 1)
-      rewriting-over more o l = next used isUsed (writing-over (f .writing) (first .cells) more ys size isSize o l)
+      rewriting-over more o l = next used isUsed (writing-over (f .writing) (first .cells) (omega (arith, rewriting-more)) ys size isSize o l)
 
     -- the lead byte 128 is an empty cell
     module _ (lead : getD (drop place stored) 0 0 ≡ 128) where
@@ -180,11 +214,6 @@ stored-pressed rows channels (b ∷ d) g h =
           ∙ sym (got-rewritten (joined writeCell) ec);
       whole = λ cs used q. got-used (sym q ∙ ec) ∙ got-used e′ ∙ stored-used channels rows 0 (b ∷ d) p n e;
     }
-
--- One that takes none
-pub nothing-written : (w lent : List ℕ) → length w ≡ 0 → lent ≡ inFront w lent
-nothing-written [] lent h = refl
-nothing-written (x ∷ w) lent h = absurd (omega arith)
 
 -- Where it is read from does not matter
 pub stored-anywhere : (rows channels place : ℕ) (stored : List ℕ) (p : Pattern) (n : ℕ)

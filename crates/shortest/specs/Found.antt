@@ -32,11 +32,12 @@ cellsPressed count stored = rewritten (joined writeCell) (cellsRead count stored
 abbrev pub storedPressed : (rows channels : ℕ) (stored : List ℕ) → List ℕ
 storedPressed rows channels stored = rewritten writeStored (storedRead rows channels stored)
 
--- What is known of a stored form before it is written again: that it was accepted, how many bytes its shortest form takes, and,
--- if `same`, that it stands there in that form already.
-pub record Known (rows channels : ℕ) (stored : List ℕ) (size : ℕ) (same : Bool) : Type 0 where
+-- What is known of a stored form before it is written again: that it was accepted, whether its shortest form has no bytes, and, if
+-- `same`, that it stands there in that form already.
+pub record Known (rows channels : ℕ) (stored : List ℕ) (none same : Bool) : Type 0 where
   pub rows-most : rows ≤ 256
   pub channels-most : channels ≤ 64
   pub fine : accepted (storedRead rows channels stored) ≡ true
-  pub long : size ≡ length (storedPressed rows channels stored)
-  pub already : same ≡ true → 0 < size → storedPressed rows channels stored ≡ stored
+  pub nothing : none ≡ true → storedPressed rows channels stored ≡ []
+  pub some : none ≡ false → 0 < length (storedPressed rows channels stored)
+  pub already : same ≡ true → storedPressed rows channels stored ≡ stored

@@ -116,21 +116,12 @@ fn press_over(stored: &[u8], out: &mut [u8]) -> usize
     cell::write_over(note, instrument, volume, effect, parameter, out)
 }
 
-fn lesser(a: usize, b: usize) -> usize
-    ensures { λ r. ⌜ (r ≤ a) × (r ≤ b) ⌝ }
-{
-    if a < b {
-        return a;
-    }
-    b
-}
-
-// Stored cells that were accepted, each in its shortest form, `size` bytes in all, at the front of out. The lead byte 128 alone
-// is an empty cell, as most are.
-pub fn press_cells(stored: &[u8], count: usize, size: usize, out: &mut [u8])
+// Stored cells that were accepted, each in its shortest form, at the front of out; how many bytes these take. The lead byte 128
+// alone is an empty cell, as most are. A cell takes a byte at least, here and there: five behind this one leave room for six bytes.
+pub fn press_cells(stored: &[u8], count: usize, out: &mut [u8]) -> usize
     requires { ⌜ accepted (cellsRead count (now stored)) ≡ true ⌝ }
-    requires { ⌜ size ≡ length (cellsPressed count (now stored)) ⌝ }
-    requires { ⌜ size ≤ length (now out) ⌝ }
+    requires { ⌜ length (cellsPressed count (now stored)) ≤ length (now out) ⌝ }
+    ensures { λ r. ⌜ r ≡ length (cellsPressed count (now (stored .entry))) ⌝ }
     ensures { λ _. ⌜ now (out .exit) ≡ inFront (cellsPressed count (now (stored .entry))) (now (out .entry)) ⌝ }
 {
     let mut place: usize = 0;
@@ -145,8 +136,7 @@ pub fn press_cells(stored: &[u8], count: usize, size: usize, out: &mut [u8])
             place += 1;
             continue;
         }
-        let room = lesser(size - to, stored.len() - place);
-        if room < 6 {
+        if left < 5 {
             to += press_cell(&stored[place..], &mut out[to..]);
             place += stored_length(lead);
             continue;
@@ -154,6 +144,7 @@ pub fn press_cells(stored: &[u8], count: usize, size: usize, out: &mut [u8])
         to += press_over(&stored[place..], &mut out[to..]);
         place += stored_length(lead);
     }
+    to
 }
 
 // All of `from` at the front of out: a loop of one byte, which the compiler turns into wide moves.
@@ -168,26 +159,27 @@ pub fn copy(from: &[u8], out: &mut [u8])
     }
 }
 
-// An accepted stored form of a pattern in its shortest form, `size` bytes, at the front of out; 64 empty rows take none. Bytes that
-// already are that form, as `same` tells, are copied.
+// An accepted stored form of a pattern in its shortest form at the front of out; its length there. Of 64 empty rows, as `none` tells,
+// nothing is written; bytes that are the shortest form already, as `same` tells, are copied.
 pub fn write_stored(
     stored: &[u8],
     rows: usize,
     channels: usize,
+    none: bool,
     same: bool,
-    size: usize,
     out: &mut [u8],
-)
-    requires { ⌜ Known rows channels (now stored) size same ⌝ }
-    requires { ⌜ size ≤ length (now out) ⌝ }
+) -> usize
+    requires { ⌜ Known rows channels (now stored) none same ⌝ }
+    requires { ⌜ length (storedPressed rows channels (now stored)) ≤ length (now out) ⌝ }
+    ensures { λ r. ⌜ r ≡ length (storedPressed rows channels (now (stored .entry))) ⌝ }
     ensures { λ _. ⌜ now (out .exit) ≡ inFront (storedPressed rows channels (now (stored .entry))) (now (out .entry)) ⌝ }
 {
-    if size == 0 {
-        return;
+    if none {
+        return 0;
     }
     if same {
         copy(stored, out);
-    } else {
-        press_cells(stored, rows * channels, size, out);
+        return stored.len();
     }
+    press_cells(stored, rows * channels, out)
 }

@@ -8,9 +8,16 @@ ghost use Prim.Native.Nat.{_≤_};
 ghost use lib.ListN.{length, drop};
 ghost use Rattle.xm.specs.PatternInFile.{patternTests, readPattern, dataMost};
 ghost use Rattle.xm.specs.Module.{fileMost};
-ghost use Rattle.steps.specs.Mark.{MarkBy};
+ghost use Rattle.steps.specs.Mark.{markBy};
 ghost use Rattle.steps.specs.Test.{firstFault};
 ghost use Rattle.steps.specs.Step.{storedFault, storedRefused, patternStep};
+
+// A second pass writes the cells again, copies them as they stand, or writes nothing.
+pub const AGAIN: u8 = 0;
+
+pub const COPIED: u8 = 1;
+
+pub const NOTHING: u8 = 2;
 
 // A pattern's data place and S, the rows it reads as, the bytes of its shortest stored form and whether it stands in that form already,
 // and where the next structure starts.
@@ -104,16 +111,15 @@ pub fn read_pattern(file: &[u8], at: usize, channels: usize) -> PatternStep
     })
 }
 
-// What a second pass needs to know of a pattern: how many bytes its shortest form takes or, by a number above S, that its bytes are
-// that form already. Of 65,535 bytes no number tells so: they are written again.
-pub fn mark_of(size: usize, shortest: usize, same: bool) -> u16
-    requires { ⌜ (shortest ≤ size) × (size ≤ dataMost) ⌝ }
-    ensures { λ r. ⌜ MarkBy size shortest same r ⌝ }
+// What a second pass does with a pattern.
+pub fn mark_of(shortest: usize, same: bool) -> u8
+    ensures { λ r. ⌜ r ≡ markBy shortest same ⌝ }
 {
-    if same {
-        if size < 65535 {
-            return (size + 1) as u16;
-        }
+    if shortest == 0 {
+        return NOTHING;
     }
-    shortest as u16
+    if same {
+        return COPIED;
+    }
+    AGAIN
 }

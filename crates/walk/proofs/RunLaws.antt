@@ -8,7 +8,7 @@ use Rattle.xm.specs.Number.{Bytes, part}
 use Rattle.xm.specs.Got.{Refusal, Got, got, refused}
 use Rattle.xm.specs.Format.{Format, each, joined}
 use Rattle.xm.specs.Stored.{writeStored}
-use Rattle.xm.specs.PatternInFile.{PatternFound, readPattern, dataMost, patternFormat}
+use Rattle.xm.specs.PatternInFile.{PatternFound, readPattern, patternFormat}
 use Rattle.xm.specs.Sample.{Stretch}
 use Rattle.xm.specs.Instrument.{InstrumentFound, readInstrument, instrumentView, writeInstrument, instrumentFormat}
 use Rattle.xm.specs.Table.{sampleCount, sampleRowsOf, sampleRowsIn}
@@ -20,7 +20,7 @@ use Rattle.xm.proofs.Sample.{Sized}
 use Rattle.xm.proofs.Instrument.{instrument-keeps, instrument-tells}
 use Rattle.refusal.specs.declared.Fault.{Fault}
 use Rattle.cells.specs.Row.{sameBytes}
-use Rattle.steps.specs.Mark.{MarkBy, Marks}
+use Rattle.steps.specs.Mark.{markBy, Marks}
 use Rattle.steps.specs.Step.{patternStep, instrumentStep}
 use Rattle.walk.specs.File.{patternsStep, instrumentsStep, patternRefused, instrumentRefused}
 use Rattle.steps.specs.declared.pattern.PatternPart.{PatternPart}
@@ -31,7 +31,7 @@ use Rattle.steps.specs.declared.instrument.InstrumentStep.{InstrumentStep}
 use Rattle.steps.specs.declared.instrument.InstrumentStep.the-variants as instrument
 use Rattle.walk.specs.declared.RunStep.{RunStep}
 use Rattle.walk.specs.declared.RunStep.the-variants as run
-use Rattle.steps.proofs.MarkLaws.{pattern-short, mark-told, marks-more}
+use Rattle.steps.proofs.MarkLaws.{mark-told, marks-more}
 use Rattle.steps.proofs.Walking.{Reached, reached-start, reached-on, reached-out, reached-end}
 
 -- One more is written behind what is written
@@ -52,10 +52,10 @@ same-pattern : {a b : PatternPart} → pattern.Read a ≡ pattern.Read b → a �
 same-pattern e = cc
 
 pattern-got : {R : Type 0} (file : List ℕ) (place : ℕ) (g : Got PatternFound) {piece : PatternPart} → pattern.Read piece ≡ patternStep file place g
-    → ((i : PatternFound) (n : ℕ) → g ≡ got i n → piece .next ≡ place + n → piece .size ≡ i .dataSize → piece .shortest ≡ length (writeStored (i .content))
+    → ((i : PatternFound) (n : ℕ) → g ≡ got i n → piece .next ≡ place + n → piece .shortest ≡ length (writeStored (i .content))
     → piece .same ≡ sameBytes (part (i .dataPlace) (i .dataSize) file) (writeStored (i .content)) → R) → R
 pattern-got file place (got i n) e k =
-    let z = same-pattern e in k i n refl (ap PatternPart.next z) (ap PatternPart.size z) (ap PatternPart.shortest z) (ap PatternPart.same z)
+    let z = same-pattern e in k i n refl (ap PatternPart.next z) (ap PatternPart.shortest z) (ap PatternPart.same z)
 pattern-got file place (refused r) e k = never-pattern e
 
 pattern-on : (file : List ℕ) (place start : ℕ) (g : Got PatternFound) (whole : Got (List PatternFound)) {step : PatternStep} {f : Fault} → step ≡ patternStep file place g → step ≡ pattern.Refused f
@@ -106,13 +106,9 @@ module _ (file : List ℕ) (start channels count : ℕ) where
           reached-out patternFormat _ file start (w .reached) channels (rw length-replicate h) (getD-replicate count j channels channels h) er
 
       module _ (b : Bytes file) (c : 1 ≤ channels) {part : PatternPart} (e : pattern.Read part ≡ patternStep file place (readPattern channels place (drop place file))) where
-        pub mark-small : (part .shortest ≤ part .size) × (part .size ≤ dataMost)
-        mark-small = pattern-got file place _ e λ i n ei q s z m.
-            let k = pattern-short channels place file i n b c ei in (omega arith, omega arith)
-
-        pub patterns-on : {mark : ℕ} → MarkBy (part .size) (part .shortest) (part .same) mark → j < length marks
+        pub patterns-on : {mark : ℕ} → mark ≡ markBy (part .shortest) (part .same) → j < length marks
             → PatternsRead file start channels count (j + 1) (part .next) (pressed + (9 + part .shortest)) (set marks j mark)
-        patterns-on {mark} by l = pattern-got file place _ e λ i n ei q s z m.
+        patterns-on {mark} by l = pattern-got file place _ e λ i n ei q z m.
             let k = pattern-keeps channels c .keeps place (drop place file) i n (bytes-drop place b) ei in
             let size = pattern-size channels (i .content) (k .good) in
             let done = w .reached .done in
@@ -124,7 +120,7 @@ module _ (file : List ℕ) (start channels count : ℕ) where
                     written = omega (arith, t .written, size, written-more patternFormat done i);
                     marked =
                         subst (λ (at : ℕ). Marks file (done ++ (i ∷ [])) (set marks at mark)) count
-                        (marks-more file done marks i mark (omega arith) (t .marked) (mark-told file i s z m by));
+                        (marks-more file done marks i mark (omega arith) (t .marked) (mark-told file i z m by));
                   });
               inside = omega (arith, w .inside, k .inside, length-drop place file);
               short = omega (arith, w .short, k .short, size);

@@ -80,7 +80,7 @@ fn read_patterns(
     at: usize,
     channels: usize,
     count: usize,
-    marks: &mut [u16; 256],
+    marks: &mut [u8; 256],
 ) -> RunStep
     requires { ⌜ at ≤ length (now file) ⌝ }
     requires { ⌜ length (now file) ≤ fileMost ⌝ }
@@ -98,7 +98,7 @@ fn read_patterns(
         let PatternStep::Read(part) = step else {
             return refused_pattern(step);
         };
-        marks[done] = mark_of(part.size, part.shortest, part.same);
+        marks[done] = mark_of(part.shortest, part.same);
         place = part.next;
         pressed += 9 + part.shortest;
         done += 1;
@@ -178,7 +178,7 @@ fn refused_run(step: RunStep) -> WalkStep
 }
 
 // The whole file, in one pass: its first fault, or what it comes to, and then with a mark for each pattern.
-pub fn walk(file: &[u8], marks: &mut [u16; 256]) -> WalkStep
+pub fn walk(file: &[u8], marks: &mut [u8; 256]) -> WalkStep
     requires { ⌜ length (now marks) ≡ 256 ⌝ }
     ensures answer { λ r. ⌜ r ≡ walkStep (readFile (now (file .entry))) ⌝ }
     ensures marked { λ _. ⌜ ((found : Found) (end : ℕ) → readFile (now (file .entry)) ≡ got found end → Marks (now (file .entry)) (found .1 .0) (now (marks .exit))) ⌝ }
@@ -228,7 +228,7 @@ fn refused_walk(step: WalkStep) -> Verdict
 pub fn check(file: &[u8]) -> Verdict
     ensures { λ r. ⌜ r ≡ verdictOf (checking (now (file .entry))) ⌝ }
 {
-    let mut marks: [u16; 256] = [0; 256];
+    let mut marks: [u8; 256] = [0; 256];
     let step = walk(file, &mut marks);
     let WalkStep::Accepted(summary) = step else {
         return refused_walk(step);

@@ -1,41 +1,39 @@
 -- Laws of a pattern that was read and is written. Assumes nothing.
-use Prim.Native.Nat.{ℕ, _+_, _-_, _≤_, _<_}
+use Prim.Native.Nat.{ℕ, _+_, _-_, _≤_}
 use mathlib.Core.Bool.{Bool, true, false, cond}
 use mathlib.Core.List.{List, [], _++_, append-nil}
 use mathlib.Core.Path.{_≡_, refl, sym, ap, ap₂, _∙_}
 use native.Mathlib.Nat.{add-sub-cancel-left}
 use native.Mathlib.Omega.{arith}
-use lib.Dec.{ltb, eqb}
+use lib.Dec.{eqb}
 use lib.ListN.{length, take, drop, length-drop}
 use lib.Seq.{drop-drop, length-take-le}
-use borrow.Author.Tests.{ltb-true, ltb-false, eqb-true, eqb-false}
+use borrow.Rule.Slice.PartMut.{putMid}
+use borrow.Author.Tests.{eqb-true, eqb-false}
 use Rattle.xm.specs.Number.{Bytes, wordAt, longAt, part}
 use Rattle.xm.specs.Got.{Got, got, refused, AllHold}
+use Rattle.xm.specs.Answer.{inFront}
 use Rattle.xm.specs.Stored.{channelsMost, rowsMost, Pattern, readStored, writeStored}
 use Rattle.xm.specs.PatternInFile.{dataMost, patternTests, PatternFound, readPattern, writePattern, patternFormat}
 use Rattle.xm.proofs.Number.{bytes-drop, bytes-take, word-small, part-drop}
 use Rattle.xm.proofs.Got.{passed, bind-got, got-value, got-used}
 use Rattle.xm.proofs.Stored.{stored-keeps, stored-rows, stored-empty}
 use Rattle.shortest.specs.Found.{rewritten, storedPressed, Known}
+use Rattle.shortest.proofs.Long.{stored-nothing}
 use Rattle.shortest.proofs.Read.{got-accepted, stored-anywhere}
-use Rattle.steps.specs.Mark.{Marked}
+use Rattle.steps.specs.Mark.{copied, nothing, Marked}
+use Rattle.steps.proofs.MarkLaws.{marked-nothing, marked-copied}
 use Rattle.writers.specs.Found.{Told, readAt, pressedAt}
-use Rattle.writers.specs.Pattern.{rowsBy, sizeBy, patternHead}
+use Rattle.writers.specs.Pattern.{rowsBy, patternHead}
+use Rattle.writers.proofs.Writing.{first-last}
 
--- The rows and the length of the shortest form are those of the pattern
+-- The rows are those of the pattern
 rows-by : (channels row place size : ℕ) (d : List ℕ) (p : Pattern) (n : ℕ) → length d ≡ size → readStored channels row place d ≡ got p n → rowsBy row size ≡ p .rows
 rows-by channels row place size d p n l e = go (eqb size 0) refl
   where
     go : (b : Bool) → eqb size 0 ≡ b → cond b 64 row ≡ p .rows
     go true q = sym (ap Pattern.rows (stored-empty channels row place d p n (omega (arith, eqb-true size 0 q)) e))
     go false q = let some = eqb-false size 0 q in sym (stored-rows channels row place d p n (omega arith) e)
-
-size-by : (mark size shortest : ℕ) → (mark ≤ size → mark ≡ shortest) → (size < mark → size ≡ shortest) → sizeBy mark size ≡ shortest
-size-by mark size shortest again already = go (ltb size mark) refl
-  where
-    go : (b : Bool) → ltb size mark ≡ b → cond b size mark ≡ shortest
-    go true q = already (ltb-true size mark q)
-    go false q = again (ltb-false size mark q)
 
 module _ (file : List ℕ) (place channels mark : ℕ) where
   abbrev from : List ℕ
@@ -61,8 +59,8 @@ module _ (file : List ℕ) (place channels mark : ℕ) where
     pattern : Pattern
     used : ℕ
     reads : readStored channels (wordAt 5 from) (place + L) d ≡ got pattern used
-    again : mark ≤ S → mark ≡ length (writeStored pattern)
-    already : S < mark → d ≡ writeStored pattern
+    none : eqb mark nothing ≡ eqb (length (writeStored pattern)) 0
+    already : eqb mark copied ≡ true → d ≡ writeStored pattern
     written : pressedAt patternFormat channels file place ≡ writePattern pattern
 
   as-read : Told (λ i. Marked file i mark) (readAt patternFormat channels file place) → AsRead
@@ -79,8 +77,8 @@ module _ (file : List ℕ) (place channels mark : ℕ) where
             pattern = p;
             used = u;
             reads = ep;
-            again = marked .again;
-            already = λ l. part-drop place L S file ∙ marked .already l;
+            none = marked-nothing marked;
+            already = λ t. part-drop place L S file ∙ marked-copied marked t;
             written = ap (rewritten (λ (i : PatternFound). writePattern (i .content))) (e ∙ sym e₂);
           }
       go (refused r) e m = absurd m
@@ -96,10 +94,12 @@ module _ (file : List ℕ) (place channels mark : ℕ) where
     pub record PatternLies : Type 0 where
       pub there : place + head + size ≤ length file
       pub rows-high : rowsBy row size ≤ rowsMost
-      pub size-high : sizeBy mark size ≤ dataMost
-      pub known : Known row channels cut (sizeBy mark size) (ltb size mark)
-      pub long : length (pressedAt patternFormat channels file place) ≡ 9 + sizeBy mark size
-      pub written : pressedAt patternFormat channels file place ≡ patternHead (rowsBy row size) (sizeBy mark size) ++ storedPressed row channels cut
+      pub size-high : length (storedPressed row channels cut) ≤ dataMost
+      pub known : Known row channels cut (eqb mark nothing) (eqb mark copied)
+      pub long : length (pressedAt patternFormat channels file place) ≡ 9 + length (storedPressed row channels cut)
+      pub written : {rows shortest : ℕ} → rows ≡ rowsBy row size → shortest ≡ length (storedPressed row channels cut)
+          → (lent : List ℕ) {left : List ℕ} → 9 ≤ length lent → left ≡ inFront (storedPressed row channels cut) (take (length lent - 9) (drop 9 lent))
+          → inFront (patternHead rows shortest) (putMid 9 (length lent - 9) lent left) ≡ inFront (pressedAt patternFormat channels file place) lent
 
     module _ (told : Told (λ i. Marked file i mark) (readAt patternFormat channels file place)) where
       abbrev w : AsRead
@@ -117,20 +117,16 @@ module _ (file : List ℕ) (place channels mark : ℕ) where
       is-rows : rowsBy row size ≡ w .pattern .rows
       is-rows = ap (λ (n : ℕ). rowsBy n size) q ∙ rows-by channels (wordAt 5 from) (place + L) size d (w .pattern) (w .used) long (w .reads)
 
-      is-size : sizeBy mark size ≡ length (writeStored (w .pattern))
-      is-size = size-by mark size _ (λ h. w .again (omega arith)) (λ h. sym long ∙ ap length (w .already (omega arith)))
-
       is-pressed : storedPressed row channels cut ≡ writeStored (w .pattern)
       is-pressed =
           ap₂ (λ (n : ℕ) (s : List ℕ). storedPressed n channels s) q same-cut
           ∙ ap (rewritten writeStored) (stored-anywhere (wordAt 5 from) channels (place + L) d (w .pattern) (w .used) (w .reads))
 
-      is-written : pressedAt patternFormat channels file place ≡ patternHead (rowsBy row size) (sizeBy mark size) ++ storedPressed row channels cut
+      is-written : pressedAt patternFormat channels file place ≡ patternHead (rowsBy row size) (length (storedPressed row channels cut)) ++ storedPressed row channels cut
       unfolding writePattern
       is-written =
-          w .written
-          ∙ ap₂ (λ (n m : ℕ). patternHead n m ++ (writeStored (w .pattern) ++ [])) (sym is-rows) (sym is-size)
-          ∙ ap (λ (l : List ℕ). patternHead (rowsBy row size) (sizeBy mark size) ++ l) (append-nil (writeStored (w .pattern)) ∙ sym is-pressed)
+          w .written ∙ ap₂ (λ (n : ℕ) (l : List ℕ). patternHead n (length l) ++ (l ++ [])) (sym is-rows) (sym is-pressed)
+          ∙ ap (λ (l : List ℕ). patternHead (rowsBy row size) (length (storedPressed row channels cut)) ++ l) (append-nil (storedPressed row channels cut))
 
       pub pattern-lies : Bytes file → 1 ≤ channels → channels ≤ channelsMost → PatternLies
       pattern-lies b some high =
@@ -139,14 +135,18 @@ module _ (file : List ℕ) (place channels mark : ℕ) where
           record {
             there = omega (arith, h .0, h .1 .1 .1 .0, length-drop place file);
             rows-high = omega (arith, is-rows, k .good .high);
-            size-high = omega (arith, is-size, k .short, long, word-small 7 (bytes-drop place b));
+            size-high = omega (arith, ap length is-pressed, k .short, long, word-small 7 (bytes-drop place b));
             known = record {
               rows-most = omega (arith, h .1 .1 .0 .1);
               channels-most = high;
               fine = rw (q, same-cut) (got-accepted (stored-anywhere (wordAt 5 from) channels (place + L) d (w .pattern) (w .used) (w .reads)));
-              long = is-size ∙ ap length (sym is-pressed);
-              already = λ t z. is-pressed ∙ sym (w .already (omega (arith, ltb-true size mark t))) ∙ sym same-cut;
+              nothing = λ t. is-pressed ∙ stored-nothing (w .pattern) (eqb-true (length (writeStored (w .pattern))) 0 (sym (w .none) ∙ t));
+              some = λ t. let some = eqb-false (length (writeStored (w .pattern))) 0 (sym (w .none) ∙ t) in omega (arith, ap length is-pressed);
+              already = λ t. is-pressed ∙ sym (w .already t) ∙ sym same-cut;
             };
-            long = ap length is-written ∙ omega (arith, is-size, ap length is-pressed);
-            written = is-written;
+            long = ap length is-written ∙ omega arith;
+            written = λ {rows} {shortest} e f lent h l.
+                first-last lent (patternHead rows shortest) (storedPressed row channels cut) 9 refl h l
+                ∙ ap₂ (λ (rows shortest : ℕ). inFront (patternHead rows shortest ++ storedPressed row channels cut) lent) e f
+                ∙ ap (λ (whole : List ℕ). inFront whole lent) (sym is-written);
           }

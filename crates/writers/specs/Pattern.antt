@@ -1,8 +1,8 @@
--- A pattern that is written: by the numbers in its header and by its mark.
+-- A pattern that is written, by the numbers in its header.
 use Prim.Native.Nat.{ℕ}
 use mathlib.Core.Bool.{cond}
 use mathlib.Core.List.{List, [], _∷_}
-use lib.Dec.{ltb, eqb}
+use lib.Dec.{eqb}
 use Rattle.xm.specs.Number.{byte, word, long}
 use Rattle.xm.specs.Format.{flat}
 use Rattle.xm.specs.Stored.{standardRows}
@@ -11,10 +11,6 @@ use Rattle.xm.specs.PatternInFile.{leastPattern}
 -- The rows that it reads as.
 abbrev pub rowsBy : (row size : ℕ) → ℕ
 rowsBy row size = cond (eqb size 0) standardRows row
-
--- The length of its shortest stored form.
-abbrev pub sizeBy : (mark size : ℕ) → ℕ
-sizeBy mark size = cond (ltb size mark) size mark
 
 abbrev pub patternHead : (rows size : ℕ) → List ℕ
 patternHead rows size = flat (long leastPattern ∷ byte 0 ∷ word rows ∷ word size ∷ [])

@@ -5,6 +5,8 @@ use crate::bytes::put_word;
 use shortest::stored::write_stored;
 use steps::number::long;
 use steps::number::word;
+use steps::pattern::COPIED;
+use steps::pattern::NOTHING;
 ghost use mathlib.Core.Path.{_≡_};
 ghost use Prim.Native.Nat.{_≤_};
 ghost use lib.ListN.{length};
@@ -13,7 +15,7 @@ ghost use Rattle.xm.specs.Stored.{channelsMost, rowsMost};
 ghost use Rattle.xm.specs.PatternInFile.{dataMost, patternFormat};
 ghost use Rattle.steps.specs.Mark.{Marked};
 ghost use Rattle.writers.specs.Found.{Told, readAt, pressedAt};
-ghost use Rattle.writers.specs.Pattern.{rowsBy, sizeBy, patternHead};
+ghost use Rattle.writers.specs.Pattern.{rowsBy, patternHead};
 
 // The rows that a stored form reads as: with no data it is the standard empty pattern.
 fn rows_of(row: usize, size: usize) -> usize
@@ -23,16 +25,6 @@ fn rows_of(row: usize, size: usize) -> usize
         return 64;
     }
     row
-}
-
-// The bytes of the shortest form: a mark above S says that the stored form is as short.
-fn size_of(mark: usize, size: usize) -> usize
-    ensures { λ r. ⌜ r ≡ sizeBy mark size ⌝ }
-{
-    if size < mark {
-        return size;
-    }
-    mark
 }
 
 // L, packing type, rows and S: 9 bytes.
@@ -49,7 +41,7 @@ fn write_head(rows: usize, size: usize, out: &mut [u8])
 }
 
 // The pattern at a place of an accepted file, in its shortest form at the front of out; its length there.
-pub fn write_pattern(file: &[u8], at: usize, channels: usize, mark: u16, out: &mut [u8]) -> usize
+pub fn write_pattern(file: &[u8], at: usize, channels: usize, mark: u8, out: &mut [u8]) -> usize
     requires { ⌜ (1 ≤ channels) × (channels ≤ channelsMost) ⌝ }
     requires { ⌜ Told (λ i. Marked (now file) i mark) (readAt patternFormat channels (now file) at) ⌝ }
     requires { ⌜ length (pressedAt patternFormat channels (now file) at) ≤ length (now out) ⌝ }
@@ -60,16 +52,14 @@ pub fn write_pattern(file: &[u8], at: usize, channels: usize, mark: u16, out: &m
     let row = word(file, at, 5);
     let size = word(file, at, 7);
     let end = place + size;
-    let most = mark as usize;
-    let shortest = size_of(most, size);
-    write_head(rows_of(row, size), shortest, out);
-    write_stored(
+    let shortest = write_stored(
         &file[place..end],
         row,
         channels,
-        size < most,
-        shortest,
+        mark == NOTHING,
+        mark == COPIED,
         &mut out[9..],
     );
+    write_head(rows_of(row, size), shortest, out);
     9 + shortest
 }

@@ -5,7 +5,7 @@ use native.Mathlib.Omega.{arith}
 use lib.ListN.{length, set, length-set}
 use Rattle.xm.specs.Number.{Bytes}
 use Rattle.walk.specs.File.{patternRefused}
-use Rattle.walk.proofs.RunLaws.{PatternsRead, patterns-start, mark-small, patterns-on, patterns-out, patterns-unmarked, patterns-end, patterns-marked}
+use Rattle.walk.proofs.RunLaws.{PatternsRead, patterns-start, patterns-on, patterns-out, patterns-unmarked, patterns-end, patterns-marked}
 use borrow.Author.Needs.{needs}
 use Rattle.walk.proofs.read_patterns.Statement.{statement}
 use Rattle.walk.proofs.read_patterns.Tie as tie
@@ -57,15 +57,7 @@ returns c =
     (answer, patterns-unmarked (a .file .now) (a .at) (a .channels) (a .count) _ answer (c .refused-pattern .ensures ∙ ap patternRefused (c .before .enum-told .given .1)))
 
 mark-of-requires : tie.Need-mark-of-requires Inv-loop μ-loop
-mark-of-requires c κs =
-    let t = c in
-    let l = t .before .before .before .before .before in
-    let a = l .before .before .args in
-    mark-small (a .file .now) (a .at) (a .channels) (a .count) (l .loop .inv .1) (t .before .before .before .before .loop-test .taken) (plain t) (l .before .before .pre .1 .1 .0 .0)
-    (sym (t .before .step .given .1) ∙ t .before .before .before .read-pattern .ensures)
-
-mul-marks : tie.Need-mul-marks Inv-loop μ-loop
-mul-marks c = search needs
+mark-of-requires c κs = search needs
 
 element-write-marks : tie.Need-element-write-marks Inv-loop μ-loop
 element-write-marks c = omega (arith, c .before .before .before .before .before .before .before .before .pre)
@@ -103,7 +95,6 @@ read-patterns-spec =
     refused-pattern-requires
     returns
     mark-of-requires
-    mul-marks
     element-write-marks
     add-pressed
     add-pressed-2

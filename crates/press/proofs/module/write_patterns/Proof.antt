@@ -19,9 +19,6 @@ abbrev μ-loop : tie.MeasureT-loop
 loop-holds : tie.Need-loop-holds Inv-loop μ-loop
 loop-holds c = patterns-none _ _ _ _ _ _ (c .before .before .pre .1 .1 .0) (c .before .before .pre .1 .1 .1)
 
-mul-write-pattern : tie.Need-mul-write-pattern Inv-loop μ-loop
-mul-write-pattern c = search needs
-
 element-copy-out-write-pattern : tie.Need-element-copy-out-write-pattern Inv-loop μ-loop
 element-copy-out-write-pattern c = omega (arith, c .before .before .before .before .pre)
 
@@ -83,7 +80,6 @@ write-patterns-spec =
     Inv-loop
     μ-loop
     loop-holds
-    mul-write-pattern
     element-copy-out-write-pattern
     sub-write-pattern
     part-write-pattern-start

@@ -1,4 +1,4 @@
--- `packing::cell::bit_of` meets its contract. Assumes nothing.
+-- `shortest::cell::bit_of` meets its contract. Assumes nothing.
 use Rattle.xm.proofs.Cell.{bit-none, bit-some}
 use native.Mathlib.Omega.{arith}
 use mathlib.Core.Path.{sym}

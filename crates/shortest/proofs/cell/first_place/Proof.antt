@@ -1,4 +1,4 @@
--- `packing::cell::first_place` meets its contract. Assumes nothing.
+-- `shortest::cell::first_place` meets its contract. Assumes nothing.
 use native.Mathlib.Omega.{arith}
 use borrow.Author.Tests.{eq-eqb, ne-eqb}
 use Rattle.shortest.proofs.cell.first_place.Statement.{statement}

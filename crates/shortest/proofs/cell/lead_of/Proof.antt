@@ -1,4 +1,4 @@
--- `packing::cell::lead_of` meets its contract: the lead byte is 128 and a sum of bits. Assumes nothing.
+-- `shortest::cell::lead_of` meets its contract: the lead byte is 128 and a sum of bits. Assumes nothing.
 use borrow.Author.Needs.{needs}
 use native.Mathlib.Omega.{arith}
 use Rattle.xm.proofs.Cell.{marks-sum}

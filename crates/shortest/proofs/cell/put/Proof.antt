@@ -1,4 +1,4 @@
--- `packing::cell::put` meets its contract: a field that is 0 is not kept, and any other is one byte. Assumes nothing.
+-- `shortest::cell::put` meets its contract: a field that is 0 is not kept, and any other is one byte. Assumes nothing.
 use borrow.Author.Needs.{needs}
 use mathlib.Core.Path.{sym, ap, _∙_}
 use native.Mathlib.Omega.{arith}

@@ -1,4 +1,4 @@
--- `packing::cell::put_fields` meets its contract: the five fields, one after the other. Assumes nothing.
+-- `shortest::cell::put_fields` meets its contract: the five fields, one after the other. Assumes nothing.
 use borrow.Author.Needs.{needs}
 use Rattle.shortest.proofs.Fields.{fields-put}
 use Rattle.shortest.proofs.cell.put_fields.Statement.{statement}

@@ -1,4 +1,4 @@
--- `packing::cell::put_fields_over` meets its contract: five fields, each over what the one before left. Assumes nothing.
+-- `shortest::cell::put_fields_over` meets its contract: five fields, each over what the one before left. Assumes nothing.
 use borrow.Author.Needs.{needs}
 use Rattle.shortest.proofs.Over.{fields-over}
 use Rattle.shortest.proofs.cell.put_fields_over.Statement.{statement}

@@ -1,4 +1,4 @@
--- `packing::cell::put_over` meets its contract. Assumes nothing.
+-- `shortest::cell::put_over` meets its contract. Assumes nothing.
 use borrow.Author.Needs.{needs}
 use mathlib.Core.Path.{refl}
 use native.Mathlib.Omega.{arith}

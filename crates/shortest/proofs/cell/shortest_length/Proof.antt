@@ -1,4 +1,4 @@
--- `packing::cell::shortest_length` meets its contract: marked unless all five fields are kept. Assumes nothing.
+-- `shortest::cell::shortest_length` meets its contract: marked unless all five fields are kept. Assumes nothing.
 use borrow.Author.Needs.{needs}
 use native.Mathlib.Omega.{arith}
 use Rattle.shortest.proofs.Fields.{written-plain, written-marked}

@@ -1,4 +1,4 @@
--- `packing::cell::write_cell` meets its contract: marked unless all five fields are kept. Assumes nothing.
+-- `shortest::cell::write_cell` meets its contract: marked unless all five fields are kept. Assumes nothing.
 use borrow.Author.Needs.{needs}
 use mathlib.Core.Path.{_∙_}
 use native.Mathlib.Omega.{arith}

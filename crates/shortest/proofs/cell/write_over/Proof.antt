@@ -1,4 +1,4 @@
--- `packing::cell::write_over` meets its contract: the fields go over the lead byte, or behind it. Assumes nothing.
+-- `shortest::cell::write_over` meets its contract: the fields go over the lead byte, or behind it. Assumes nothing.
 use borrow.Author.Needs.{needs}
 use mathlib.Core.Path.{_∙_}
 use native.Mathlib.Omega.{arith}

@@ -1,4 +1,4 @@
--- `packing::stored::bits_of` meets its contract. Assumes nothing.
+-- `shortest::stored::bits_of` meets its contract. Assumes nothing.
 use native.Mathlib.Omega.{arith}
 use borrow.Author.Tests.{lt-ltb, le-ltb}
 use Rattle.shortest.proofs.stored.bits_of.Statement.{statement}

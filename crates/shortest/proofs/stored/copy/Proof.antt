@@ -1,4 +1,4 @@
--- `packing::stored::copy` meets its contract. Assumes nothing.
+-- `shortest::stored::copy` meets its contract. Assumes nothing.
 use Prim.Native.Nat.{_-_, _≤_}
 use mathlib.Core.Path.{_≡_, refl, ap, _∙_}
 use native.Mathlib.Omega.{arith}

@@ -1,4 +1,4 @@
--- `packing::stored::field_at` meets its contract. Assumes nothing.
+-- `shortest::stored::field_at` meets its contract. Assumes nothing.
 use native.Mathlib.Omega.{arith}
 use borrow.Author.Tests.{eq-eqb, ne-eqb}
 use Rattle.xm.proofs.Lay.{head-at}

@@ -1,4 +1,4 @@
--- `packing::stored::field_over` meets its contract: a byte times its bit. Assumes nothing.
+-- `shortest::stored::field_over` meets its contract: a byte times its bit. Assumes nothing.
 use borrow.Author.Needs.{needs}
 use native.Mathlib.Omega.{arith}
 use lib.ListN.{getD}

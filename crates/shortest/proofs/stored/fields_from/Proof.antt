@@ -1,4 +1,4 @@
--- `packing::stored::fields_from` meets its contract. Assumes nothing.
+-- `shortest::stored::fields_from` meets its contract. Assumes nothing.
 use native.Mathlib.Omega.{arith}
 use borrow.Author.Tests.{lt-ltb, le-ltb}
 use Rattle.shortest.proofs.stored.fields_from.Statement.{statement}

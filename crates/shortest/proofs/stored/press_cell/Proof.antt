@@ -1,4 +1,4 @@
--- `packing::stored::press_cell` meets its contract: the five fields by their bits are the cell. Assumes nothing.
+-- `shortest::stored::press_cell` meets its contract: the five fields by their bits are the cell. Assumes nothing.
 use borrow.Author.Needs.{needs}
 use mathlib.Core.Path.{_≡_}
 use native.Mathlib.Omega.{arith}

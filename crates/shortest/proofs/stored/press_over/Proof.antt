@@ -1,4 +1,4 @@
--- `packing::stored::press_over` meets its contract: the five fields by their bits are the cell. Assumes nothing.
+-- `shortest::stored::press_over` meets its contract: the five fields by their bits are the cell. Assumes nothing.
 use borrow.Author.Needs.{needs}
 use mathlib.Core.Path.{_≡_}
 use Rattle.xm.specs.Cell.{cellAt}

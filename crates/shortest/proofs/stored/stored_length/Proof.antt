@@ -1,4 +1,4 @@
--- `packing::stored::stored_length` meets its contract: a cell ends behind its last field. Assumes nothing.
+-- `shortest::stored::stored_length` meets its contract: a cell ends behind its last field. Assumes nothing.
 use borrow.Author.Needs.{needs}
 use Rattle.shortest.proofs.Bits.{length-bits}
 use Rattle.shortest.proofs.stored.stored_length.Statement.{statement}

@@ -1,23 +1,16 @@
--- `walk::pattern::mark_of` meets its contract. Assumes nothing.
-use native.Mathlib.Omega.{arith}
-use borrow.Author.Needs.{needs}
+-- `steps::pattern::mark_of` meets its contract. Assumes nothing.
+use borrow.Author.Tests.{eq-eqb, ne-eqb}
 use Rattle.steps.proofs.pattern.mark_of.Statement.{statement}
 use Rattle.steps.proofs.pattern.mark_of.Tie as tie
 
-add-result : tie.Need-add-result
-add-result c = search needs
-
-cast-result : tie.Need-cast-result
-cast-result c = search needs
-
 returns : tie.Need-returns
-returns c = search needs
-
-cast-result-2 : tie.Need-cast-result-2
-cast-result-2 c = search needs
+returns c = rw (eq-eqb _ _ (c .if1 .taken))
 
 returns-2 : tie.Need-returns-2
-returns-2 c = record { again = λ h. omega arith; already = λ h. absurd (omega arith) }
+returns-2 c = rw (ne-eqb _ _ (c .before .if1 .left), c .if2 .taken)
+
+returns-3 : tie.Need-returns-3
+returns-3 c = rw (ne-eqb _ _ (c .before .if1 .left), c .if2 .left)
 
 pub mark-of-spec : {M : Type 1} → statement M
-mark-of-spec = tie.close (tie.spec add-result cast-result returns cast-result-2 returns-2)
+mark-of-spec = tie.close (tie.spec returns returns-2 returns-3)

@@ -1,4 +1,4 @@
--- `press::bytes::clear` meets its contract: so many zeros are still to be laid. Assumes nothing.
+-- `writers::bytes::clear` meets its contract: so many zeros are still to be laid. Assumes nothing.
 use Prim.Native.Nat.{ℕ, _≤_, _-_}
 use mathlib.Core.Path.{_≡_, ap}
 use native.Mathlib.Omega.{arith}

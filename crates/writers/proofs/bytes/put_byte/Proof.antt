@@ -1,4 +1,4 @@
--- `press::bytes::put_byte` meets its contract: a store. Assumes nothing.
+-- `writers::bytes::put_byte` meets its contract: a store. Assumes nothing.
 use mathlib.Core.Path.{refl}
 use native.Mathlib.Omega.{arith}
 use Rattle.xm.specs.Number.{byte}

@@ -1,4 +1,4 @@
--- `press::bytes::put_long` meets its contract: four stores. Assumes nothing.
+-- `writers::bytes::put_long` meets its contract: four stores. Assumes nothing.
 use mathlib.Core.Path.{refl}
 use native.Mathlib.Omega.{arith}
 use lib.ListN.{length-set}

@@ -1,4 +1,4 @@
--- `press::bytes::put_word` meets its contract: two stores. Assumes nothing.
+-- `writers::bytes::put_word` meets its contract: two stores. Assumes nothing.
 use mathlib.Core.Path.{refl}
 use native.Mathlib.Omega.{arith}
 use Rattle.xm.specs.Number.{word}

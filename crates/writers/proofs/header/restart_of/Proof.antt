@@ -1,4 +1,4 @@
--- `press::header::restart_of` meets its contract. Assumes nothing.
+-- `writers::header::restart_of` meets its contract. Assumes nothing.
 use native.Mathlib.Omega.{arith}
 use borrow.Author.Tests.{lt-ltb, le-ltb}
 use Rattle.xm.specs.Header.{restartInside, restartOf}

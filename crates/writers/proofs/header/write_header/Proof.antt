@@ -1,4 +1,4 @@
--- `press::header::write_header` meets its contract: the three parts. Assumes nothing.
+-- `writers::header::write_header` meets its contract: the three parts. Assumes nothing.
 use mathlib.Core.Path.{refl, sym}
 use native.Mathlib.Omega.{arith}
 use lib.ListN.{length}

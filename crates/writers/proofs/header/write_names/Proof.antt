@@ -1,4 +1,4 @@
--- `press::header::write_names` meets its contract: five pieces. Assumes nothing.
+-- `writers::header::write_names` meets its contract: five pieces. Assumes nothing.
 use mathlib.Core.Path.{refl}
 use native.Mathlib.Omega.{arith}
 use Rattle.xm.specs.Number.{part, byte}

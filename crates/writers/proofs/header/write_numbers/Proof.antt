@@ -1,4 +1,4 @@
--- `press::header::write_numbers` meets its contract: six pieces. Assumes nothing.
+-- `writers::header::write_numbers` meets its contract: six pieces. Assumes nothing.
 use Prim.Native.Nat.{ℕ}
 use mathlib.Core.Path.{refl, sym, ap, _∙_}
 use native.Mathlib.Omega.{arith}

@@ -1,4 +1,4 @@
--- `press::header::write_orders` meets its contract: the orders, and then zeros. Assumes nothing.
+-- `writers::header::write_orders` meets its contract: the orders, and then zeros. Assumes nothing.
 use Prim.Native.Nat.{_-_}
 use mathlib.Core.List.{append-nil}
 use mathlib.Core.Path.{refl}

@@ -1,4 +1,4 @@
--- `press::instrument::write_front` meets its contract: I, and a copy. Assumes nothing.
+-- `writers::instrument::write_front` meets its contract: I, and a copy. Assumes nothing.
 use mathlib.Core.Path.{refl, sym, _∙_}
 use native.Mathlib.Omega.{arith}
 use lib.ListN.{drop, length-drop}

@@ -1,4 +1,4 @@
--- `press::instrument::write_heads` meets its contract: the headers that are left are still to be laid. Assumes nothing.
+-- `writers::instrument::write_heads` meets its contract: the headers that are left are still to be laid. Assumes nothing.
 use Prim.Native.Nat.{_+_, _-_}
 use native.Mathlib.Omega.{arith}
 use lib.ListN.{length, drop, length-take, length-drop}

@@ -1,4 +1,4 @@
--- `press::instrument::write_instrument` meets its contract: the front alone, or front, voice, headers and data. Assumes nothing.
+-- `writers::instrument::write_instrument` meets its contract: the front alone, or front, voice, headers and data. Assumes nothing.
 use Prim.Native.Nat.{_+_, _*_, _-_}
 use mathlib.Core.List.{List}
 use mathlib.Core.Path.{refl, sym, ap, _∙_}

@@ -1,4 +1,4 @@
--- `press::instrument::write_voice` meets its contract: three pieces. Assumes nothing.
+-- `writers::instrument::write_voice` meets its contract: three pieces. Assumes nothing.
 use mathlib.Core.Path.{refl}
 use native.Mathlib.Omega.{arith}
 use lib.ListN.{drop, length-drop}

@@ -1,4 +1,4 @@
--- `press::pattern::rows_of` meets its contract. Assumes nothing.
+-- `writers::pattern::rows_of` meets its contract. Assumes nothing.
 use borrow.Author.Tests.{eq-eqb, ne-eqb}
 use Rattle.writers.proofs.pattern.rows_of.Statement.{statement}
 use Rattle.writers.proofs.pattern.rows_of.Tie as tie

@@ -1,4 +1,4 @@
--- `press::pattern::write_head` meets its contract: four pieces. Assumes nothing.
+-- `writers::pattern::write_head` meets its contract: four pieces. Assumes nothing.
 use mathlib.Core.Path.{refl}
 use native.Mathlib.Omega.{arith}
 use Rattle.xm.specs.Number.{byte, word, long}
