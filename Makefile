@@ -1,6 +1,6 @@
 # make            builds the library and the command-line program, and says where they are
 # make example    tries the program on an example module
-# make tests      the library against the reference, deliberate faults, and the command line
+# make tests      the library and the listing against the reference, deliberate faults, and the command line
 # make bench      the library's times against the reference's and memcpy's
 # make clean      removes what was built, but for the library
 

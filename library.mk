@@ -1,4 +1,4 @@
-# library.mk: what cli, tests and bench have in common: the library, the compilers and how a program is run.
+# library.mk: what cli, tests and bench have in common: the library, the listing, the compilers and how a program is run.
 #
 #   CC, CFLAGS, LDFLAGS, RUN    for what is linked with the library, which is for x86-64. On an Arm machine CC is Debian's cross
 #                               compiler (package gcc-x86-64-linux-gnu), and RUN the toolchain's emulator
@@ -6,6 +6,7 @@
 
 ROOT := $(dir $(lastword $(MAKEFILE_LIST)))
 LIBRARY = $(ROOT)target/staticlib/libfiddlemarsh.a
+LISTING = $(ROOT)target/bin/listing
 HEADER = $(ROOT)include/fiddlemarsh.h
 BUILD = build
 CFLAGS = -O2 -g
@@ -14,21 +15,32 @@ HOST_CC = cc
 HOST_CXX = c++
 RUN =
 
-ifneq ($(shell uname -m),x86_64)
+MACHINE := $(shell uname -m)
+TOOLCHAIN := $(patsubst %/docs/START-HERE.md,%,$(shell rt doc))/on/$(MACHINE)/toolchain
+ifneq ($(MACHINE),x86_64)
 ifeq ($(origin CC),default)
 CC = x86_64-linux-gnu-gcc
 endif
 LDFLAGS = -static
-RUN := $(patsubst %/docs/START-HERE.md,%,$(shell rt doc))/on/$(shell uname -m)/toolchain/bin/qemu-x86_64
+RUN = $(TOOLCHAIN)/bin/qemu-x86_64
 endif
+
+# A proved program runs with the toolchain's C library.
+RUN_PROVED = $(RUN) $(TOOLCHAIN)/lib/ld-linux-x86-64.so.2 --library-path $(TOOLCHAIN)/lib
 
 # Objects of another compiler or other flags are never taken over.
 SETTINGS := $(CC) $(CFLAGS) $(LDFLAGS)
 $(shell mkdir -p $(BUILD) && { [ "$$(cat $(BUILD)/settings 2>/dev/null)" = '$(SETTINGS)' ] || printf '%s\n' '$(SETTINGS)' >$(BUILD)/settings; })
 
-# Proves the crates that have changed, and makes the archive of them.
-$(LIBRARY): $(shell find $(ROOT)crates -name '*.rt' -o -name '*.antt') $(ROOT)crates.txt
+# What was proved of the crates that have not changed is not proved again. One rt at a time.
+CRATES := $(shell find $(ROOT)crates -name '*.rt' -o -name '*.antt') $(ROOT)crates.txt
+
+$(LIBRARY): $(CRATES)
 	cd $(ROOT) && rt staticlib fiddlemarsh
+
+$(LISTING): $(CRATES) | $(LIBRARY)
+	cd $(ROOT) && rt check listing
+	touch $@
 
 $(BUILD)/%.o: $(ROOT)tests/%.c $(wildcard $(ROOT)tests/*.h) $(HEADER) $(BUILD)/settings
 	$(CC) $(WARNINGS) $(CFLAGS) -c $< -o $@

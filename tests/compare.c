@@ -88,7 +88,7 @@ static void try_unpack(size_t rows, size_t channels, const uint8_t *data, size_t
 static void try_pack(size_t rows, size_t channels, const uint8_t *cells)
 {
     size_t length = rows * channels * 5;
-    uint64_t answer = pack(rows, channels, cells, length, FIDDLEMARSH_DATA_MOST + 1);
+    uint64_t answer = pack(rows, channels, cells, length, length + 1); /* packed, a cell never takes more than its five bytes */
     pack(rows, channels, cells, length, 0);
     if (fiddlemarsh_refused(answer))
         return;
@@ -275,8 +275,9 @@ static void damage_data(const struct module *data, size_t rows, size_t channels)
     uint8_t bytes[512];
     const uint8_t values[] = {0, 1, 97, 98, 127, 128, 129, 159, 160, 191, 224, 255};
     size_t needed = needed_cells(rows, channels, 1);
+    size_t enough = needed_cells(rows > 64 ? rows : 64, channels, 1); /* for no data, too */
     for (size_t length = 0; length <= data->length; length++)
-        unpack(rows, channels, data->bytes, length, CELLS_MOST);
+        unpack(rows, channels, data->bytes, length, enough);
     for (size_t at = 0; at < data->length; at++)
         for (size_t i = 0; i < COUNT(values); i++) {
             memcpy(bytes, data->bytes, data->length);

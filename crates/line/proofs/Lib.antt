@@ -1,0 +1,4 @@
+pub mod DecimalLaws
+pub mod Put
+pub mod Exits
+pub mod Calls
