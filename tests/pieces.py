@@ -1,201 +1,287 @@
 #!/usr/bin/env python3
-"""Makes what the program `pieces` runs on: crates/pieces/data, args and stdout.
+"""What the program `pieces` runs on, and what it must write: crates/pieces/data, stdin and stdout.
 
-The answers come from a reference written from the rules alone, below; nothing of the library is used. Run it from the repository's root.
+    tests/pieces.py             makes them anew
+    tests/pieces.py --check     says whether they are what it makes
+
+A line of stdin is a file's name, a call and numbers; stdout has each line again, with the call's answer (refusal number, place, two
+results) and a checksum of the lent memory afterwards. The files are those of pieces_files.py; the answers come from pieces_rules.py.
 """
-import os
-import random
-import shutil
+import sys
+from itertools import islice
+from pathlib import Path
+
+sys.dont_write_bytecode = True
+
+import pieces_rules as rules  # noqa: E402
+from pieces_files import bench_files, damaged_files, valid_files  # noqa: E402
+
+FOLDER = Path(__file__).resolve().parent.parent / 'crates' / 'pieces'
+
+# The memory that the program lends: every byte of it is 5A hex.
+MEMORY = 81936
+LISTED_MOST = 65535
+BEYOND = 16
+VALUES = 1040
+TABLES = 776, 392, 264, 132
+BYTE, VALUE, ENTRY = 0x5A, 0x5A5A, 0x5A5A5A5A
 
 
-class Refused(Exception):
-    def __init__(self, number, place):
-        super().__init__(number, place)
-        self.number, self.place = number, place
+def checksum(numbers):
+    total = 1
+    for entry in numbers:
+        total = (total * 257 + entry) % 4294967311
+    return total
 
 
-def little(data, offset, size):
-    return int.from_bytes(data[offset:offset + size], 'little')
+def filled(written, filler, size):
+    """Lent memory of some size, after something was written to its front."""
+    return list(written) + [filler] * (size - len(written))
 
 
-def cells(data, count, base):
-    at = 0
-    for _ in range(count):
-        if at >= len(data):
-            raise Refused(7, base + at)
-        lead = data[at]
-        used = 5 if lead < 128 else 1 + bin(lead & 31).count('1')
-        if at + used > len(data):
-            raise Refused(7, base + at)
-        note = lead if lead < 128 else (data[at + 1] if lead & 1 else 0)
-        if note > 97:
-            raise Refused(9, base + at)
-        at += used
-    if at < len(data):
-        raise Refused(8, base + at)
+def sum_of_bytes(written, room):
+    return f' sum {checksum(filled(written, BYTE, min(room + BEYOND, MEMORY)))}'
 
 
-def sample_header(head, place):
-    length, start, looped, form = little(head, 0, 4), little(head, 4, 4), little(head, 8, 4), head[14]
-    if head[17] == 0xAD:
-        raise Refused(12, place)
-    if form % 4 == 3 or (form & 16 and length % 2) or (looped and form % 4 and start + looped > length):
-        raise Refused(13, place)
-    return length
-
-
-def instrument(file, at):
-    if at + 29 > len(file):
-        raise Refused(1, at)
-    size, count = little(file, at, 4), little(file, at + 27, 2)
-    if size < 29 or count > 16 or (size < 263 and count > 0):
-        raise Refused(10, at)
-    if at + size > len(file):
-        raise Refused(1, at)
-    if count == 0:
-        return at + size, 0
-    head_size = little(file, at + 29, 4)
-    if head_size < 40:
-        raise Refused(11, at)
-    heads = at + size
-    if heads + count * head_size > len(file):
-        raise Refused(1, at)
-    lengths = [sample_header(file[place:place + 40], place) for place in range(heads, heads + count * head_size, head_size)]
-    place = heads + count * head_size
-    for length in lengths:
-        if place + length > len(file):
-            raise Refused(1, place)
-        place += length
-    return place, count
-
-
-def check(file):
-    if len(file) > 16777216:
-        raise Refused(2, 0)
-    if len(file) < 80:
-        raise Refused(1, 0)
-    if file[37] != 0x1A or little(file, 58, 2) != 0x0104:
-        raise Refused(3, 0)
-    size = little(file, 60, 4)
-    if size < 276:
-        raise Refused(4, 0)
-    song, channels, patterns, instruments = (little(file, offset, 2) for offset in (64, 68, 70, 72))
-    if not 1 <= song <= 256 or not 1 <= patterns <= 256 or not 1 <= channels <= 64 or instruments > 128:
-        raise Refused(5, 0)
-    if size + 60 > len(file):
-        raise Refused(1, 0)
-    at = size + 60
-    for _ in range(patterns):
-        if at + 9 > len(file):
-            raise Refused(1, at)
-        head, rows, data = little(file, at, 4), little(file, at + 5, 2), little(file, at + 7, 2)
-        if head < 9 or not 1 <= rows <= 256:
-            raise Refused(6, at)
-        if at + head + data > len(file):
-            raise Refused(1, at)
-        if data:
-            cells(file[at + head:at + head + data], rows * channels, at + head)
-        at += head + data
-    samples = 0
-    for _ in range(instruments):
-        at, count = instrument(file, at)
-        samples += count
-    return at, channels, patterns, instruments, samples
-
-
-def number(value, size):
-    return value.to_bytes(size, 'little')
-
-
-def noise(size):
-    return bytes(random.randrange(256) for _ in range(size))
-
-
-def header(song=1, restart=0, channels=1, patterns=1, instruments=0, size=276, mark=0x1A, version=0x0104):
-    fields = (song, restart, channels, patterns, instruments, random.randrange(65536), 6, 125)
-    front = noise(37) + bytes([mark]) + noise(20) + number(version, 2) + number(size, 4) + b''.join(number(f, 2) for f in fields)
-    return front + noise(max(256, size - 20))
-
-
-def pattern(rows, data, size=9, stored=None):
-    return number(size, 4) + noise(1) + number(rows, 2) + number(len(data) if stored is None else stored, 2) + noise(size - 9) + bytes(data)
-
-
-def sample(length, start=0, looped=0, form=0, kind=0, size=40):
-    return number(length, 4) + number(start, 4) + number(looped, 4) + bytes([64, 0x80, form, 128, 0x1D, kind]) + noise(size - 18)
-
-
-def voice(count, heads, data, size=263, head_size=40):
-    return number(size, 4) + noise(23) + number(count, 2) + (number(head_size, 4) + noise(size - 33) if size > 29 else b'') + b''.join(heads) + data
-
-
-def files():
-    empty = pattern(64, [])
-    yield 'bench', header() + empty
-    yield 'header_size_275', header(size=275) + empty
-    yield 'header_size_276', header(size=276) + empty
-    for rows in (0, 1, 256, 257):
-        yield f'rows_{rows}', header() + pattern(rows, [])
-    yield 'rows_256_stored', header(restart=1) + pattern(256, [0x80] * 256)
-    yield 'nothing', b''
-    yield 'cut_header', (header() + empty)[:79]
-    yield 'cut_orders', header()[:335]
-    yield 'no_mark', header(mark=0) + empty
-    yield 'version_0103', header(version=0x0103) + empty
-    yield 'song_257', header(song=257) + empty
-    yield 'channels_65', header(channels=65) + empty
-    yield 'instruments_129', header(instruments=129) + empty
-    yield 'no_pattern', header()
-    yield 'cut_pattern', header() + pattern(2, [0x80], stored=9)
-    yield 'short_pattern_header', header() + number(8, 4) + pattern(64, [])[4:]
-    yield 'cut_cell', header() + pattern(2, [0x80])
-    yield 'cut_marked_cell', header() + pattern(1, [0x83, 0x62])
-    yield 'bytes_left', header() + pattern(1, [0x80, 0x80])
-    yield 'note_98', header() + pattern(2, [0x80, 0x81, 0x62])
-    yield 'three_patterns', (header(song=3, restart=2, channels=2, patterns=3, size=280)
-                             + pattern(2, [0x83, 1, 1, 0x80, 0xE0, 1, 1, 0, 5, 0x1F], size=11)
-                             + pattern(1, [0x31, 2, 0x40, 0x0F, 6, 0x9F, 0, 1, 0, 0, 0]) + pattern(7, []) + noise(5))
-    front = header(instruments=1) + empty
-    yield 'no_instrument', front
-    yield 'instrument_28', front + number(28, 4) + noise(23) + number(0, 2)
-    yield 'samples_17', front + voice(17, [], b'')
-    yield 'instrument_262', front + voice(1, [sample(0)], b'', size=262)
-    yield 'cut_instrument', front + voice(0, [], b'', size=60)[:50]
-    yield 'sample_header_39', front + voice(1, [sample(0, size=39)], b'', head_size=39)
-    yield 'cut_sample_headers', front + voice(2, [sample(0)], b'')
-    yield 'adpcm', front + voice(2, [sample(0), sample(0, form=3, kind=0xAD)], b'')
-    yield 'loop_bits_3', front + voice(1, [sample(4, form=3)], noise(4))
-    yield 'odd_16_bit', front + voice(1, [sample(3, form=16)], noise(3))
-    yield 'loop_past_the_end', front + voice(1, [sample(4, 0xFFFFFFFF, 2, form=1)], noise(4))
-    yield 'loop_to_the_end', front + voice(1, [sample(4, 1, 3, form=2)], noise(4))
-    yield 'no_loop', front + voice(1, [sample(4, 0xFFFFFFFF, 0xFFFFFFFF)], noise(4))
-    yield 'cut_sample_data', front + voice(2, [sample(4), sample(9)], noise(8))
-    yield 'fault_before_data', front + voice(2, [sample(400), sample(4, form=3)], noise(8))
-    yield 'two_instruments', (header(instruments=2) + empty + voice(0, [], b'', size=33)
-                              + voice(2, [sample(4, 1, 3, form=0x12, size=44), sample(3, 9, 9, kind=0x55, size=44)], noise(7), head_size=44) + noise(3))
-
-
-def line(name, file):
+def answered(call, *arguments):
+    """What a call of the reference gives, or nothing; and the answer that a refusal is, or none."""
     try:
-        return f'{name} ok ' + ' '.join(map(str, check(file)))
-    except Refused as refusal:
-        return f'{name} refused {refusal.number} {refusal.place}'
+        return call(*arguments), None
+    except rules.Refused as refusal:
+        return None, f' {refusal.number} {refusal.place} 0 0'
 
 
-def main():
-    random.seed(345)
-    folder = os.path.join('crates', 'pieces')
-    shutil.rmtree(os.path.join(folder, 'data'), ignore_errors=True)
-    os.makedirs(os.path.join(folder, 'data'))
-    worked = list(files())
-    for name, file in worked:
-        with open(os.path.join(folder, 'data', name), 'wb') as out:
-            out.write(file)
-    with open(os.path.join(folder, 'args'), 'w', encoding='ascii') as out:
-        out.writelines(name + '\n' for name, _ in worked)
-    with open(os.path.join(folder, 'stdout'), 'w', encoding='ascii') as out:
-        out.writelines(line(name, file) + '\n' for name, file in worked)
+def accepted(first, second=0):
+    return f' 0 0 {first} {second}'
+
+
+# What the program writes of each call
+
+
+def counts(module):
+    end, channels, *others = module.counts()
+    return accepted(end, channels) + ''.join(f' {count}' for count in others)
+
+
+def say_check(file):
+    module, refusal = answered(rules.read_module, file)
+    return refusal or counts(module)
+
+
+def say_structures(file):
+    module, refusal = answered(rules.read_module, file)
+    return refusal or ''.join(f' {kind} {place}' for kind, place in rules.structures(module)) + ' end'
+
+
+def say_reader(file):
+    module, refusal = answered(rules.read_module, file)
+    kinds = [kind for kind, _ in rules.structures(module)] if module else []
+    return refusal or accepted(kinds.count('pattern'), kinds.count('instrument')) + f" {kinds.count('sample')}"
+
+
+def say_line(file):
+    module, refusal = answered(rules.read_module, file)
+    if len(file) > LISTED_MOST:
+        return ' refused 2 0\n'
+    if refusal:
+        return ' refused ' + ' '.join(refusal.split()[:2]) + '\n'
+    return ' ok ' + ' '.join(map(str, module.counts())) + '\n'
+
+
+def say_press(file, room):
+    pressed, refusal = answered(rules.press, file, room)
+    return (refusal or accepted(len(pressed))) + sum_of_bytes(pressed or b'', room)
+
+
+def tables_of(module):
+    return [rules.pattern_table(module), rules.instrument_table(module), rules.sample_table(module), rules.tune_table(module)]
+
+
+def check_into(file, rooms):
+    """The counts and the tables of a file, if the rooms, in numbers, will do."""
+    module = rules.read_module(file)
+    for table, room in zip(tables_of(module), rooms):
+        rules.need(len(table) <= room, 14, 0)
+    return module
+
+
+def say_tables(file, *rooms):
+    module, refusal = answered(check_into, file, rooms)
+    tables = tables_of(module) if module else [[], [], [], []]
+    patterns, instruments, samples = (filled(table, ENTRY, size) for table, size in zip(tables, TABLES[:3]))
+    tunes = filled([tune % 65536 for tune in tables[3]], BYTE, TABLES[3])
+    return (refusal or counts(module)) + f' sum {checksum(patterns + instruments + samples + tunes)}'
+
+
+def say_ask(file, wanted, lent, size):
+    table = filled(rules.sample_table(rules.read_module(file)), ENTRY, TABLES[2])[:lent]
+    cut = file[:size]
+    lies, refusal = answered(rules.ask, cut, table, wanted)
+    place, length = lies or (0, 0)
+    stretch = cut[place:place + length]
+    return (refusal or accepted(place, length)) + f' {16 if refusal else 0} {length} sum {checksum(stretch)}'
+
+
+def say_deltas(file, wanted, width, value_room, code_width, room):
+    data = rules.read_module(file).samples()[wanted].data
+    values, refusal = answered(rules.decode, width, data, value_room)
+    decoded = (refusal or accepted(len(values))) + f' sum {checksum(filled([value % 65536 for value in values or []], VALUE, VALUES))}'
+    coded, refusal = answered(rules.code, code_width, values or [], room)
+    return decoded + (refusal or accepted(len(coded))) + sum_of_bytes(coded or b'', room)
+
+
+def say_unpack(file, wanted, skipped, rows, channels, room):
+    stored = rules.read_module(file).patterns[wanted].stored[skipped:]
+    unpacked, refusal = answered(rules.unpack, rows, channels, stored, room)
+    unpacked_rows, cells = unpacked or (0, b'')
+    return (refusal or accepted(unpacked_rows)) + sum_of_bytes(cells, room)
+
+
+SAY = {'check': say_check, 'structures': say_structures, 'reader': say_reader, 'line': say_line, 'press': say_press,
+       'tables': say_tables, 'ask': say_ask, 'deltas': say_deltas, 'unpack': say_unpack}
+
+
+# The script
+
+
+def table_calls(module):
+    """Each table a number short, if it has a row; as many numbers as are needed; and all the memory."""
+    needed = [len(table) for table in tables_of(module)]
+    for short, size in enumerate(needed):
+        if size:
+            yield 'tables', *(room - (at == short) for at, room in enumerate(needed))
+    yield 'tables', *needed
+    yield 'tables', *TABLES
+
+
+def ask_calls(file, module):
+    """Each sample; a row whose data is in no file; a number past the rows; and files cut where data ends, and a byte before."""
+    samples = module.samples()
+    lent = 4 * len(samples) + 6
+    for wanted in range(len(samples) + 2):
+        yield 'ask', wanted, lent, len(file)
+    for wanted, sample in list(enumerate(samples))[:4]:
+        end = sample.data_place + len(sample.data)
+        yield 'ask', wanted, lent, end
+        yield 'ask', wanted, lent, end - 1
+
+
+def delta_calls(wanted, sample):
+    """Both ways at the sample's width with no number to spare; a number too little; the other width; and no width."""
+    width = rules.width_of(sample.head)
+    other = 24 - width
+    size = len(sample.data)
+    count = size * 8 // width
+    yield 'deltas', wanted, width, count, width, size
+    yield 'deltas', wanted, width, count + 3, other, 2 * size
+    yield 'deltas', wanted, other, size, other, size + 5
+    yield 'deltas', wanted, 12, size, width, size
+    yield 'deltas', wanted, width, count, 12, size
+    if size:
+        yield 'deltas', wanted, width, count - 1, width, size
+        yield 'deltas', wanted, width, count, width, size - 1
+
+
+def pattern_calls(channels, wanted, pattern):
+    """No byte to spare, more room, and a byte too little; data out of step; other rows and channels."""
+    rows, size = pattern.rows, len(pattern.cells)
+    for room in (size, size + 9, size - 1):
+        yield 'unpack', wanted, 0, rows, channels, room
+    yield 'unpack', wanted, 1, rows, channels, size
+    for other_rows, other_channels in ((rows + 1, channels), (rows, channels + 1), (rows, channels - 1), (0, channels)):
+        yield 'unpack', wanted, 0, other_rows, other_channels, size
+
+
+def shown(wanted):
+    """How many calls are made on a pattern or sample: all, and from the tenth of a file on only the first."""
+    return None if wanted < 9 else 1
+
+
+def valid_calls(file, module):
+    length = len(rules.press(file, len(file)))
+    yield from (('press', room) for room in (len(file) + 9, length, length - 1))
+    yield from table_calls(module)
+    yield from ask_calls(file, module)
+    for wanted, pattern in enumerate(module.patterns):
+        yield from islice(pattern_calls(module.channels, wanted, pattern), shown(wanted))
+    for wanted, sample in enumerate(module.samples()):
+        yield from islice(delta_calls(wanted, sample), shown(wanted))
+
+
+def calls(file):
+    yield 'check',
+    yield 'structures',
+    yield 'reader',
+    yield 'line',
+    module, refusal = answered(rules.read_module, file)
+    if refusal:
+        yield 'press', len(file)
+        yield 'tables', *TABLES
+    else:
+        yield from valid_calls(file, module)
+
+
+def script(files):
+    """Each line's words, and its answer."""
+    for name, file in files.items():
+        for call, *numbers in calls(file):
+            yield ' '.join([name, call, *map(str, numbers)]), ':' + SAY[call](file, *numbers)
+
+
+def refused(file):
+    return answered(rules.read_module, file)[1]
+
+
+def worked_files():
+    valid, damaged = valid_files(), damaged_files()
+    amiss = [name for name in valid if refused(valid[name])] + [name for name in damaged if not refused(damaged[name])]
+    if amiss:
+        raise SystemExit('neither valid nor damaged as they should be: ' + ', '.join(amiss))
+    return {**bench_files(), **valid, **damaged}
+
+
+def made():
+    """Every file that is made, by its path."""
+    files = worked_files()
+    lines = list(script(files))
+    texts = {FOLDER / 'stdin': ''.join(line + '\n' for line, _ in lines),
+             FOLDER / 'stdout': ''.join(line + answer + '\n' for line, answer in lines)}
+    if len(texts[FOLDER / 'stdin']) >= MEMORY:
+        raise SystemExit('stdin is longer than the program reads')
+    return {**{FOLDER / 'data' / name: file for name, file in files.items()},
+            **{path: text.encode('ascii') for path, text in texts.items()}}
+
+
+def standing():
+    return [path for path in (*(FOLDER / 'data').glob('*'), FOLDER / 'stdin', FOLDER / 'stdout') if path.exists()]
+
+
+def check(files):
+    differing = sorted(str(path) for path in {*files, *standing()}
+                       if path not in files or not path.exists() or path.read_bytes() != files[path])
+    if differing:
+        raise SystemExit('not what tests/pieces.py makes: ' + ', '.join(differing))
+    print(f'{len(files)} files are what tests/pieces.py makes')
+
+
+def write(files):
+    for path in standing():
+        path.unlink()
+    (FOLDER / 'data').mkdir(exist_ok=True)
+    for path, content in files.items():
+        path.write_bytes(content)
+    print(f'{len(files)} files written')
+
+
+def main(arguments):
+    if arguments not in ([], ['--check']):
+        raise SystemExit(__doc__)
+    files = made()
+    if arguments:
+        check(files)
+    else:
+        write(files)
 
 
 if __name__ == '__main__':
-    main()
+    main(sys.argv[1:])

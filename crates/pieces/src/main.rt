@@ -1,65 +1,82 @@
-// Runs worked files, which its arguments name, through the calls, and writes a line for each: what the paper's pieces and an
-// independent reference say they should give stands in `stdout` beside this folder.
-use libc::STDOUT_FILENO;
-use refusal::Fault;
-use walk::Module;
-use walk::Verdict;
+// Runs a script of calls on worked files, and writes each line of it with what the call gave: its answer, and a checksum of the lent
+// memory afterwards. The script is `stdin` beside this folder; `stdout` there is what an independent reference, tests/pieces.py, says of it.
+mod files;
+mod lent;
+mod patterns;
+mod script;
+mod stretches;
+mod sum;
+mod tabling;
+mod write;
 
-fn put(number: usize) {
-    io::write_all(STDOUT_FILENO, b" ");
-    io::print_decimal(STDOUT_FILENO, number as u64);
-}
+use lent::memory;
+use lent::part;
+use libc::STDIN_FILENO;
+use reader::count::count_structures;
+use script::Numbers;
+use script::numbers_of;
+use write::say;
 
-fn put_fault(fault: Fault) {
-    io::write_all(STDOUT_FILENO, b" refused ");
-    io::print_decimal(STDOUT_FILENO, fault.number as u64);
-    put(fault.place);
-}
-
-fn put_module(module: Module) {
-    io::write_all(STDOUT_FILENO, b" ok");
-    put(module.end);
-    put(module.channels);
-    put(module.patterns);
-    put(module.instruments);
-    put(module.samples);
-}
-
-fn put_check(file: &[u8]) {
-    let verdict = walk::check(file);
-    match verdict {
-        Verdict::Accepted(module) => put_module(module),
-        Verdict::Refused(fault) => put_fault(fault),
-    }
-}
-
-// A file's name and what the check says of it.
-fn run(name: &[u8]) {
-    io::write_all(STDOUT_FILENO, name);
-    let handle = os::open_read(name);
-    if handle < 0 {
-        io::write_all(STDOUT_FILENO, b" is missing\n");
+// The call of a line, by its first two letters: check, structures, reader, line, press; tables, ask, deltas, unpack.
+fn run_call(file: &[u8], numbers: Numbers, first: u8, second: u8) {
+    if first == b'c' {
+        files::put_verdict(walk::check(file));
         return;
     }
-    let mut bytes = io::large_buffer();
+    if first == b's' {
+        files::put_structures(file);
+        return;
+    }
+    if first == b'r' {
+        files::put_counted(count_structures(file));
+        return;
+    }
+    if first == b'l' {
+        files::put_line(file);
+        return;
+    }
+    if second == b'r' {
+        let mut lent = memory();
+        files::put_press(file, numbers.first, &mut lent);
+        return;
+    }
+    tabling::run_tables(file, numbers, first);
+}
+
+fn run_opened(handle: i32, line: &[u8], length: usize) {
+    let mut bytes = memory();
     let size = io::read_full(handle, &mut bytes);
     libc::close(handle);
-    put_check(&bytes[..size]);
-    io::write_all(STDOUT_FILENO, b"\n");
+    let call = script::letter(line, length, 1);
+    let next = script::letter(line, length, 2);
+    run_call(&bytes[..size], numbers_of(line), call, next);
 }
 
-fn run_argument(number: usize) {
-    let mut name = io::buffer();
-    let size = os::arg(number, &mut name);
-    if os::errno() != 0 {
+fn run_line(line: &[u8]) {
+    say(line);
+    let length = script::name_length(line);
+    let handle = os::open_read(part(line, 0, length));
+    if handle < 0 {
+        say(b" is missing\n");
         return;
     }
-    run(&name[..size]);
+    say(b":");
+    run_opened(handle, line, length);
+    say(b"\n");
+}
+
+fn run_script(script: &[u8]) {
+    let mut from: usize = 0;
+    for end in 0..script.len() {
+        if script[end] == b'\n' {
+            run_line(part(script, from, end - from));
+            from = end + 1;
+        }
+    }
 }
 
 fn main() {
-    let count = os::arg_count();
-    for number in 1..count {
-        run_argument(number);
-    }
+    let mut script = memory();
+    let size = io::read_full(STDIN_FILENO, &mut script);
+    run_script(&script[..size]);
 }

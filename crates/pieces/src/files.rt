@@ -1,0 +1,95 @@
+// Calls on a file alone: the check, the structures in order, their counts, the listing's line, and the press.
+use crate::lent::least;
+use crate::write::Answer;
+use crate::write::accepted;
+use crate::write::put;
+use crate::write::put_answer;
+use crate::write::put_lent;
+use crate::write::refused;
+use crate::write::say;
+use press::Pressed;
+use reader::count::Counted;
+use tables::standing::Standing;
+use tables::standing::standing_at;
+use walk::Verdict;
+
+pub fn put_verdict(verdict: Verdict) {
+    match verdict {
+        Verdict::Accepted(module) => {
+            put_answer(accepted(module.end, module.channels));
+            put(module.patterns);
+            put(module.instruments);
+            put(module.samples);
+        }
+        Verdict::Refused(fault) => put_answer(refused(fault)),
+    }
+}
+
+// Answers where to look for the next structure.
+fn put_structure(kind: &[u8], place: usize) -> usize {
+    say(kind);
+    put(place);
+    least(place, 16777216) + 1
+}
+
+// Answers where to look for the next structure; 0 where there is none.
+fn put_standing(standing: Standing) -> usize {
+    match standing {
+        Standing::Pattern(place) => put_structure(b" pattern", place),
+        Standing::Instrument(place) => put_structure(b" instrument", place),
+        Standing::SampleHeader(place) => put_structure(b" sample", place),
+        Standing::End => {
+            say(b" end");
+            0
+        }
+        Standing::Refused(fault) => {
+            put_answer(refused(fault));
+            0
+        }
+    }
+}
+
+// More structures than any file of the script has.
+const STRUCTURES_MOST: usize = 1000;
+
+pub fn put_structures(file: &[u8]) {
+    let mut place = put_standing(standing_at(file, 0));
+    let mut left = STRUCTURES_MOST;
+    while 0 < left && 0 < place {
+        place = put_standing(standing_at(file, place));
+        left -= 1;
+    }
+}
+
+// What the small reader counted.
+pub fn put_counted(counted: Counted) {
+    match counted {
+        Counted::Accepted(counts) => {
+            put_answer(accepted(counts.patterns, counts.instruments));
+            put(counts.samples);
+        }
+        Counted::Refused(fault) => put_answer(refused(fault)),
+    }
+}
+
+// The listing's line, with its own end.
+pub fn put_line(file: &[u8]) {
+    let mut text = [0u8; 128];
+    let length = line::fill_line(file, &mut text);
+    say(b" ");
+    say(&text[..length]);
+}
+
+fn of_pressed(pressed: Pressed) -> Answer {
+    match pressed {
+        Pressed::Length(length) => accepted(length, 0),
+        Pressed::Refused(fault) => refused(fault),
+    }
+}
+
+pub fn put_press(file: &[u8], wanted: usize, lent: &mut [u8]) {
+    let room = least(wanted, lent.len());
+    let pressed = press::press(file, &mut lent[0..room]);
+    put_answer(of_pressed(pressed));
+    put_lent(lent, room);
+}

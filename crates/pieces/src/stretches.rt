@@ -1,0 +1,80 @@
+// A sample by its number, and its deltas both ways.
+use crate::lent::least;
+use crate::lent::part;
+use crate::script::Numbers;
+use crate::sum;
+use crate::write::Answer;
+use crate::write::accepted;
+use crate::write::put;
+use crate::write::put_answer;
+use crate::write::put_lent;
+use crate::write::put_sum;
+use crate::write::refused;
+use samples::Coded;
+use samples::Decoded;
+use tables::ask::Asked;
+use tables::ask::ask_sample;
+use tables::ask::sample_refusal;
+use tables::ask::sample_stretch;
+
+fn of_asked(asked: Asked) -> Answer {
+    match asked {
+        Asked::Lies(stretch) => accepted(stretch.place, stretch.length),
+        Asked::Refused(fault) => refused(fault),
+    }
+}
+
+// Numbers: the sample, the table's numbers that are lent, the file's bytes that are.
+pub fn put_ask(file: &[u8], numbers: Numbers, samples: &[u32]) {
+    let wanted = numbers.first;
+    let lent = least(numbers.second, samples.len());
+    let cut = part(file, 0, numbers.third);
+    put_answer(of_asked(ask_sample(cut, &samples[0..lent], wanted)));
+    put(sample_refusal(cut, &samples[0..lent], wanted) as usize);
+    let stretch = sample_stretch(cut, &samples[0..lent], wanted);
+    put(stretch.len());
+    put_sum(sum::of_bytes(stretch));
+}
+
+fn of_decoded(decoded: Decoded) -> Answer {
+    match decoded {
+        Decoded::Values(count) => accepted(count, 0),
+        Decoded::Refused(fault) => refused(fault),
+    }
+}
+
+// Answers how many values there are.
+fn put_decode(width: usize, stretch: &[u8], wanted: usize, values: &mut [i16]) -> usize {
+    let room = least(wanted, values.len());
+    let answer = of_decoded(samples::decode(width, stretch, &mut values[0..room]));
+    put_answer(answer);
+    put_sum(sum::of_values(values));
+    answer.first
+}
+
+fn of_coded(coded: Coded) -> Answer {
+    match coded {
+        Coded::Bytes(count) => accepted(count, 0),
+        Coded::Refused(fault) => refused(fault),
+    }
+}
+
+fn put_code(width: usize, values: &[i16], wanted: usize, lent: &mut [u8]) {
+    let room = least(wanted, lent.len());
+    let coded = samples::code(width, values, &mut lent[0..room]);
+    put_answer(of_coded(coded));
+    put_lent(lent, room);
+}
+
+fn put_both(numbers: Numbers, stretch: &[u8], values: &mut [i16], lent: &mut [u8]) {
+    let decoded = put_decode(numbers.second, stretch, numbers.third, values);
+    let count = least(decoded, values.len());
+    put_code(numbers.fourth, &values[0..count], numbers.fifth, lent);
+}
+
+// Numbers: the sample, the width to decode at, room for values, the width to code them at, room for bytes.
+pub fn put_deltas(file: &[u8], numbers: Numbers, samples: &[u32], lent: &mut [u8]) {
+    let stretch = sample_stretch(file, samples, numbers.first);
+    let mut values: [i16; 1040] = [23130; 1040];
+    put_both(numbers, stretch, &mut values, lent);
+}

@@ -1,0 +1,58 @@
+// The program's words and numbers, on standard output.
+use crate::lent::least;
+use crate::lent::part;
+use crate::sum;
+use libc::STDOUT_FILENO;
+use refusal::Fault;
+
+pub fn say(words: &[u8]) {
+    io::write_all(STDOUT_FILENO, words);
+}
+
+pub fn put(number: usize) {
+    say(b" ");
+    io::print_decimal(STDOUT_FILENO, number as u64);
+}
+
+// An answer: a refusal's number and place, and the results, which are 0 where there are none.
+pub struct Answer {
+    pub number: usize,
+    pub place: usize,
+    pub first: usize,
+    pub second: usize,
+}
+
+pub fn accepted(first: usize, second: usize) -> Answer {
+    Answer {
+        number: 0,
+        place: 0,
+        first: first,
+        second: second,
+    }
+}
+
+pub fn refused(fault: Fault) -> Answer {
+    Answer {
+        number: fault.number as usize,
+        place: fault.place,
+        first: 0,
+        second: 0,
+    }
+}
+
+pub fn put_answer(answer: Answer) {
+    put(answer.number);
+    put(answer.place);
+    put(answer.first);
+    put(answer.second);
+}
+
+pub fn put_sum(sum: u64) {
+    say(b" sum");
+    put(sum as usize);
+}
+
+// Memory of which so much was lent, and 16 bytes behind that.
+pub fn put_lent(memory: &[u8], room: usize) {
+    put_sum(sum::of_bytes(part(memory, 0, least(room, memory.len()) + 16)));
+}

@@ -1,0 +1,306 @@
+"""The rules, as a reference of its own: written from the rules paper alone, with nothing of the library."""
+from dataclasses import dataclass
+
+
+class Refused(Exception):
+    """A refusal: its number and its place."""
+
+    def __init__(self, number, place):
+        super().__init__(number, place)
+        self.number, self.place = number, place
+
+
+def need(holds, number, place):
+    if not holds:
+        raise Refused(number, place)
+
+
+def little(data, offset, size):
+    return int.from_bytes(data[offset:offset + size], 'little')
+
+
+def number(value, size):
+    return value.to_bytes(size, 'little')
+
+
+def signed(value, bits):
+    return (value + 2 ** (bits - 1)) % 2 ** bits - 2 ** (bits - 1)
+
+
+# What a file holds
+
+
+@dataclass
+class Pattern:
+    place: int
+    data_place: int
+    stored: bytes
+    rows: int
+    cells: bytes
+
+
+@dataclass
+class Sample:
+    place: int
+    head: bytes
+    data_place: int
+    data: bytes
+
+    def row(self):
+        return self.place, self.data_place, len(self.data), width_of(self.head)
+
+    def tunes(self):
+        return signed(self.head[13], 8), signed(self.head[16], 8)
+
+
+@dataclass
+class Instrument:
+    place: int
+    name_and_type: bytes
+    voice: bytes
+    samples: list
+
+
+@dataclass
+class Module:
+    header: bytes
+    channels: int
+    patterns: list
+    instruments: list
+    end: int
+
+    def samples(self):
+        return [sample for instrument in self.instruments for sample in instrument.samples]
+
+    def counts(self):
+        return self.end, self.channels, len(self.patterns), len(self.instruments), len(self.samples())
+
+
+# Cells and stored patterns
+
+
+def fields_of(lead, following):
+    """The five fields of a cell, by its lead byte and what follows."""
+    if lead < 128:
+        return bytes([lead]) + following
+    left = iter(following)
+    return bytes(next(left) if lead >> bit & 1 else 0 for bit in range(5))
+
+
+def read_cells(data, count, base):
+    """Cells that fill the data, five bytes each; places count from `base`."""
+    cells, at = bytearray(), 0
+    for _ in range(count):
+        need(at < len(data), 7, base + at)
+        lead = data[at]
+        used = 5 if lead < 128 else 1 + bin(lead & 31).count('1')
+        need(at + used <= len(data), 7, base + at)
+        fields = fields_of(lead, data[at + 1:at + used])
+        need(fields[0] <= 97, 9, base + at)
+        cells += fields
+        at += used
+    need(at == len(data), 8, base + at)
+    return bytes(cells)
+
+
+def read_stored(rows, channels, data, base):
+    """Rows and cells of a stored form."""
+    if not data:
+        return 64, bytes(64 * channels * 5)
+    return rows, read_cells(data, rows * channels, base)
+
+
+def shortest_cell(fields):
+    kept = bytes(field for field in fields if field)
+    if len(kept) == 5:
+        return fields
+    return bytes([128 + sum(1 << bit for bit in range(5) if fields[bit])]) + kept
+
+
+def shortest(rows, cells):
+    """The data of a pattern's shortest stored form."""
+    if rows == 64 and not any(cells):
+        return b''
+    return b''.join(shortest_cell(cells[at:at + 5]) for at in range(0, len(cells), 5))
+
+
+def unpack(rows, channels, data, room):
+    need(1 <= rows <= 256 and 1 <= channels <= 64 and len(data) <= 65535, 16, 0)
+    rows, cells = read_stored(rows, channels, data, 0)
+    need(len(cells) <= room, 14, 0)
+    return rows, cells
+
+
+# The walk over a file
+
+
+def read_header(file):
+    """The patterns' and instruments' numbers, the channels, and where the first pattern stands."""
+    need(len(file) <= 16777216, 2, 0)
+    need(len(file) >= 80, 1, 0)
+    need(file[37] == 0x1A and little(file, 58, 2) == 0x0104, 3, 0)
+    size = little(file, 60, 4)
+    need(size >= 276, 4, 0)
+    song, channels, patterns, instruments = (little(file, offset, 2) for offset in (64, 68, 70, 72))
+    need(1 <= song <= 256 and 1 <= patterns <= 256 and 1 <= channels <= 64 and instruments <= 128, 5, 0)
+    need(size + 60 <= len(file), 1, 0)
+    return patterns, instruments, channels, size + 60
+
+
+def read_pattern(file, place, channels):
+    need(place + 9 <= len(file), 1, place)
+    length, rows, size = little(file, place, 4), little(file, place + 5, 2), little(file, place + 7, 2)
+    need(length >= 9 and 1 <= rows <= 256, 6, place)
+    need(place + length + size <= len(file), 1, place)
+    data_place = place + length
+    stored = file[data_place:data_place + size]
+    return Pattern(place, data_place, stored, *read_stored(rows, channels, stored, data_place))
+
+
+def width_of(head):
+    return 16 if head[14] & 16 else 8
+
+
+def try_head(head, place):
+    length, start, loop = (little(head, offset, 4) for offset in (0, 4, 8))
+    bits = head[14] % 4
+    need(head[17] != 0xAD, 12, place)
+    need(bits != 3, 13, place)
+    need(width_of(head) == 8 or length % 2 == 0, 13, place)
+    need(loop == 0 or bits == 0 or start + loop <= length, 13, place)
+
+
+def read_samples(file, instrument, heads, size, count):
+    """An instrument's samples: all headers are tried before any data is."""
+    need(heads + count * size <= len(file), 1, instrument)
+    places = [heads + at * size for at in range(count)]
+    for place in places:
+        try_head(file[place:place + 40], place)
+    samples, data_place = [], heads + count * size
+    for place in places:
+        length = little(file, place, 4)
+        need(data_place + length <= len(file), 1, data_place)
+        samples.append(Sample(place, file[place:place + 40], data_place, file[data_place:data_place + length]))
+        data_place += length
+    return samples, data_place
+
+
+def read_instrument(file, place):
+    """An instrument and where it ends."""
+    need(place + 29 <= len(file), 1, place)
+    size, count = little(file, place, 4), little(file, place + 27, 2)
+    need(size >= 29 and count <= 16 and (count == 0 or size >= 263), 10, place)
+    need(place + size <= len(file), 1, place)
+    name_and_type = file[place + 4:place + 27]
+    if count == 0:
+        return Instrument(place, name_and_type, b'', []), place + size
+    head_size = little(file, place + 29, 4)
+    need(head_size >= 40, 11, place)
+    samples, end = read_samples(file, place, place + size, head_size, count)
+    return Instrument(place, name_and_type, file[place + 33:place + 241], samples), end
+
+
+def read_module(file):
+    pattern_count, instrument_count, channels, place = read_header(file)
+    patterns, instruments = [], []
+    for _ in range(pattern_count):
+        patterns.append(read_pattern(file, place, channels))
+        place = patterns[-1].data_place + len(patterns[-1].stored)
+    for _ in range(instrument_count):
+        instrument, place = read_instrument(file, place)
+        instruments.append(instrument)
+    return Module(file[:336], channels, patterns, instruments, place)
+
+
+# Tables and structures
+
+
+def pattern_table(module):
+    return [entry for pattern in module.patterns for entry in (pattern.data_place, len(pattern.stored), pattern.rows)]
+
+
+def instrument_table(module):
+    table, first = [], 0
+    for instrument in module.instruments:
+        table += [instrument.place, len(instrument.samples), first]
+        first += len(instrument.samples)
+    return table
+
+
+def sample_table(module):
+    return [entry for sample in module.samples() for entry in sample.row()]
+
+
+def tune_table(module):
+    return [tune for sample in module.samples() for tune in sample.tunes()]
+
+
+def structures(module):
+    """Kind and place of each, in file order."""
+    yield from (('pattern', pattern.place) for pattern in module.patterns)
+    for instrument in module.instruments:
+        yield 'instrument', instrument.place
+        yield from (('sample', sample.place) for sample in instrument.samples)
+
+
+def ask(file, table, wanted):
+    """Place and length of a sample's data, by a table of four numbers to a row."""
+    need(wanted < len(table) // 4, 16, 0)
+    place, length = table[4 * wanted + 1:4 * wanted + 3]
+    need(place + length <= len(file), 16, 0)
+    return place, length
+
+
+# Deltas
+
+
+def decode(width, data, room):
+    need(width in (8, 16), 16, 0)
+    size = width // 8
+    need(len(data) % size == 0, 16, 0)
+    need(len(data) // size <= room, 14, 0)
+    values, value = [], 0
+    for at in range(0, len(data), size):
+        value = signed(value + little(data, at, size), width)
+        values.append(value)
+    return values
+
+
+def code(width, values, room):
+    need(width in (8, 16), 16, 0)
+    need(all(signed(value, width) == value for value in values), 16, 0)
+    need(len(values) * (width // 8) <= room, 14, 0)
+    befores = [0] + values[:-1]
+    return b''.join(number((value - before) % 2 ** width, width // 8) for value, before in zip(values, befores))
+
+
+# The press
+
+
+def pressed_header(module):
+    header = module.header
+    song, restart = little(header, 64, 2), little(header, 66, 2)
+    return (b'Extended module: ' + header[17:37] + b'\x1a' + header[38:58] + number(0x0104, 2) + number(276, 4) + header[64:66]
+            + number(restart if restart < song else 0, 2) + header[68:80] + header[80:80 + song] + bytes(256 - song))
+
+
+def pressed_pattern(pattern):
+    data = shortest(pattern.rows, pattern.cells)
+    return number(9, 4) + b'\0' + number(pattern.rows, 2) + number(len(data), 2) + data
+
+
+def pressed_instrument(instrument):
+    count = len(instrument.samples)
+    front = number(263 if count else 29, 4) + instrument.name_and_type + number(count, 2)
+    if not count:
+        return front
+    heads, data = (b''.join(parts) for parts in zip(*((sample.head, sample.data) for sample in instrument.samples)))
+    return front + number(40, 4) + instrument.voice + bytes(22) + heads + data
+
+
+def press(file, room):
+    module = read_module(file)
+    pressed = (pressed_header(module) + b''.join(map(pressed_pattern, module.patterns))
+               + b''.join(map(pressed_instrument, module.instruments)))
+    need(len(pressed) <= room, 14, 0)
+    return pressed
