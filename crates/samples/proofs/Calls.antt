@@ -12,6 +12,7 @@ use Rattle.xm.specs.Number.{Bytes}
 use Rattle.xm.specs.Answer.{Answer, gives, refuses, inFront, after, numbers}
 use Rattle.xm.specs.Delta.{allFit, decoding, coding, countWritten, decodeNumbers, codeNumbers}
 use Rattle.xm.proofs.Delta.{coding-decoding, decoding-coding}
+use Rattle.refusal.specs.declared.Fault.{Fault}
 use Rattle.samples.specs.Answers.{decodeAnswer, codeAnswer, decodedNumbers, codedNumbers}
 use Rattle.samples.specs.declared.Decoded.{Decoded}
 use Rattle.samples.specs.declared.Decoded.the-variants as decodes
@@ -44,6 +45,21 @@ decode-numbers width bytes lent d = ap decodedNumbers (d .0) ∙ decode-cases (d
 pub code-numbers : (width : ℕ) (values : List ℤ) (lent : List ℕ) {answer : Coded} {held : List ℕ} → Codes width values lent answer held
     → codedNumbers answer ≡ codeNumbers width values (length lent)
 code-numbers width values lent d = ap codedNumbers (d .0) ∙ code-cases (coding width values (length lent))
+
+-- A refusal leaves the memory as it was
+decode-kept : (answer : Answer (List ℤ)) (lent : List ℤ) {fault : Fault} → decodes.Refused fault ≡ decodeAnswer answer → after (λ values. values) answer lent ≡ lent
+decode-kept (gives values) lent e = absurd (let z : _≡_ {A = ℕ} 0 1 = cc in omega arith)
+decode-kept (refuses refusal) lent e = refl
+
+code-kept : (answer : Answer (List ℕ)) (lent : List ℕ) {fault : Fault} → codes.Refused fault ≡ codeAnswer answer → after (λ bytes. bytes) answer lent ≡ lent
+code-kept (gives bytes) lent e = absurd (let z : _≡_ {A = ℕ} 0 1 = cc in omega arith)
+code-kept (refuses refusal) lent e = refl
+
+pub decode-unchanged : (width : ℕ) (bytes : List ℕ) (lent : List ℤ) {fault : Fault} {held : List ℤ} → Decodes width bytes lent (decodes.Refused fault) held → held ≡ lent
+decode-unchanged width bytes lent d = d .1 ∙ decode-kept (decoding width bytes (length lent)) lent (d .0)
+
+pub code-unchanged : (width : ℕ) (values : List ℤ) (lent : List ℕ) {fault : Fault} {held : List ℕ} → Codes width values lent (codes.Refused fault) held → held ≡ lent
+code-unchanged width values lent c = c .1 ∙ code-kept (coding width values (length lent)) lent (c .0)
 
 -- As much as was written, from the front, is what was written
 in-front : {A : Type 0} (xs lent : List A) {count : ℕ} {held : List A} → count ≡ length xs → held ≡ inFront xs lent → take count held ≡ xs

@@ -8,7 +8,7 @@ use lib.IntN.{ℤ}
 use lib.ListN.{length, getD, drop}
 use Rattle.xm.specs.Number.{Bytes, part}
 use Rattle.xm.specs.Format.{joined}
-use Rattle.xm.specs.Answer.{Answer, gives, refuses}
+use Rattle.xm.specs.Answer.{Answer, gives, refuses, numberOf}
 use Rattle.xm.specs.Stored.{Pattern, standard}
 use Rattle.xm.specs.Packing.{cellBytes, unpacking}
 use Rattle.xm.specs.Instrument.{Instrument}
@@ -19,7 +19,9 @@ use Rattle.xm.specs.Asking.{Lies, stretchOf, askingFlat, askNumbers, noRow}
 use Rattle.xm.specs.Structure.{reading}
 use Rattle.xm.specs.Demands.{RowUnpacks, RowsUnpack, RowDecodes, RowsDecode, AcceptedFile, liesAt}
 use Rattle.xm.proofs.Accepted.{accepted-files, number-at}
+use Rattle.refusal.specs.declared.Fault.{Fault}
 use Rattle.walk.specs.declared.Verdict.{Verdict}
+use Rattle.walk.specs.declared.Verdict.the-variants.{Refused}
 use Rattle.walk.specs.File.{verdictOf, verdictNumbers}
 use Rattle.walk.proofs.Calls.{verdict-numbers}
 use Rattle.tables.specs.declared.ask.Asked.{Asked}
@@ -53,8 +55,25 @@ tables-once room file lent met e = met ∙ sym e
 pub asked-once : (file table : List ℕ) (number : ℕ) {answer other : Asked} → answer ≡ askedOf (askingFlat file table number) → other ≡ askedOf (askingFlat file table number) → answer ≡ other
 asked-once file table number met e = met ∙ sym e
 
+-- of a stretch and of the number that tells 0 from 16, flat or by record
+pub stretch-once : (file : List ℕ) (asked : Answer Lies) {stretch other : List ℕ} → stretch ≡ stretchOf file asked → other ≡ stretchOf file asked → stretch ≡ other
+stretch-once file asked met e = met ∙ sym e
+
+pub refusal-once : (asked : Answer Lies) {number other : ℕ} → number ≡ numberOf asked → other ≡ numberOf asked → number ≡ other
+refusal-once asked met e = met ∙ sym e
+
 pub standing-once : (file : List ℕ) (place : ℕ) {answer other : Standing} → answer ≡ standingOf (reading file place) → other ≡ standingOf (reading file place) → answer ≡ other
 standing-once file place met e = met ∙ sym e
+
+-- A refused check leaves the tables as they were
+refused-tables : (answer : Answer Checked) (lent : Tables) {fault : Fault} → Refused fault ≡ verdictOf answer → tablesAfter answer lent ≡ lent
+unfolding tablesAfter
+refused-tables (gives c) lent e = absurd (let z : _≡_ {A = ℕ} 0 1 = cc in omega arith)
+refused-tables (refuses r) lent e = refl
+
+pub into-unchanged : (room : Room) (file : List ℕ) (lent : Tables) {fault : Fault} {after : Tables} → Refused fault ≡ verdictOf (checkingInto room file)
+    → after ≡ tablesAfter (checkingInto room file) lent → after ≡ lent
+into-unchanged room file lent told met = met ∙ refused-tables (checkingInto room file) lent told
 
 -- What holds row by row holds of the row of a number
 unpacks-at : (file : List ℕ) (channels : ℕ) (rows : List PatternRow) (ps : List Pattern) (row : PatternRow) (p : Pattern) (number : ℕ) → number < length rows
