@@ -278,7 +278,7 @@ pub write-some : (cell : List ℕ) → length cell ≡ 5 → 1 ≤ length (write
 write-some cell h = write-case (λ (w : List ℕ). 1 ≤ length w) cell (λ p. omega arith) (λ p. omega (arith, marked-length cell))
 
 pub write-most : (cell : List ℕ) → length cell ≡ 5 → length (writeCell cell) ≤ cellMost
-write-most cell h = write-case (λ (w : List ℕ). length w ≤ 5) cell (λ p. omega arith) (λ p. omega arith)
+write-most cell h = write-case (λ (w : List ℕ). length w ≤ cellMost) cell (λ p. omega arith) (λ p. omega arith)
 
 pub write-full : (cell : List ℕ) → All (λ (x : ℕ). x ≡ 0 → ⊥) cell → writeCell cell ≡ cell
 write-full cell h = write-plain cell (plain-full cell .1 h)
