@@ -1,10 +1,11 @@
 # make            builds the library and the command-line program, and says where they are
 # make example    tries the program on an example module
+# make listing FILE=..   the listing's line of a file
 # make tests      the library and the listing against the reference, deliberate faults, and the command line
 # make bench      the library's times against the reference's and memcpy's
 # make clean      removes what was built, but for the library
 
-.PHONY: all example tests bench compilers clean
+.PHONY: all example listing tests bench compilers clean
 
 all:
 	$(MAKE) --no-print-directory -C cli
@@ -13,6 +14,9 @@ all:
 
 example: all
 	$(MAKE) --no-print-directory -C cli example
+
+listing:
+	@$(MAKE) --silent -C cli listing FILE='$(abspath $(FILE))'
 
 tests:
 	$(MAKE) --no-print-directory -C tests test

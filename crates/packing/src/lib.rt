@@ -81,7 +81,7 @@ fn measure_cells(cells: &[u8], count: usize) -> Measured
 }
 
 // The data size of a pattern whose cells take `shortest` bytes: none for 64 rows of empty cells, which take a byte each.
-pub fn stored_size(rows: usize, count: usize, shortest: usize) -> usize
+fn stored_size(rows: usize, count: usize, shortest: usize) -> usize
     ensures { λ r. ⌜ r ≡ sizeBy rows count shortest ⌝ }
 {
     if rows == 64 {

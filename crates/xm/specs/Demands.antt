@@ -1,4 +1,4 @@
--- The three demands, and the paper's further claims, as statements over these definitions. proofs/Demands.antt proves each of them.
+-- The three demands, and the paper's further claims, as statements over these definitions. docs/PROMISES.md says where each is proved.
 use Prim.Native.Nat.{ℕ, _+_, _-_, _*_, _/_, _%_, _^_, _≤_, _<_}
 use mathlib.Core.Bool.{true, cond}
 use mathlib.Core.List.{List, [], _∷_, _++_, map}
