@@ -1,19 +1,24 @@
 -- Laws of filling many cells at once: a run of empty cells written as forty zeros, and the rest left to another. Assumes nothing.
-use Prim.Native.Nat.{ℕ, zero, suc, _+_, _*_, _-_, _≤_, _<_}
+use Prim.Native.Nat.{ℕ, zero, suc, _+_, _*_, _-_, _%_, _≤_, _<_}
+use mathlib.Core.Bool.{Bool, true, false, cond}
 use mathlib.Core.List.{List, _++_, append-assoc}
 use mathlib.Core.Path.{_≡_, refl, sym, ap, ap₂, _∙_}
 use native.Mathlib.Omega.{arith}
+use borrow.Author.Tests.{eqb-true, eqb-false}
+use lib.Dec.{eqb}
 use lib.ListN.{length, getD, take, drop, replicate, length-append, length-replicate, replicate-append-replicate}
 use lib.Seq.{getD-drop, drop-drop, take-at, drop-append-add, length-take-le}
 use Rattle.xm.specs.Format.{flat}
 use Rattle.xm.specs.Answer.{inFront}
-use Rattle.xm.specs.Cell.{needed}
+use Rattle.xm.specs.Cell.{needed, lengthBy, cellAt}
 use Rattle.xm.specs.Lay.{lay}
-use Rattle.xm.proofs.Lay.{lay-front, lay-more, length-lay, Laid, laid-more}
+use borrow.Rule.Slice.PartMut.{putMid}
+use Rattle.xm.proofs.Lay.{part-back, part-all, head-at, lay-front, lay-more, length-lay, Laid, laid-more}
 use Rattle.cells.specs.Row.{cellsIn}
-use Rattle.cells.specs.Inside.{Whole}
-use Rattle.cells.specs.Quick.{EmptyRun}
-use Rattle.cells.proofs.Fill.{cells-length, first-of, Filling}
+use Rattle.cells.specs.declared.quick.Ahead.{Ahead}
+use Rattle.cells.specs.Inside.{Whole, firstFields}
+use Rattle.cells.specs.Quick.{EmptyRun, AheadOf}
+use Rattle.cells.proofs.Fill.{cells-length, first-of, Filling, filling-more}
 use Rattle.cells.proofs.Run.{empty-length, empty-cell}
 
 -- A piece laid over what was laid at the same place, and is no longer
@@ -106,30 +111,31 @@ module _ {s : List ℕ} {count : ℕ} {lent out : List ℕ} {at to left : ℕ} (
       let rest : List ℕ = flat (cellsIn left (drop at s)) in
       en ∙ ap (λ (x : List ℕ). take to out ++ (rest ++ x)) (drop-drop (length rest) to out) ∙ f .writes .laid ∙ lay-front lent (flat (cellsIn count s))
 
--- In a turn, past the empty cells: one cell is still to come, and eight bytes
-pub record FillReady (s : List ℕ) (count : ℕ) (lent out : List ℕ) (at to left top : ℕ) : Type 0 where
-  pub filling : Filling s count lent out at to left
-  pub wide : at + 8 ≤ length s
-  pub some : 0 < left
-  pub fewer : left ≤ top
-
+-- A turn's cells in front of its last one
 module _ {s : List ℕ} {count : ℕ} {lent : List ℕ} where
   move : {out out′ : List ℕ} {at at′ to to′ left left′ : ℕ} → Filling s count lent out at to left → out′ ≡ out → at′ ≡ at → to′ ≡ to → left′ ≡ left
       → Filling s count lent out′ at′ to′ left′
   move f a b c d = rw (a, b, c, d) f
 
-  module _ {out : List ℕ} {at to left : ℕ} (f : Filling s count lent out at to left) (l : 9 ≤ left) (h : 16 ≤ length s - at)
-      {out′ : List ℕ} {at′ to′ left′ : ℕ} where
-    pub fill-stay : out′ ≡ out → at′ ≡ at → to′ ≡ to → left′ ≡ left → FillReady s count lent out′ at′ to′ left′ left
-    fill-stay a b c d = record { filling = move f a b c d; wide = omega (arith, b); some = omega (arith, d); fewer = omega (arith, d) }
+  pub filling-front : {out : List ℕ} {at to left : ℕ} (r : Ahead) (word : ℕ) → Filling s count lent out at to left → 9 ≤ left → at + 8 ≤ length s → AheadOf s at r
+      → word % 256 ≡ getD s at 0 → (new : List ℕ) → new ≡ take to out ++ inFront (firstFields word (drop at s)) (drop to out)
+      → Filling s count lent new (r .last) (to + r .cells * 5) (left - r .cells)
+  filling-front {out} {at} {to} {left} r word f many wide a lead new en = go (eqb (word % 256) 128) refl en
+    where
+      go : (t : Bool) → eqb (word % 256) 128 ≡ t → new ≡ take to out ++ inFront (cond t (replicate 40 0) (cellAt (drop at s))) (drop to out)
+          → Filling s count lent new (r .last) (to + r .cells * 5) (left - r .cells)
+      go true p en =
+          let e = a .empties (sym lead ∙ eqb-true (word % 256) 128 p) in
+          move (filling-run f many wide (r .cells) (e .0) new en) refl (e .1) refl refl
+      go false p en =
+          let e = a .one (λ h. eqb-false (word % 256) 128 p (lead ∙ h)) in
+          move (filling-more f (omega arith) (lengthBy (getD s at 0)) new (ap lengthBy (sym (head-at at s 0))) en) refl (e .1) (omega (arith, e .0)) (omega (arith, e .0))
 
-    pub fill-run : (k : ℕ) → EmptyRun s at k → out′ ≡ take to out ++ inFront (replicate 40 0) (drop to out) → at′ ≡ at + k → to′ ≡ to + k * 5
-        → left′ ≡ left - k → FillReady s count lent out′ at′ to′ left′ left
-    fill-run k r a b c d =
-        let few = r .few in
-        record {
-          filling = move (filling-run f l (omega arith) k r _ a) refl b c d;
-          wide = omega (arith, b);
-          some = omega (arith, d);
-          fewer = omega (arith, d);
-        }
+  -- and that one
+  pub filling-last : {out : List ℕ} {at to left left′ next : ℕ} → Filling s count lent out at to left → 0 < left → {written cell : List ℕ}
+      → written ≡ inFront cell (take (length out - to) (drop to out)) → cell ≡ cellAt (drop at s) → next ≡ at + lengthBy (getD s at 0) → left′ ≡ left - 1
+      → Filling s count lent (putMid to (length out - to) out written) next (to + 5) left′
+  filling-last {out} {at} {to} f some {written} {cell} e same n m =
+      let room = f .room in
+      move (filling-more f some (lengthBy (getD s at 0)) _ (ap lengthBy (sym (head-at at s 0)))
+      (part-back out written to (omega arith) ∙ ap (λ (x : List ℕ). take to out ++ x) (e ∙ ap₂ inFront same (part-all to out)))) refl n refl m

@@ -7,3 +7,4 @@ pub mod Unpacking
 pub mod Wide
 pub mod Run
 pub mod FillRun
+pub mod Scan

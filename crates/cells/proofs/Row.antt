@@ -74,13 +74,13 @@ row-cons count s cells used fits r = record {
 }
 
 -- A reading of a cell, and then of the rest of its row
-next : (count place : ℕ) (s : List ℕ) → Got (List ℕ) → Got (List (List ℕ))
+unfoldable pub next : (count place : ℕ) (s : List ℕ) → Got (List ℕ) → Got (List (List ℕ))
 next count place s g = do
   (cell, n) ← g
   (cells, m) ← readRow count (place + n) (drop n s)
   got (cell ∷ cells) (n + m)
 
-row-next : (count place : ℕ) (s : List ℕ) → readRow (suc count) place s ≡ next count place s (readCell place s)
+pub row-next : (count place : ℕ) (s : List ℕ) → readRow (suc count) place s ≡ next count place s (readCell place s)
 unfolding next
 row-next count place s = refl
 

@@ -1,11 +1,13 @@
--- Laws of empty cells in a row: found eight bytes at a time, and passed at once by a loop that measures. Assumes nothing.
+-- Laws of empty cells in a row: found seven bytes at a time, and passed at once by a loop that measures. Assumes nothing.
 use Prim.Native.Nat.{ℕ, zero, suc, _+_, _*_, _-_, _/_, _%_, _^_, _≤_, _<_}
-use mathlib.Core.Bool.{Bool, true, _&&_, and-true}
+use mathlib.Core.Bool.{Bool, true, false, _&&_, and-true}
 use mathlib.Core.List.{List}
 use mathlib.Core.Path.{_≡_, refl, sym, ap, _∙_}
 use native.Mathlib.Nat.{add-zero, mul-assoc, pow-succ'}
 use native.Mathlib.Omega.{arith}
-use lib.Count.{ones, onesIn, under, trailingZeros, trailing-le}
+use borrow.Author.Tests.{ltb-true, ltb-false, eqb-true, eqb-false}
+use lib.Count.{ones, onesIn, under, trailingZeros}
+use lib.Dec.{ltb, eqb}
 use lib.ListN.{length, getD, drop, replicate, length-drop}
 use lib.Seq.{getD-drop}
 use Rattle.xm.specs.Cell.{noteMost, lengthBy, fieldsBy, needed, cellAt, kept, marks, kepts, marked, goesPlain, writeCell}
@@ -13,8 +15,9 @@ use Rattle.xm.proofs.Cell.{cell-marked, read-note}
 use Rattle.xm.proofs.Lay.{head-at}
 use Rattle.cells.specs.declared.Measured.{Measured}
 use Rattle.cells.specs.declared.Measured.the-variants.{Refused}
+use Rattle.cells.specs.declared.quick.Ahead.{Ahead}
 use Rattle.cells.specs.Inside.{isShort}
-use Rattle.cells.specs.Quick.{eightAt, EmptyRun, noteBy}
+use Rattle.cells.specs.Quick.{eightAt, byteIn, Empties, EmptyRun, behind, AheadOf, noteBy}
 use Rattle.cells.proofs.Row.{Measuring, measuring-more, measuring-stop}
 use Rattle.cells.proofs.Wide.{length-six, note-at}
 
@@ -33,45 +36,104 @@ trailing-times (suc j) (suc k) n h = go (trailing-times j k (n / 2)) (n % 2) ref
         (r .0, a ∙ ap (λ (x : ℕ). 2 * x) (r .1) ∙ sym (mul-assoc 2 (2 ^ j) (r .0)) ∙ ap (λ (x : ℕ). x * r .0) (sym (pow-succ' 2 j)))
     go ih (suc d) e p = absurd (omega arith)
 
--- The bytes of a number, less eight times 128, below its lowest digit that is set
-pub run-of : (s : List ℕ) (place x : ℕ) → ((i : ℕ) → getD s i 0 ≤ 255) → (x + 9259542123273814144) % 2 ^ 64 ≡ eightAt s place
-    → EmptyRun s place (trailingZeros 64 x / 8)
-run-of s place x small e = record { few = omega (arith, trailing-le 64 x); all = byte }
+-- The bytes of a word
+pub byte-at : (s : List ℕ) (place word : ℕ) → ((i : ℕ) → getD s i 0 ≤ 255) → word ≡ eightAt s place → (i : ℕ) → i ≤ 7 → byteIn word i ≡ getD s (place + i) 0
+byte-at s place word small e zero h = rw add-zero (omega (arith, small place, small (place + 1), small (place + 2), small (place + 3), small (place + 4), small (place + 5), small (place + 6), small (place + 7)))
+byte-at s place word small e (suc zero) h = omega (arith, small place, small (place + 1), small (place + 2), small (place + 3), small (place + 4), small (place + 5), small (place + 6), small (place + 7))
+byte-at s place word small e (suc (suc zero)) h = omega (arith, small place, small (place + 1), small (place + 2), small (place + 3), small (place + 4), small (place + 5), small (place + 6), small (place + 7))
+byte-at s place word small e (suc (suc (suc zero))) h = omega (arith, small place, small (place + 1), small (place + 2), small (place + 3), small (place + 4), small (place + 5), small (place + 6), small (place + 7))
+byte-at s place word small e (suc (suc (suc (suc zero)))) h = omega (arith, small place, small (place + 1), small (place + 2), small (place + 3), small (place + 4), small (place + 5), small (place + 6), small (place + 7))
+byte-at s place word small e (suc (suc (suc (suc (suc zero))))) h = omega (arith, small place, small (place + 1), small (place + 2), small (place + 3), small (place + 4), small (place + 5), small (place + 6), small (place + 7))
+byte-at s place word small e (suc (suc (suc (suc (suc (suc zero)))))) h = omega (arith, small place, small (place + 1), small (place + 2), small (place + 3), small (place + 4), small (place + 5), small (place + 6), small (place + 7))
+byte-at s place word small e (suc (suc (suc (suc (suc (suc (suc zero))))))) h = omega (arith, small place, small (place + 1), small (place + 2), small (place + 3), small (place + 4), small (place + 5), small (place + 6), small (place + 7))
+byte-at s place word small e (suc (suc (suc (suc (suc (suc (suc (suc i)))))))) h = absurd (omega arith)
+
+-- Those of a number, less seven times 128, below its lowest digit that is set
+pub run-of : (word x : ℕ) → x ≡ word % 72057594037927936 + 9187201950435737472 → Empties word (trailingZeros 64 x / 8)
+run-of word x e = record { few = few (ltb (trailingZeros 64 x) 64) refl; all = byte }
   where
-    byte : (i : ℕ) → i < trailingZeros 64 x / 8 → getD s (place + i) 0 ≡ 128
+    few : (t : Bool) → ltb (trailingZeros 64 x) 64 ≡ t → trailingZeros 64 x / 8 ≤ 7
+    few true p = let l = ltb-true (trailingZeros 64 x) 64 p in omega arith
+    few false p =
+        let q = trailing-times 64 64 x (ltb-false (trailingZeros 64 x) 64 p) in
+        let p : x ≡ 18446744073709551616 * q .0 = q .1 in
+        absurd (omega arith)
+
+    byte : (i : ℕ) → i < trailingZeros 64 x / 8 → byteIn word i ≡ 128
     byte zero h =
         let q = trailing-times 8 64 x (omega arith) in
         let p : x ≡ 256 * q .0 = q .1 in
-        rw add-zero (omega (arith, small place, small (place + 1), small (place + 2), small (place + 3), small (place + 4), small (place + 5), small (place + 6), small (place + 7)))
+        omega arith
     byte (suc zero) h =
         let q = trailing-times 16 64 x (omega arith) in
         let p : x ≡ 65536 * q .0 = q .1 in
-        omega (arith, small place, small (place + 1), small (place + 2), small (place + 3), small (place + 4), small (place + 5), small (place + 6), small (place + 7))
+        omega arith
     byte (suc (suc zero)) h =
         let q = trailing-times 24 64 x (omega arith) in
         let p : x ≡ 16777216 * q .0 = q .1 in
-        omega (arith, small place, small (place + 1), small (place + 2), small (place + 3), small (place + 4), small (place + 5), small (place + 6), small (place + 7))
+        omega arith
     byte (suc (suc (suc zero))) h =
         let q = trailing-times 32 64 x (omega arith) in
         let p : x ≡ 4294967296 * q .0 = q .1 in
-        omega (arith, small place, small (place + 1), small (place + 2), small (place + 3), small (place + 4), small (place + 5), small (place + 6), small (place + 7))
+        omega arith
     byte (suc (suc (suc (suc zero)))) h =
         let q = trailing-times 40 64 x (omega arith) in
         let p : x ≡ 1099511627776 * q .0 = q .1 in
-        omega (arith, small place, small (place + 1), small (place + 2), small (place + 3), small (place + 4), small (place + 5), small (place + 6), small (place + 7))
+        omega arith
     byte (suc (suc (suc (suc (suc zero))))) h =
         let q = trailing-times 48 64 x (omega arith) in
         let p : x ≡ 281474976710656 * q .0 = q .1 in
-        omega (arith, small place, small (place + 1), small (place + 2), small (place + 3), small (place + 4), small (place + 5), small (place + 6), small (place + 7))
+        omega arith
     byte (suc (suc (suc (suc (suc (suc zero)))))) h =
         let q = trailing-times 56 64 x (omega arith) in
         let p : x ≡ 72057594037927936 * q .0 = q .1 in
-        omega (arith, small place, small (place + 1), small (place + 2), small (place + 3), small (place + 4), small (place + 5), small (place + 6), small (place + 7))
-    byte (suc (suc (suc (suc (suc (suc (suc zero))))))) h =
-        let q = trailing-times 64 64 x (omega arith) in
-        let p : x ≡ 18446744073709551616 * q .0 = q .1 in
-        omega (arith, small place, small (place + 1), small (place + 2), small (place + 3), small (place + 4), small (place + 5), small (place + 6), small (place + 7))
-    byte (suc (suc (suc (suc (suc (suc (suc (suc i)))))))) h = absurd (omega (arith, trailing-le 64 x))
+        omega arith
+    byte (suc (suc (suc (suc (suc (suc (suc i))))))) h = absurd (omega (arith, few (ltb (trailingZeros 64 x) 64) refl))
+
+pub run-at : (s : List ℕ) (place word count : ℕ) → ((i : ℕ) → getD s i 0 ≤ 255) → word ≡ eightAt s place → Empties word count → EmptyRun s place count
+run-at s place word count small e r =
+    let few = r .few in
+    record { few = few; all = λ i h. sym (byte-at s place word small e i (omega arith)) ∙ r .all i h }
+
+-- What a word has ahead
+module _ (s : List ℕ) (place word : ℕ) (small : (i : ℕ) → getD s i 0 ≤ 255) (e : word ≡ eightAt s place) where
+  pub lead-at : word % 256 ≡ getD s place 0
+  lead-at = omega (arith, small place, small (place + 1), small (place + 2), small (place + 3), small (place + 4), small (place + 5), small (place + 6), small (place + 7))
+
+  pub second-at : word / 256 % 256 ≡ getD s (place + 1) 0
+  second-at = omega (arith, small place, small (place + 1), small (place + 2), small (place + 3), small (place + 4), small (place + 5), small (place + 6), small (place + 7))
+
+  last-at : (k bits : ℕ) → k ≤ 7 → bits ≡ 8 * k → place + bits / 8 + lengthBy (word / 2 ^ bits % 256) ≡ place + bits / 8 + lengthBy (getD s (place + bits / 8) 0)
+  last-at k bits h b =
+      let p : place + k ≡ place + bits / 8 = omega arith in
+      ap (λ (x : ℕ). place + bits / 8 + lengthBy x) (ap (λ (x : ℕ). word / 2 ^ x % 256) b ∙ byte-at s place word small e k h ∙ ap (λ (x : ℕ). getD s x 0) p)
+
+  pub ahead-run : (k bits : ℕ) → word % 256 ≡ 128 → Empties word k → bits ≡ 8 * k → AheadOf s place (behind word place k bits)
+  ahead-run k bits l r b =
+      let few = r .few in
+      record {
+        empties = λ h. (run-at s place word k small e r, omega arith);
+        one = λ h. absurd (h (sym lead-at ∙ l));
+        near = omega arith;
+        next = last-at k bits few b;
+      }
+
+  pub ahead-one : (bits : ℕ) → (word % 256 ≡ 128 → ⊥) → bits ≡ 8 * lengthBy (word % 256) → AheadOf s place (behind word place 1 bits)
+  ahead-one bits l b =
+      let six = length-six (word % 256) in
+      record {
+        empties = λ h. absurd (l (lead-at ∙ h));
+        one = λ h. (refl, omega (arith, ap lengthBy lead-at));
+        near = omega arith;
+        next = last-at (lengthBy (word % 256)) bits (omega arith) b;
+      }
+
+pub ahead-few : {s : List ℕ} {place : ℕ} {r : Ahead} → AheadOf s place r → r .cells ≤ 7
+ahead-few {s} {place} {r} a = go (eqb (getD s place 0) 128) refl
+  where
+    go : (t : Bool) → eqb (getD s place 0) 128 ≡ t → r .cells ≤ 7
+    go true p = a .empties (eqb-true (getD s place 0) 128 p) .0 .few
+    go false p = omega (arith, a .one (eqb-false (getD s place 0) 128 p) .0)
 
 -- An empty cell: one byte, five zeros, in its shortest form
 module _ (s : List ℕ) (e : getD s 0 0 ≡ 128) where
@@ -83,7 +145,7 @@ module _ (s : List ℕ) (e : getD s 0 0 ≡ 128) where
   unfolding fieldsBy
   empty-cell = cell-marked s (omega (arith, e)) ∙ ap (λ (b : ℕ). fieldsBy 5 b (drop 1 s)) e
 
-  empty-note : getD (cellAt s) 0 0 ≤ noteMost
+  pub empty-note : getD (cellAt s) 0 0 ≤ noteMost
   empty-note = rw empty-cell (omega arith)
 
   empty-written : 1 ≡ length (writeCell (cellAt s))

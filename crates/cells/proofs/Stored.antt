@@ -21,8 +21,10 @@ use Rattle.refusal.specs.Fault.{faultOf}
 use Rattle.cells.specs.declared.Size.{Size}
 use Rattle.cells.specs.declared.Measured.the-variants.{Cells, Refused}
 use Rattle.cells.specs.declared.StoredStep.the-variants.{Read, Refused as RefusedStored}
-use Rattle.cells.specs.Row.{readRow, sameBytes, measuredOf, cellsIn}
-use Rattle.cells.specs.Unpacked.{storedOf}
+use Rattle.cells.specs.declared.Scanned.the-variants.{End, Refused as RefusedScan}
+use Rattle.cells.specs.declared.Unpacked.the-variants.{Rows, Refused as RefusedRows}
+use Rattle.cells.specs.Row.{readRow, endOf, sameBytes, measuredOf, cellsIn}
+use Rattle.cells.specs.Unpacked.{rowsOf, storedOf}
 use Rattle.cells.specs.Inside.{shortestBy, storedSize}
 use Rattle.cells.proofs.Short.{bool-same, shortest-by}
 use Rattle.cells.proofs.Row.{row-of}
@@ -90,7 +92,20 @@ row-size count d size e = go (readRow count 0 d) refl e
         record { reads = q ∙ ap₂ got same u; shortest = rw same at l; same = rw (same, u) at b }
     go (refused r) q e = absurd (let z : _≡_ {A = ℕ} 0 1 = cc in omega arith)
 
+-- What trying accepted cells found
+pub row-end : (count : ℕ) (d : List ℕ) (used : ℕ) → End used ≡ endOf 0 (readRow count 0 d) → readRow count 0 d ≡ got (cellsIn count d) used
+row-end count d used e = go (readRow count 0 d) refl e
+  where
+    go : (g : Got (List (List ℕ))) → readRow count 0 d ≡ g → End used ≡ endOf 0 g → readRow count 0 d ≡ got (cellsIn count d) used
+    go (got cells n) q e =
+        let u : 0 + n ≡ used = cc in
+        q ∙ ap₂ got (row-of count 0 d cells n q .same) (sym (zero-add n) ∙ u)
+    go (refused r) q e = absurd (let z : _≡_ {A = ℕ} 0 1 = cc in omega arith)
+
 -- No data: the standard empty pattern
+pub rows-standard : (channels rows : ℕ) (d : List ℕ) → length d ≡ 0 → Rows 64 ≡ rowsOf (readStored channels rows 0 d)
+rows-standard channels rows d h = sym (ap rowsOf (stored-none channels rows 0 d h))
+
 pub stored-standard : (channels rows : ℕ) (d : List ℕ) → length d ≡ 0
     → Read (record { rows = 64; shortest = 0; same = true }) ≡ storedOf d (readStored channels rows 0 d)
 unfolding sameBytes
@@ -101,6 +116,27 @@ stored-standard channels rows (x ∷ d) h = absurd (omega arith)
 
 -- Some data: the exits in their order
 module _ (channels rows : ℕ) (d : List ℕ) (some : 1 ≤ length d) where
+  pub rows-refused : (fault : Fault) → RefusedScan fault ≡ endOf 0 (readRow (rows * channels) 0 d) → RefusedRows fault ≡ rowsOf (readStored channels rows 0 d)
+  unfolding readCells
+  rows-refused fault e = go (readRow (rows * channels) 0 d) refl e
+    where
+      go : (g : Got (List (List ℕ))) → readRow (rows * channels) 0 d ≡ g → RefusedScan fault ≡ endOf 0 g → RefusedRows fault ≡ rowsOf (readStored channels rows 0 d)
+      go (got cells used) q e = absurd (let z : _≡_ {A = ℕ} 0 1 = cc in omega arith)
+      go (refused r) q e =
+          let f : fault ≡ faultOf r = cc in
+          ap RefusedRows f ∙ sym (ap rowsOf (stored-some channels rows 0 d some ∙ step-refused _ q))
+
+  module _ {used : ℕ} (reads : readRow (rows * channels) 0 d ≡ got (cellsIn (rows * channels) d) used) where
+    pub rows-left : used < length d → RefusedRows (record { number = 8; place = used }) ≡ rowsOf (readStored channels rows 0 d)
+    unfolding readCells
+    rows-left h =
+        sym (ap rowsOf (stored-some channels rows 0 d some ∙ step _ reads (test-fails _ _ _ (λ k. omega arith)))
+        ∙ ap (λ (place : ℕ). RefusedRows (record { number = 8; place = place })) (zero-add used))
+
+    pub rows-whole : length d ≤ used → Rows rows ≡ rowsOf (readStored channels rows 0 d)
+    unfolding readCells
+    rows-whole h = sym (ap rowsOf (stored-some channels rows 0 d some ∙ step _ reads (pass _ (omega arith, tt) refl)))
+
   pub stored-refused : (fault : Fault) → Refused fault ≡ measuredOf d (readRow (rows * channels) 0 d) → RefusedStored fault ≡ storedOf d (readStored channels rows 0 d)
   unfolding readCells
   stored-refused fault e = go (readRow (rows * channels) 0 d) refl e

@@ -9,19 +9,17 @@ use native.Mathlib.Omega.{arith}
 use lib.ListN.{length, replicate, length-replicate, replicate-append-replicate}
 use Rattle.xm.specs.Got.{Refusal, Got, got, refused, Test, passes, AllHold}
 use Rattle.xm.specs.Format.{flat}
-use Rattle.xm.specs.Answer.{Answer, gives, refuses, numbers, inFront}
+use Rattle.xm.specs.Answer.{Answer, gives, refuses, numbers, inFront, after}
 use Rattle.xm.specs.Stored.{Pattern, readCells, readStored}
 use Rattle.xm.specs.Packing.{argumentTests, cellBytes, rowsRead, unpacking, unpackAfter}
 use Rattle.xm.proofs.Got.{holds-passes, passes-holds, passed, bind-got, got-carry}
 use Rattle.xm.proofs.Stored.{stored-empty, stored-some}
 use Rattle.refusal.specs.Fault.{faultOf}
-use Rattle.cells.specs.declared.StoredSize.{StoredSize}
-use Rattle.cells.specs.declared.StoredStep.the-variants.{Read, Refused as RefusedStored}
 use Rattle.cells.specs.declared.Unpacked.{Unpacked}
 use Rattle.cells.specs.declared.Unpacked.the-variants.{Rows, Refused as RefusedUnpacked}
 use Rattle.refusal.specs.declared.Fault.{Fault}
 use Rattle.cells.specs.Row.{readRow, accepted, cellsIn}
-use Rattle.cells.specs.Unpacked.{storedOf, unpackedOf, unpackedNumbers}
+use Rattle.cells.specs.Unpacked.{rowsOf, unpackedOf, unpackedNumbers}
 use Rattle.cells.specs.Inside.{passAll}
 use Rattle.cells.proofs.Row.{row-of}
 use Rattle.cells.proofs.Fill.{cells-length}
@@ -46,24 +44,24 @@ flat-zeros (suc n) =
     ap (λ (l : List ℕ). replicate 5 0 ++ l) (flat-zeros n) ∙ replicate-append-replicate 5 (n * 5) 0 ∙ ap (λ (k : ℕ). replicate k 0) e
 
 -- What reading a stored pattern found
-pub record Found (channels rows : ℕ) (d : List ℕ) (size : StoredSize) : Type 0 where
+pub record Found (channels rows : ℕ) (d : List ℕ) (reported : ℕ) : Type 0 where
   pub pattern : Pattern
   pub used : ℕ
   pub reads : readStored channels rows 0 d ≡ got pattern used
-  pub same : size .rows ≡ pattern .rows
+  pub same : reported ≡ pattern .rows
 
-pub found-of : (channels rows : ℕ) (d : List ℕ) (size : StoredSize) → Read size ≡ storedOf d (readStored channels rows 0 d) → Found channels rows d size
-found-of channels rows d size e = go (readStored channels rows 0 d) refl e
+pub found-of : (channels rows : ℕ) (d : List ℕ) (reported : ℕ) → Rows reported ≡ rowsOf (readStored channels rows 0 d) → Found channels rows d reported
+found-of channels rows d reported e = go (readStored channels rows 0 d) refl e
   where
-    go : (g : Got Pattern) → readStored channels rows 0 d ≡ g → Read size ≡ storedOf d g → Found channels rows d size
+    go : (g : Got Pattern) → readStored channels rows 0 d ≡ g → Rows reported ≡ rowsOf g → Found channels rows d reported
     go (got p n) q e = record { pattern = p; used = n; reads = q; same = cc }
     go (refused r) q e = absurd (let z : _≡_ {A = ℕ} 0 1 = cc in omega arith)
 
-pub fault-of : (channels rows : ℕ) (d : List ℕ) (fault : Fault) → RefusedStored fault ≡ storedOf d (readStored channels rows 0 d)
+pub fault-of : (channels rows : ℕ) (d : List ℕ) (fault : Fault) → RefusedUnpacked fault ≡ rowsOf (readStored channels rows 0 d)
     → (r : Refusal) × ((readStored channels rows 0 d ≡ refused r) × (fault ≡ faultOf r))
 fault-of channels rows d fault e = go (readStored channels rows 0 d) refl e
   where
-    go : (g : Got Pattern) → readStored channels rows 0 d ≡ g → RefusedStored fault ≡ storedOf d g
+    go : (g : Got Pattern) → readStored channels rows 0 d ≡ g → RefusedUnpacked fault ≡ rowsOf g
         → (r : Refusal) × ((readStored channels rows 0 d ≡ refused r) × (fault ≡ faultOf r))
     go (got p n) q e = absurd (let z : _≡_ {A = ℕ} 0 1 = cc in omega arith)
     go (refused r) q e = (r, (q, cc))
@@ -82,40 +80,40 @@ from-cells channels rows d p n some e =
     (record { rows-same = refl; cells = row-of (rows * channels) 0 d cells m ec .same; fine = ap accepted ec })
 
 -- What is to be filled: zeros, or the cells in a row; five bytes a cell
-module _ {channels rows : ℕ} {d : List ℕ} {size : StoredSize} (f : Found channels rows d size) where
-  pub bytes-none : length d ≡ 0 → cellBytes (f .pattern) ≡ replicate (size .rows * channels * 5) 0
+module _ {channels rows : ℕ} {d : List ℕ} {reported : ℕ} (f : Found channels rows d reported) where
+  pub bytes-none : length d ≡ 0 → cellBytes (f .pattern) ≡ replicate (reported * channels * 5) 0
   bytes-none z =
       let e = stored-empty channels rows 0 d (f .pattern) (f .used) z (f .reads) in
-      let r : 64 ≡ size .rows = sym (f .same ∙ ap (λ (p : Pattern). p .rows) e) in
+      let r : 64 ≡ reported = sym (f .same ∙ ap (λ (p : Pattern). p .rows) e) in
       ap cellBytes e ∙ flat-zeros (64 * channels) ∙ ap (λ (n : ℕ). replicate (n * channels * 5) 0) r
 
   module _ (some : 1 ≤ length d) where
     from : FromCells channels rows d (f .pattern)
     from = from-cells channels rows d (f .pattern) (f .used) some (f .reads)
 
-    pub rows-some : size .rows ≡ rows
+    pub rows-some : reported ≡ rows
     unfolding from
     rows-some = f .same ∙ from .rows-same
 
-    pub fine-some : accepted (readRow (size .rows * channels) 0 d) ≡ true
+    pub fine-some : accepted (readRow (reported * channels) 0 d) ≡ true
     unfolding from
     fine-some = rw rows-some (from .fine)
 
-    pub bytes-some : cellBytes (f .pattern) ≡ flat (cellsIn (size .rows * channels) d)
+    pub bytes-some : cellBytes (f .pattern) ≡ flat (cellsIn (reported * channels) d)
     unfolding from
     bytes-some = rw rows-some (ap flat (from .cells))
 
-  pub bytes-long : length (cellBytes (f .pattern)) ≡ size .rows * channels * 5
+  pub bytes-long : length (cellBytes (f .pattern)) ≡ reported * channels * 5
   bytes-long = go (length d) refl
     where
-      go : (n : ℕ) → length d ≡ n → length (cellBytes (f .pattern)) ≡ size .rows * channels * 5
-      go zero e = ap length (bytes-none e) ∙ length-replicate (size .rows * channels * 5) 0
-      go (suc n) e = ap length (bytes-some (omega arith)) ∙ cells-length (size .rows * channels) d
+      go : (n : ℕ) → length d ≡ n → length (cellBytes (f .pattern)) ≡ reported * channels * 5
+      go zero e = ap length (bytes-none e) ∙ length-replicate (reported * channels * 5) 0
+      go (suc n) e = ap length (bytes-some (omega arith)) ∙ cells-length (reported * channels) d
 
-  pub rows-most : rows ≤ 256 → size .rows ≤ 256
+  pub rows-most : rows ≤ 256 → reported ≤ 256
   rows-most h = go (length d) refl
     where
-      go : (n : ℕ) → length d ≡ n → size .rows ≤ 256
+      go : (n : ℕ) → length d ≡ n → reported ≤ 256
       go zero e = let q = ap (λ (p : Pattern). p .rows) (stored-empty channels rows 0 d (f .pattern) (f .used) e (f .reads)) in omega (arith, f .same)
       go (suc n) e = omega (arith, rows-some (omega arith))
 
@@ -135,6 +133,15 @@ module _ (rows channels : ℕ) (stored lent : List ℕ) where
   -- Two answers and memories that both meet the contract are the same
   pub answers-fixed : (one other : Unpacked) (left kept : List ℕ) → Answers one left → Answers other kept → (one ≡ other) × (left ≡ kept)
   answers-fixed one other left kept a b = (a .0 ∙ sym (b .0), a .1 ∙ sym (b .1))
+
+-- A refusal leaves the memory as it was
+refused-kept : (answer : Answer Pattern) (lent : List ℕ) {fault : Fault} → RefusedUnpacked fault ≡ unpackedOf answer → after cellBytes answer lent ≡ lent
+refused-kept (gives p) lent e = absurd (let z : _≡_ {A = ℕ} 0 1 = cc in omega arith)
+refused-kept (refuses r) lent e = refl
+
+pub unpack-unchanged : (rows channels : ℕ) (stored lent : List ℕ) {fault : Fault} {held : List ℕ} → RefusedUnpacked fault ≡ unpackedOf (unpacking rows channels stored (length lent))
+    → held ≡ unpackAfter rows channels stored lent → held ≡ lent
+unpack-unchanged rows channels stored lent told met = met ∙ refused-kept (unpacking rows channels stored (length lent)) lent told
 
 -- and its numbers are the paper's
 pub unpacked-numbers : (answer : Answer Pattern) → unpackedNumbers (unpackedOf answer) ≡ numbers (rowsRead ∷ []) answer

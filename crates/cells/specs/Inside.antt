@@ -1,9 +1,9 @@
 -- For contracts inside the library: what the loops and helpers come to.
-use Prim.Native.Nat.{ℕ, zero, suc, _+_, _/_, _≤_}
+use Prim.Native.Nat.{ℕ, zero, suc, _+_, _/_, _%_, _≤_}
 use mathlib.Core.Bool.{Bool, true, false, cond, _&&_}
 use mathlib.Core.List.{List, [], _∷_, _++_}
 use lib.Dec.{ltb, eqb}
-use lib.ListN.{length, getD, drop}
+use lib.ListN.{length, getD, drop, replicate}
 use Rattle.xm.specs.Got.{Got, got, refused, Test, passes, atMost, _at_}
 use Rattle.xm.specs.Cell.{markedFrom, needed, cellAt, readCell, kepts, writeCell}
 use Rattle.xm.specs.PatternInFile.{dataMost}
@@ -11,6 +11,8 @@ use Rattle.xm.specs.Packing.{argumentTests}
 use Rattle.refusal.specs.Fault.{faultOf}
 use Rattle.cells.specs.declared.CellStep.{CellStep}
 use Rattle.cells.specs.declared.CellStep.the-variants.{Read as ReadStep, Refused as RefusedStep}
+use Rattle.cells.specs.declared.Scanned.{Scanned}
+use Rattle.cells.specs.declared.Scanned.the-variants.{End, Refused as RefusedScan}
 use Rattle.cells.specs.declared.Size.{Size}
 use Rattle.cells.specs.declared.Measured.{Measured}
 use Rattle.cells.specs.declared.Measured.the-variants.{Cells, Refused as RefusedRow}
@@ -23,6 +25,10 @@ use Rattle.cells.specs.declared.Unpacked.the-variants.{Rows, Refused as 
 abbrev pub Whole : (count : ℕ) → List ℕ → Type 0
 Whole zero s = Unit {0}
 Whole (suc count) s = (needed s ≤ length s) × Whole count (drop (needed s) s)
+
+-- What is written for the first cell of a word: if it is empty, as many zeros as eight cells have.
+abbrev pub firstFields : (word : ℕ) → List ℕ → List ℕ
+firstFields word s = cond (eqb (word % 256) 128) (replicate 40 0) (cellAt s)
 
 -- The length of a cell's shortest form, by how many of its fields are kept, those that aren't 0.
 abbrev pub shortestBy : (kept : ℕ) → ℕ
@@ -51,6 +57,10 @@ measureFrom (suc count) used shortest same s =
     (measureFrom count (used + needed s) (shortest + length (writeCell (cellAt s))) (same && isShort s) (drop (needed s) s))
 
 -- A step's refusal, at its place.
+abbrev pub refusedEnd : CellStep → (place : ℕ) → Scanned
+refusedEnd (ReadStep cell used) place = End place
+refusedEnd (RefusedStep number) place = RefusedScan (record { number = number; place = place })
+
 abbrev pub refusedAt : CellStep → (place : ℕ) → Measured
 refusedAt (ReadStep cell used) place = Cells (record { used = place; shortest = place; same = true })
 refusedAt (RefusedStep number) place = RefusedRow (record { number = number; place = place })
@@ -66,9 +76,9 @@ abbrev pub refusedRow : Measured → StoredStep
 refusedRow (Cells size) = ReadStored (record { rows = 0; shortest = size .shortest; same = size .same })
 refusedRow (RefusedRow fault) = RefusedStored fault
 
-abbrev pub refusedStored : StoredStep → Unpacked
-refusedStored (ReadStored size) = Rows (size .rows)
-refusedStored (RefusedStored fault) = RefusedUnpacked fault
+abbrev pub refusedScan : Scanned → Unpacked
+refusedScan (End used) = Rows used
+refusedScan (RefusedScan fault) = RefusedUnpacked fault
 
 -- The tests for 16, of the data's length.
 abbrev pub unpackTests : (rows channels size : ℕ) → List Test

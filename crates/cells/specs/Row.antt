@@ -1,5 +1,5 @@
 -- Cells in a row: how they are read, and what checking and measuring them answers.
-use Prim.Native.Nat.{ℕ, zero, suc}
+use Prim.Native.Nat.{ℕ, zero, suc, _+_}
 use mathlib.Core.Bool.{Bool, true, false, _&&_}
 use mathlib.Core.List.{List, [], _∷_}
 use lib.Dec.{eqb}
@@ -8,6 +8,8 @@ use Rattle.xm.specs.Got.{Got, got, refused}
 use Rattle.xm.specs.Format.{each, joined}
 use Rattle.xm.specs.Cell.{needed, cellAt, writeCell, cellFormat}
 use Rattle.refusal.specs.Fault.{faultOf}
+use Rattle.cells.specs.declared.Scanned.{Scanned}
+use Rattle.cells.specs.declared.Scanned.the-variants.{End, Refused as RefusedScan}
 use Rattle.cells.specs.declared.Measured.{Measured}
 use Rattle.cells.specs.declared.Measured.the-variants.{Cells, Refused}
 
@@ -18,6 +20,11 @@ readRow count place s = each cellFormat .read (replicate count tt) place s
 abbrev pub accepted : {A : Type 0} → Got A → Bool
 accepted (got a used) = true
 accepted (refused r) = false
+
+-- Where they end, if they begin at a place.
+abbrev pub endOf : (place : ℕ) → Got (List (List ℕ)) → Scanned
+endOf place (got cells used) = End (place + used)
+endOf place (refused r) = RefusedScan (faultOf r)
 
 unfoldable pub sameBytes : List ℕ → List ℕ → Bool
 sameBytes [] [] = true

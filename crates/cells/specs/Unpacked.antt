@@ -12,6 +12,11 @@ use Rattle.cells.specs.declared.StoredStep.the-variants.{Read, Refused a
 use Rattle.cells.specs.declared.Unpacked.{Unpacked}
 use Rattle.cells.specs.declared.Unpacked.the-variants.{Rows, Refused as RefusedUnpacked}
 
+-- The rows that it reads as.
+abbrev pub rowsOf : Got Pattern → Unpacked
+rowsOf (got p used) = Rows (p .rows)
+rowsOf (refused r) = RefusedUnpacked (faultOf r)
+
 -- The rows that it reads as, the length of its shortest form, and whether its bytes are that form already.
 abbrev pub storedOf : (stored : List ℕ) → Got Pattern → StoredStep
 storedOf stored (got p used) =

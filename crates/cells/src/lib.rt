@@ -1,7 +1,7 @@
 // A pattern's stored cells: read one by one, checked and measured in one pass, and unpacked.
 use refusal::Fault;
 
-mod quick; // empty cells eight at a time, and a cell without a branch
+mod quick; // two or more cells at a time, and a cell without a branch
 
 ghost use mathlib.Core.Path.{_≡_};
 ghost use Prim.Native.Nat.{_+_, _*_, _%_, _<_, _≤_};
@@ -15,9 +15,9 @@ ghost use Rattle.xm.specs.Cell.{lengthBy, fieldBy, needed, cellAt, readCell, bi
 ghost use Rattle.xm.specs.Stored.{readStored};
 ghost use Rattle.xm.specs.Packing.{argumentTests, unpacking, unpackAfter};
 ghost use Rattle.cells.specs.Step.{cellOf, fieldsOf, stepOf};
-ghost use Rattle.cells.specs.Row.{readRow, accepted, measuredOf, cellsIn};
-ghost use Rattle.cells.specs.Unpacked.{storedOf, unpackedOf};
-ghost use Rattle.cells.specs.Inside.{Whole, measureFrom, shortestBy, shortBy, refusedAt, storedSize, refusedRow, refusedStored, unpackTests, passAll};
+ghost use Rattle.cells.specs.Row.{readRow, accepted, endOf, measuredOf, cellsIn};
+ghost use Rattle.cells.specs.Unpacked.{rowsOf, storedOf, unpackedOf};
+ghost use Rattle.cells.specs.Inside.{Whole, measureFrom, shortestBy, shortBy, refusedEnd, refusedAt, storedSize, refusedRow, refusedScan, firstFields, unpackTests, passAll};
 
 // "Only the note is limited (0..97)"
 const NOTE_MOST: u8 = 97;
@@ -34,6 +34,12 @@ pub struct Cell {
 pub enum CellStep {
     Read(Cell, usize),
     Refused(u32),
+}
+
+// Where cells in a row end.
+pub enum Scanned {
+    End(usize),
+    Refused(Fault),
 }
 
 // Of cells in a row: the bytes that they take, those of their shortest form, and whether they stand in that form already.
@@ -66,7 +72,7 @@ pub enum Unpacked {
 }
 
 // The bytes that a cell takes, by its lead byte.
-pub fn cell_length(lead: u8) -> usize
+fn cell_length(lead: u8) -> usize
     ensures { λ r. ⌜ r ≡ lengthBy lead ⌝ }
 {
     if lead < 128 {
@@ -119,7 +125,7 @@ pub fn take_cell(stored: &[u8]) -> Cell
 }
 
 // One cell from the head of what is left: tried for 7, then 9.
-pub fn read_cell(stored: &[u8]) -> CellStep
+fn read_cell(stored: &[u8]) -> CellStep
     ensures { λ r. ⌜ r ≡ stepOf (readCell 0 (now (stored .entry))) ⌝ }
 {
     if stored.len() == 0 {
@@ -135,6 +141,62 @@ pub fn read_cell(stored: &[u8]) -> CellStep
         return CellStep::Refused(9);
     }
     CellStep::Read(cell, used)
+}
+
+// A step's refusal, at its place, where cells are only tried.
+fn refused_end(step: CellStep, place: usize) -> Scanned
+    ensures { λ r. ⌜ r ≡ refusedEnd step place ⌝ }
+{
+    match step {
+        CellStep::Read(_, _) => Scanned::End(place),
+        CellStep::Refused(number) => Scanned::Refused(Fault {
+            number: number,
+            place: place,
+        }),
+    }
+}
+
+// The cells from a place on, tried one by one.
+fn scan_from(stored: &[u8], from: usize, count: usize) -> Scanned
+    requires { ⌜ from ≤ length (now stored) ⌝ }
+    ensures { λ r. ⌜ r ≡ endOf from (readRow count from (drop from (now (stored .entry)))) ⌝ }
+{
+    let mut used = from;
+    let mut left = count;
+    while 0 < left { // one by one, to the last
+        let step = read_cell(&stored[used..]);
+        let CellStep::Read(_, length) = step else {
+            return refused_end(step, used);
+        };
+        used += length;
+        left -= 1;
+    }
+    Scanned::End(used)
+}
+
+// `count` cells in a row, tried for 7 and 9, two or more at a time. What a turn refuses is tried again one by one, for its place.
+fn scan_cells(stored: &[u8], count: usize) -> Scanned
+    ensures { λ r. ⌜ r ≡ endOf 0 (readRow count 0 (now (stored .entry))) ⌝ }
+{
+    let mut used: usize = 0;
+    let mut left = count;
+    let mut word = quick::first_word(stored);
+    while 9 <= left && 21 <= stored.len() - used {
+        let ahead = quick::look_ahead(stored, used, word);
+        let last = ahead.last;
+        let first_note = quick::note_by((word % 256) as u8, (word / 256 % 256) as u8);
+        if NOTE_MOST < first_note {
+            return scan_from(stored, used, left);
+        }
+        let last_note = quick::note_by(stored[last], stored[last + 1]);
+        if NOTE_MOST < last_note {
+            return scan_from(stored, used, left);
+        }
+        used = ahead.next;
+        left -= ahead.cells + 1;
+        word = quick::word(stored, used);
+    }
+    scan_from(stored, used, left)
 }
 
 // 1 for a field that is kept, 0 for one that is 0.
@@ -210,7 +272,7 @@ fn measure_from(stored: &[u8], from: usize, count: usize, before: usize, alike: 
     let mut shortest = before;
     let mut same = alike;
     let mut left = count;
-    while 0 < left { // one by one, to the last
+    while 0 < left {
         let step = read_cell(&stored[used..]);
         let CellStep::Read(cell, length) = step else {
             return refused_at(step, used);
@@ -229,17 +291,16 @@ fn measure_from(stored: &[u8], from: usize, count: usize, before: usize, alike: 
 }
 
 // `count` cells in a row, checked and measured in one pass.
-pub fn measure_cells(stored: &[u8], count: usize) -> Measured
+fn measure_cells(stored: &[u8], count: usize) -> Measured
     ensures { λ r. ⌜ r ≡ measuredOf (now (stored .entry)) (readRow count 0 (now (stored .entry))) ⌝ }
 {
-    let ones = quick::ONES;
     let mut used: usize = 0;
     let mut shortest: usize = 0;
     let mut same = true;
     let mut left = count;
     while 9 <= left && 16 <= stored.len() - used {
         if stored[used] == 128 {
-            let empty = quick::empty_run(stored, used);
+            let empty = quick::empty_run(quick::word(stored, used));
             used += empty;
             shortest += empty;
             left -= empty;
@@ -252,7 +313,7 @@ pub fn measure_cells(stored: &[u8], count: usize) -> Measured
                 place: used,
             });
         }
-        let length = quick::length_by(&ones, lead);
+        let length = quick::length_by(lead);
         let kept = quick::kept_at(stored, used, length);
         same = still_same(same, lead, length, kept);
         shortest += shortest_by(kept);
@@ -371,30 +432,39 @@ fn clear(out: &mut [u8], count: usize)
     }
 }
 
-// Cells in a row that were accepted, five bytes each, at the front.
+// The first cell of a word at the front; of empty ones as many as there may be, for those that follow are written over.
+fn fill_first(stored: &[u8], place: usize, word: u64, out: &mut [u8])
+    requires { ⌜ place + 6 ≤ length (now stored) ⌝ }
+    requires { ⌜ 40 ≤ length (now out) ⌝ }
+    ensures { λ _. ⌜ now (out .exit) ≡ inFront (firstFields word (drop place (now (stored .entry)))) (now (out .entry)) ⌝ }
+{
+    if word % 256 == 128 {
+        clear(out, 40);
+    } else {
+        store_cell(quick::take_at(stored, place), out);
+    }
+}
+
+// Cells in a row that were accepted, five bytes each, at the front, two or more at a time.
 pub fn fill_cells(stored: &[u8], count: usize, out: &mut [u8])
     requires { ⌜ accepted (readRow count 0 (now stored)) ≡ true ⌝ }
     requires { ⌜ count * 5 ≤ length (now out) ⌝ }
     ensures { λ _. ⌜ now (out .exit) ≡ inFront (flat (cellsIn count (now (stored .entry)))) (now (out .entry)) ⌝ }
 {
-    let ones = quick::ONES;
     let mut at: usize = 0;
     let mut to: usize = 0;
     let mut left = count; // all are still to come
-    while 9 <= left && 16 <= stored.len() - at {
-        if stored[at] == 128 {
-            let empty = quick::empty_run(stored, at);
-            // Always eight cells' zeros: those past the run are written over.
-            clear(&mut out[to..], 40);
-            at += empty;
-            to += empty * 5;
-            left -= empty;
-        }
-        let cell = quick::take_at(stored, at);
-        store_cell(cell, &mut out[to..]);
-        at += quick::length_by(&ones, stored[at]);
+    let mut word = quick::first_word(stored);
+    while 9 <= left && 21 <= stored.len() - at {
+        let ahead = quick::look_ahead(stored, at, word);
+        let next = quick::word(stored, ahead.next);
+        fill_first(stored, at, word, &mut out[to..]);
+        to += ahead.cells * 5;
+        store_cell(quick::take_at(stored, ahead.last), &mut out[to..]);
         to += 5;
-        left -= 1;
+        at = ahead.next;
+        left -= ahead.cells + 1;
+        word = next;
     }
     fill_each(&stored[at..], left, &mut out[to..]);
 }
@@ -418,14 +488,35 @@ fn in_range(rows: usize, channels: usize, size: usize) -> bool
     size <= 65535
 }
 
-// A stored pattern's refusal, passed on.
-fn refused_stored(step: StoredStep) -> Unpacked
-    ensures { λ r. ⌜ r ≡ refusedStored step ⌝ }
+// A row's refusal, passed on.
+fn refused_scan(scanned: Scanned) -> Unpacked
+    ensures { λ r. ⌜ r ≡ refusedScan scanned ⌝ }
 {
-    match step {
-        StoredStep::Read(size) => Unpacked::Rows(size.rows),
-        StoredStep::Refused(fault) => Unpacked::Refused(fault),
+    match scanned {
+        Scanned::End(used) => Unpacked::Rows(used),
+        Scanned::Refused(fault) => Unpacked::Refused(fault),
     }
+}
+
+// A stored pattern, tried for 7, 9 and 8: the rows that it reads as.
+pub fn scan_stored(stored: &[u8], rows: usize, channels: usize) -> Unpacked
+    requires { ⌜ AllHold (argumentTests rows channels) ⌝ }
+    ensures { λ r. ⌜ r ≡ rowsOf (readStored channels rows 0 (now (stored .entry))) ⌝ }
+{
+    if stored.len() == 0 {
+        return Unpacked::Rows(64);
+    }
+    let scanned = scan_cells(stored, rows * channels);
+    let Scanned::End(used) = scanned else {
+        return refused_scan(scanned);
+    };
+    if used < stored.len() {
+        return Unpacked::Refused(Fault {
+            number: 8,
+            place: used,
+        });
+    }
+    Unpacked::Rows(rows)
 }
 
 // A stored pattern's cells, five bytes each. A first pass decides every refusal, a second fills.
@@ -440,11 +531,10 @@ pub fn unpack(rows: usize, channels: usize, stored: &[u8], cells: &mut [u8]) -> 
             place: 0,
         });
     }
-    let step = read_stored(stored, rows, channels);
-    let StoredStep::Read(size) = step else {
-        return refused_stored(step);
+    let step = scan_stored(stored, rows, channels);
+    let Unpacked::Rows(reads) = step else {
+        return step;
     };
-    let reads = size.rows;
     let count = reads * channels;
     if cells.len() < count * 5 {
         return Unpacked::Refused(Fault {

@@ -1,48 +1,19 @@
-// What the fast loops stand on: empty cells eight at a time, and a cell's parts without a branch. A byte is loaded first and chosen
-// after, so that the choice needs no jump.
+// What the fast loops stand on: empty cells by the word, two cells ahead, and a cell's parts without a branch. A byte is loaded first
+// and chosen after, so that the choice needs no jump.
 use crate::Cell;
 ghost use mathlib.Core.Path.{_≡_};
-ghost use Prim.Native.Nat.{_+_, _≤_};
+ghost use Prim.Native.Nat.{_+_, _*_, _%_, _≤_};
 ghost use lib.ListN.{length, drop, getD};
 ghost use Rattle.xm.specs.Cell.{lengthBy, cellAt, kepts};
 ghost use Rattle.cells.specs.Step.{cellOf};
-ghost use Rattle.cells.specs.Quick.{eightAt, EmptyRun, OnesTable, noteBy, bitsBy, fieldOr, countedAt, countedLead};
+ghost use Rattle.cells.specs.Quick.{eightAt, WordAt, Empties, AheadOf, behind, lengthsBy, noteBy, bitsBy, fieldOr, countedAt, countedLead};
 
-// How many ones a number of five bits has. A loop copies the table once, and lends the copy.
-pub const ONES: [u8; 32] = [
-    0,
-    1,
-    1,
-    2,
-    1,
-    2,
-    2,
-    3,
-    1,
-    2,
-    2,
-    3,
-    2,
-    3,
-    3,
-    4,
-    1,
-    2,
-    2,
-    3,
-    2,
-    3,
-    3,
-    4,
-    2,
-    3,
-    3,
-    4,
-    3,
-    4,
-    4,
-    5,
-];
+// Of cells from a place on: how many stand in front of the last one, where that stands, and what follows it.
+pub struct Ahead {
+    pub cells: usize,
+    pub last: usize,
+    pub next: usize,
+}
 
 fn wide(x: u8) -> u64
     ensures { λ r. ⌜ r ≡ x ⌝ }
@@ -51,8 +22,8 @@ fn wide(x: u8) -> u64
     x as u64
 }
 
-// Eight bytes as one number, low first: one load.
-fn word(stored: &[u8], place: usize) -> u64
+// Eight bytes as one number, low first. A loop keeps the number from turn to turn: so it stays one load.
+pub fn word(stored: &[u8], place: usize) -> u64
     requires { ⌜ place + 8 ≤ length (now stored) ⌝ }
     ensures { λ r. ⌜ r ≡ eightAt (now (stored .entry)) place ⌝ }
 {
@@ -74,15 +45,80 @@ fn word(stored: &[u8], place: usize) -> u64
         + 72057594037927936 * b7
 }
 
-// How many of the next eight bytes, from the first on, are empty cells: less eight times 128, they are the zero bytes below.
-pub fn empty_run(stored: &[u8], place: usize) -> usize
-    requires { ⌜ place + 8 ≤ length (now stored) ⌝ }
-    ensures { λ r. ⌜ EmptyRun (now (stored .entry)) place r ⌝ }
+// The first eight bytes, where there are so many.
+pub fn first_word(stored: &[u8]) -> u64
+    ensures { λ r. ⌜ WordAt (now (stored .entry)) 0 r ⌝ }
 {
-    let bytes = word(stored, place);
-    let rest = std::num::wrapping_sub_u64(bytes, 9259542123273814144);
+    if stored.len() < 8 {
+        return 0;
+    }
+    word(stored, 0)
+}
+
+// How many of a word's first seven bytes, from the first on, are empty cells: less seven times 128, they are the zero bytes below.
+pub fn empty_run(word: u64) -> usize
+    ensures { λ r. ⌜ Empties word r ⌝ }
+{
+    let rest = word % 72057594037927936 + 9187201950435737472;
     let zeros = u64::trailing_zeros(rest);
     (zeros / 8) as usize
+}
+
+// Sixteen lengths, four bits each, by the lead byte's low four bits: a word's first cell is plain, or marked with no parameter or one.
+fn lengths_by(word: u64) -> u64
+    ensures { λ r. ⌜ r ≡ lengthsBy word ⌝ }
+{
+    if word % 256 < 128 {
+        return 0x5555555555555555;
+    }
+    if word / 16 % 2 == 0 {
+        return 0x5443433243323221;
+    }
+    0x6554544354434332
+}
+
+// The bits that a word's first cell takes.
+fn cell_bits(word: u64) -> u64
+    ensures { λ r. ⌜ r ≡ 8 * lengthBy (word % 256) ⌝ }
+{
+    let lengths = lengths_by(word);
+    (lengths >> (word % 16 * 4)) % 16 * 8
+}
+
+// The bytes that a cell takes.
+pub fn length_by(lead: u8) -> usize
+    ensures { λ r. ⌜ r ≡ lengthBy lead ⌝ }
+{
+    let bits = cell_bits(wide(lead));
+    (bits / 8) as usize
+}
+
+// The cell behind some bits of a word, and what follows it.
+fn ahead_by(word: u64, place: usize, cells: usize, bits: u64) -> Ahead
+    requires { ⌜ place + 13 ≤ 18446744073709551615 ⌝ }
+    requires { ⌜ bits ≤ 56 ⌝ }
+    ensures { λ r. ⌜ r ≡ behind word place cells bits ⌝ }
+{
+    let last = place + (bits / 8) as usize;
+    let length = cell_bits(word >> bits) / 8;
+    Ahead {
+        cells: cells,
+        last: last,
+        next: last + length as usize,
+    }
+}
+
+// Two cells, or empty cells and another one, by the word that stands at a place.
+pub fn look_ahead(stored: &[u8], place: usize, word: u64) -> Ahead
+    requires { ⌜ place + 13 ≤ length (now stored) ⌝ }
+    requires { ⌜ word ≡ eightAt (now stored) place ⌝ }
+    ensures { λ r. ⌜ AheadOf (now (stored .entry)) place r ⌝ }
+{
+    if word % 256 == 128 {
+        let empty = empty_run(word);
+        return ahead_by(word, place, empty, (8 * empty) as u64);
+    }
+    ahead_by(word, place, 1, cell_bits(word))
 }
 
 pub fn note_by(lead: u8, second: u8) -> u8
@@ -105,15 +141,6 @@ fn bits_by(lead: u8) -> u8
         return 31;
     }
     lead
-}
-
-// The bytes that a cell takes: one for each bit, and a marked cell's lead byte.
-pub fn length_by(table: &[u8; 32], lead: u8) -> usize
-    requires { ⌜ OnesTable (now table) ⌝ }
-    ensures { λ r. ⌜ r ≡ lengthBy lead ⌝ }
-{
-    let bits = bits_by(lead);
-    (lead / 128) as usize + table[(bits % 32) as usize] as usize
 }
 
 fn counted_lead(lead: u8) -> usize

@@ -16,14 +16,17 @@ use Rattle.xm.proofs.Got.{pass, step, step-refused}
 use Rattle.xm.proofs.Fault.{stored-faults}
 use Rattle.refusal.specs.declared.Fault.{Fault}
 use Rattle.cells.specs.Row.{sameBytes}
-use Rattle.cells.specs.Unpacked.{storedOf}
+use Rattle.cells.specs.Unpacked.{rowsOf, storedOf}
 use Rattle.cells.specs.declared.StoredSize.{StoredSize}
 use Rattle.cells.specs.declared.StoredStep.{StoredStep}
 use Rattle.cells.specs.declared.StoredStep.the-variants as stored
+use Rattle.cells.specs.declared.Unpacked.{Unpacked}
+use Rattle.cells.specs.declared.Unpacked.the-variants as unpacked
 use Rattle.steps.specs.Test.{firstFault}
-use Rattle.steps.specs.Step.{storedFault, storedRefused, patternStep}
+use Rattle.steps.specs.Step.{storedFault, storedRefused, patternStep, rowsFault, rowsRefused, placeStep}
 use Rattle.steps.specs.declared.pattern.PatternStep.{PatternStep}
 use Rattle.steps.specs.declared.pattern.PatternStep.the-variants.{Read, Refused}
+use Rattle.steps.specs.declared.sample.PlaceStep.the-variants as sample
 use Rattle.steps.proofs.Tests.{RefuseAt, fault-holds, fault-refuses}
 use Rattle.steps.proofs.Shift.{shifted, stored-shifted}
 
@@ -47,6 +50,16 @@ module _ (file : List ℕ) (base size : ℕ) (small : size < 65536) where
       go (got p n) q = omega arith
       go (refused r) q = omega (arith, stored-faults channels rows 0 cells r (bytes-take (base + size - base) (bytes-drop base b)) q .to, cells-small)
 
+  pub rows-place : Bytes file → (channels rows : ℕ) {step : Unpacked} → step ≡ rowsOf (readStored channels rows 0 cells) → rowsFault step ≤ dataMost
+  rows-place b channels rows e = rw e (go (readStored channels rows 0 cells) refl)
+    where
+      go : (g : Got Pattern) → readStored channels rows 0 cells ≡ g → rowsFault (rowsOf g) ≤ dataMost
+      go (got p n) q = omega arith
+      go (refused r) q = omega (arith, stored-faults channels rows 0 cells r (bytes-take (base + size - base) (bytes-drop base b)) q .to, cells-small)
+
+never-rows : {A : Type 0} {rows : ℕ} {f : Fault} → unpacked.Rows rows ≡ unpacked.Refused f → A
+never-rows e = absurd (let z : _≡_ {A = ℕ} 0 1 = cc in omega arith)
+
 never-both : {A : Type 0} {size : StoredSize} {f : Fault} → stored.Read size ≡ stored.Refused f → A
 never-both e = absurd (let z : _≡_ {A = ℕ} 0 1 = cc in omega arith)
 
@@ -65,6 +78,10 @@ module _ (file : List ℕ) (place : ℕ) where
     pub pattern-refused : (fault ≡ 0 → ⊥) → Refused (record { number = fault; place = place }) ≡ patternStep file place (readPattern channels place from)
     unfolding readPattern
     pattern-refused f = rw e (sym (ap (patternStep file place) (fault-refuses place (patternTests place from) _ refuse-at (λ z. f (e ∙ z)))))
+
+    pub scan-refused : (fault ≡ 0 → ⊥) → sample.Refused (record { number = fault; place = place }) ≡ placeStep place (readPattern channels place from)
+    unfolding readPattern
+    scan-refused f = rw e (sym (ap (placeStep place) (fault-refuses place (patternTests place from) _ refuse-at (λ z. f (e ∙ z)))))
 
     pub pattern-holds : fault ≡ 0 → AllHold (patternTests place from)
     pattern-holds z = fault-holds place (patternTests place from) refuse-at (sym e ∙ z)
@@ -101,10 +118,21 @@ module _ (file : List ℕ) (place : ℕ) where
         ∙ sym (ap (patternStep file place) (pass (patternTests place from) h (step _ (shifts ∙ ap (shifted (place + L)) e) refl)))
     by-pattern (refused r) e told = never-both (sym told)
 
+    scan-by-refusal : (g : Got Pattern) {f : Fault} → readStored channels rows 0 d ≡ g → rowsOf g ≡ unpacked.Refused f → rowsRefused (place + L) (rowsOf g) ≡ placeStep place (readPattern channels place from)
+    unfolding readPattern shifted
+    scan-by-refusal (got p n) e told = never-rows told
+    scan-by-refusal (refused r) e told = sym (ap (placeStep place) (pass (patternTests place from) h (step-refused _ (shifts ∙ ap (shifted (place + L)) e))))
+
+    scan-by-rows : (g : Got Pattern) {n : ℕ} → readStored channels rows 0 d ≡ g → rowsOf g ≡ unpacked.Rows n → sample.Next (place + L + S) ≡ placeStep place (readPattern channels place from)
+    unfolding readPattern shifted
+    scan-by-rows (got p n) e told =
+        ap sample.Next (add-assoc place L S) ∙ sym (ap (placeStep place) (pass (patternTests place from) h (step _ (shifts ∙ ap (shifted (place + L)) e) refl)))
+    scan-by-rows (refused r) e told = never-rows (sym told)
+
     -- in the code's numbers, with the cells as the code cuts them out
-    module _ {head size row : ℕ} (p : head ≡ L) (q : row ≡ rows) (r : size ≡ S) where
+    module _ {base size row : ℕ} (p : base ≡ place + L) (q : row ≡ rows) (r : size ≡ S) where
       abbrev cut : List ℕ
-      cut = take (place + head + size - (place + head)) (drop (place + head) file)
+      cut = take (base + size - base) (drop base file)
 
       same-cut : cut ≡ d
       same-cut = rw (p, r, add-sub-cancel-left, drop-drop)
@@ -113,9 +141,19 @@ module _ (file : List ℕ) (place : ℕ) where
         same-step : step ≡ storedOf d (readStored channels rows 0 d)
         same-step = e ∙ ap₂ (λ (n : ℕ) (s : List ℕ). storedOf s (readStored channels n 0 s)) q same-cut
 
-        pub pattern-out : {f : Fault} → step ≡ stored.Refused f → storedRefused (place + head) step ≡ patternStep file place (readPattern channels place from)
-        pattern-out told = ap₂ storedRefused (ap (λ (n : ℕ). place + n) p) same-step ∙ by-refusal _ refl (sym same-step ∙ told)
+        pub pattern-out : {f : Fault} → step ≡ stored.Refused f → storedRefused base step ≡ patternStep file place (readPattern channels place from)
+        pattern-out told = ap₂ storedRefused p same-step ∙ by-refusal _ refl (sym same-step ∙ told)
 
         pub pattern-read : {z : StoredSize} → step ≡ stored.Read z
-            → Read (record { place = place + head; size = size; rows = z .rows; shortest = z .shortest; same = z .same; next = place + head + size }) ≡ patternStep file place (readPattern channels place from)
+            → Read (record { place = base; size = size; rows = z .rows; shortest = z .shortest; same = z .same; next = base + size }) ≡ patternStep file place (readPattern channels place from)
         pattern-read told = rw (p, r) (by-pattern _ refl (sym same-step ∙ told))
+
+      module _ {step : Unpacked} (e : step ≡ rowsOf (readStored channels row 0 cut)) where
+        same-rows : step ≡ rowsOf (readStored channels rows 0 d)
+        same-rows = e ∙ ap₂ (λ (n : ℕ) (s : List ℕ). rowsOf (readStored channels n 0 s)) q same-cut
+
+        pub scan-out : {f : Fault} → step ≡ unpacked.Refused f → rowsRefused base step ≡ placeStep place (readPattern channels place from)
+        scan-out told = ap₂ rowsRefused p same-rows ∙ scan-by-refusal _ refl (sym same-rows ∙ told)
+
+        pub scan-read : {n : ℕ} → step ≡ unpacked.Rows n → sample.Next (base + size) ≡ placeStep place (readPattern channels place from)
+        scan-read told = rw (p, r) (scan-by-rows _ refl (sym same-rows ∙ told))

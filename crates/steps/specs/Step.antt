@@ -1,8 +1,9 @@
 -- What each step answers: of a reading that was accepted, what the walk needs of it; of one that was refused, the refusal.
-use Prim.Native.Nat.{ℕ, _+_}
+use Prim.Native.Nat.{ℕ, _+_, _<_}
 use mathlib.Core.List.{List, [], _∷_}
+use mathlib.Core.Path.{_≡_}
 use lib.ListN.{length}
-use Rattle.xm.specs.Number.{part}
+use Rattle.xm.specs.Number.{wordAt, longAt, part}
 use Rattle.xm.specs.Got.{Got, got, refused}
 use Rattle.xm.specs.Stored.{writeStored}
 use Rattle.xm.specs.Header.{HeaderFound}
@@ -14,8 +15,11 @@ use Rattle.refusal.specs.Fault.{faultOf}
 use Rattle.cells.specs.Row.{sameBytes}
 use Rattle.cells.specs.declared.StoredStep.{StoredStep}
 use Rattle.cells.specs.declared.StoredStep.the-variants as stored
+use Rattle.cells.specs.declared.Unpacked.{Unpacked}
+use Rattle.cells.specs.declared.Unpacked.the-variants as unpacked
 use Rattle.steps.specs.declared.header.HeaderStep.{HeaderStep}
 use Rattle.steps.specs.declared.header.HeaderStep.the-variants as header
+use Rattle.steps.specs.declared.pattern.PatternHead.{PatternHead}
 use Rattle.steps.specs.declared.pattern.PatternStep.{PatternStep}
 use Rattle.steps.specs.declared.pattern.PatternStep.the-variants as pattern
 use Rattle.steps.specs.declared.sample.PlaceStep.{PlaceStep}
@@ -43,6 +47,13 @@ patternStep file place (got i used) = pattern.Read (record {
   next = place + used;
 })
 patternStep file place (refused r) = pattern.Refused (faultOf r)
+
+-- What its header tells, in the bytes from its place on.
+pub record HeadOf (from : ℕ) (s : List ℕ) (head : PatternHead) : Type 0 where
+  pub place : head .place ≡ from + longAt 0 s
+  pub size : head .size ≡ wordAt 7 s
+  pub rows : head .rows ≡ wordAt 5 s
+  pub small : head .size < 65536
 
 -- A step that gives no more than the next place.
 abbrev pub placeStep : {A : Type 0} → (place : ℕ) → Got A → PlaceStep
@@ -82,6 +93,14 @@ storedFault (stored.Refused fault) = fault .place
 abbrev pub storedRefused : (base : ℕ) → StoredStep → PatternStep
 storedRefused base (stored.Read size) = pattern.Refused (record { number = 0; place = base })
 storedRefused base (stored.Refused fault) = pattern.Refused (record { number = fault .number; place = base + fault .place })
+
+abbrev pub rowsFault : Unpacked → ℕ
+rowsFault (unpacked.Rows rows) = 0
+rowsFault (unpacked.Refused fault) = fault .place
+
+abbrev pub rowsRefused : (base : ℕ) → Unpacked → PlaceStep
+rowsRefused base (unpacked.Rows rows) = sample.Next base
+rowsRefused base (unpacked.Refused fault) = sample.Refused (record { number = fault .number; place = base + fault .place })
 
 abbrev pub samplesRefused : PlaceStep → InstrumentStep
 samplesRefused (sample.Next place) = instrument.Refused (record { number = 0; place = place })

@@ -1,16 +1,19 @@
 // The pattern step.
 use crate::number::long;
 use crate::number::word;
+use crate::sample::PlaceStep;
 use cells::StoredStep;
+use cells::Unpacked;
 use refusal::Fault;
 ghost use mathlib.Core.Path.{_≡_};
 ghost use Prim.Native.Nat.{_≤_};
 ghost use lib.ListN.{length, drop};
 ghost use Rattle.xm.specs.PatternInFile.{patternTests, readPattern, dataMost};
 ghost use Rattle.xm.specs.Module.{fileMost};
+ghost use Rattle.xm.specs.Got.{AllHold};
 ghost use Rattle.steps.specs.Mark.{markBy};
 ghost use Rattle.steps.specs.Test.{firstFault};
-ghost use Rattle.steps.specs.Step.{storedFault, storedRefused, patternStep};
+ghost use Rattle.steps.specs.Step.{storedFault, storedRefused, patternStep, HeadOf, rowsFault, rowsRefused, placeStep};
 
 // A second pass writes the cells again, copies them as they stand, or writes nothing.
 pub const AGAIN: u8 = 0;
@@ -33,6 +36,13 @@ pub struct PatternPart {
 pub enum PatternStep {
     Read(PatternPart),
     Refused(Fault),
+}
+
+// What its header tells: where its data stand, how many bytes, and the row number.
+struct PatternHead {
+    place: usize,
+    size: usize,
+    rows: usize,
 }
 
 // A refusal of the stored cells, whose first byte stands at `base`, passed on.
@@ -80,6 +90,19 @@ fn pattern_fault(file: &[u8], at: usize) -> u32
     0
 }
 
+// The header of a pattern that passed.
+fn pattern_head(file: &[u8], at: usize) -> PatternHead
+    requires { ⌜ length (now file) ≤ fileMost ⌝ }
+    requires { ⌜ AllHold (patternTests at (drop at (now file))) ⌝ }
+    ensures { λ r. ⌜ HeadOf at (drop at (now (file .entry))) r ⌝ }
+{
+    PatternHead {
+        place: at + long(file, at, 0),
+        size: word(file, at, 7),
+        rows: word(file, at, 5),
+    }
+}
+
 pub fn read_pattern(file: &[u8], at: usize, channels: usize) -> PatternStep
     requires { ⌜ at ≤ length (now file) ⌝ }
     requires { ⌜ length (now file) ≤ fileMost ⌝ }
@@ -93,22 +116,60 @@ pub fn read_pattern(file: &[u8], at: usize, channels: usize) -> PatternStep
             place: at,
         });
     }
-    let place = at + long(file, at, 0);
-    let rows = word(file, at, 5);
-    let size = word(file, at, 7);
-    let next = place + size;
-    let step = cells::read_stored(&file[place..next], rows, channels);
+    let head = pattern_head(file, at);
+    let place = head.place;
+    let next = place + head.size;
+    let step = cells::read_stored(&file[place..next], head.rows, channels);
     let StoredStep::Read(stored) = step else {
         return refused_stored(step, place);
     };
     PatternStep::Read(PatternPart {
         place: place,
-        size: size,
+        size: head.size,
         rows: stored.rows,
         shortest: stored.shortest,
         same: stored.same,
         next: next,
     })
+}
+
+// The same where the pattern is only tried.
+fn refused_rows(step: Unpacked, base: usize) -> PlaceStep
+    requires { ⌜ base ≤ fileMost ⌝ }
+    requires { ⌜ rowsFault step ≤ dataMost ⌝ }
+    ensures { λ r. ⌜ r ≡ rowsRefused base step ⌝ }
+{
+    match step {
+        Unpacked::Rows(rows) => PlaceStep::Next(base),
+        Unpacked::Refused(fault) => PlaceStep::Refused(Fault {
+            number: fault.number,
+            place: base + fault.place,
+        }),
+    }
+}
+
+// A pattern that is only tried: where the next structure starts.
+pub fn scan_pattern(file: &[u8], at: usize, channels: usize) -> PlaceStep
+    requires { ⌜ at ≤ length (now file) ⌝ }
+    requires { ⌜ length (now file) ≤ fileMost ⌝ }
+    requires { ⌜ (1 ≤ channels) × (channels ≤ 64) ⌝ }
+    ensures { λ r. ⌜ r ≡ placeStep at (readPattern channels at (drop at (now (file .entry)))) ⌝ }
+{
+    let fault = pattern_fault(file, at);
+    if fault != 0 {
+        return PlaceStep::Refused(Fault {
+            number: fault,
+            place: at,
+        });
+    }
+    let head = pattern_head(file, at);
+    let place = head.place;
+    let next = place + head.size;
+    let step = cells::scan_stored(&file[place..next], head.rows, channels);
+    let Unpacked::Rows(_) = step else {
+        return refused_rows(step, place);
+    };
+    PlaceStep::Next(next)
 }
 
 // What a second pass does with a pattern.

@@ -24,11 +24,13 @@ use Rattle.xm.proofs.PatternInFile.{pattern-keeps}
 use Rattle.xm.proofs.Instrument.{instrument-keeps}
 use Rattle.refusal.specs.declared.Fault.{Fault}
 use Rattle.steps.specs.Mark.{Marks}
-use Rattle.steps.specs.Step.{headerStep}
-use Rattle.walk.specs.File.{patternsStep, instrumentsStep, walkStep, verdictOf, headerRefused, runRefused, walkRefused}
+use Rattle.steps.specs.Step.{headerStep, placeStep}
+use Rattle.walk.specs.File.{patternsStep, instrumentsStep, walkStep, verdictOf, headerRefused, placeRefused, runRefused, walkRefused}
 use Rattle.steps.specs.declared.header.HeaderPart.{HeaderPart}
 use Rattle.steps.specs.declared.header.HeaderStep.{HeaderStep}
 use Rattle.steps.specs.declared.header.HeaderStep.the-variants as header
+use Rattle.steps.specs.declared.sample.PlaceStep.{PlaceStep}
+use Rattle.steps.specs.declared.sample.PlaceStep.the-variants as sample
 use Rattle.walk.specs.declared.Run.{Run}
 use Rattle.walk.specs.declared.RunStep.{RunStep}
 use Rattle.walk.specs.declared.RunStep.the-variants as run
@@ -50,6 +52,12 @@ same-run e = cc
 
 never-run : {A : Type 0} {part : Run} {f : Fault} → run.Read part ≡ run.Refused f → A
 never-run e = absurd (let z : _≡_ {A = ℕ} 0 1 = cc in omega arith)
+
+same-place : {a b : ℕ} → sample.Next a ≡ sample.Next b → a ≡ b
+same-place e = cc
+
+never-place : {A : Type 0} {place : ℕ} {f : Fault} → sample.Next place ≡ sample.Refused f → A
+never-place e = absurd (let z : _≡_ {A = ℕ} 0 1 = cc in omega arith)
 
 same-summary : {a b : Summary} → Accepted a ≡ Accepted b → a ≡ b
 same-summary e = cc
@@ -133,6 +141,31 @@ module _ (file : List ℕ) (small : length file ≤ fileMost) where
         go (got is n) q d = never-run (sym d ∙ told)
         go (refused r) q d = header-got (readHeader 0 file) e λ i eh c p k.
             ap runRefused d ∙ sym (ap walkStep (whole ∙ step-on _ eh (step-refused _ (step-refused _ (same-patterns (i .content) c p ∙ q)))))
+
+    -- and where they are only tried
+    pub place-out : {step : PlaceStep} {f : Fault} → step ≡ placeStep (part .start) patterns → step ≡ sample.Refused f → placeRefused step ≡ walkStep (readFile file)
+    place-out {step} {f} d told = go patterns refl d
+      where
+        go : (g : Got (List PatternFound)) → patterns ≡ g → step ≡ placeStep (part .start) g → placeRefused step ≡ walkStep (readFile file)
+        go (got is n) q d = never-place (sym d ∙ told)
+        go (refused r) q d = header-got (readHeader 0 file) e λ i eh c p k.
+            ap placeRefused d ∙ sym (ap walkStep (whole ∙ step-on _ eh (step-refused _ (step-refused _ (same-patterns (i .content) c p ∙ q)))))
+
+    pub record Tried (next : ℕ) : Type 0 where
+      pub first : Run
+      pub reads : run.Read first ≡ patternsStep (part .start) patterns
+      pub ends : first .next ≡ next
+
+    pub tried : {next : ℕ} → sample.Next next ≡ placeStep (part .start) patterns → Tried next
+    tried {next} d = go patterns refl d
+      where
+        go : (g : Got (List PatternFound)) → patterns ≡ g → sample.Next next ≡ placeStep (part .start) g → Tried next
+        go (got is n) q d = record {
+          first = record { next = part .start + n; samples = 0; pressed = length (each patternFormat .write (each patternFormat .view is)) };
+          reads = sym (ap (patternsStep (part .start)) q);
+          ends = sym (same-place d);
+        }
+        go (refused r) q d = never-place d
 
     module _ {first : Run} (d : run.Read first ≡ patternsStep (part .start) patterns) where
       pub record PatternsTold : Type 0 where

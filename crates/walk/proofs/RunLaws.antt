@@ -21,18 +21,20 @@ use Rattle.xm.proofs.Instrument.{instrument-keeps, instrument-tells}
 use Rattle.refusal.specs.declared.Fault.{Fault}
 use Rattle.cells.specs.Row.{sameBytes}
 use Rattle.steps.specs.Mark.{markBy, Marks}
-use Rattle.steps.specs.Step.{patternStep, instrumentStep}
+use Rattle.steps.specs.Step.{patternStep, placeStep, instrumentStep}
 use Rattle.walk.specs.File.{patternsStep, instrumentsStep, patternRefused, instrumentRefused}
 use Rattle.steps.specs.declared.pattern.PatternPart.{PatternPart}
 use Rattle.steps.specs.declared.pattern.PatternStep.{PatternStep}
 use Rattle.steps.specs.declared.pattern.PatternStep.the-variants as pattern
+use Rattle.steps.specs.declared.sample.PlaceStep.{PlaceStep}
+use Rattle.steps.specs.declared.sample.PlaceStep.the-variants as sample
 use Rattle.steps.specs.declared.instrument.InstrumentPart.{InstrumentPart}
 use Rattle.steps.specs.declared.instrument.InstrumentStep.{InstrumentStep}
 use Rattle.steps.specs.declared.instrument.InstrumentStep.the-variants as instrument
 use Rattle.walk.specs.declared.RunStep.{RunStep}
 use Rattle.walk.specs.declared.RunStep.the-variants as run
 use Rattle.steps.proofs.MarkLaws.{mark-told, marks-more}
-use Rattle.steps.proofs.Walking.{Reached, reached-start, reached-on, reached-out, reached-end}
+use Rattle.steps.proofs.Walking.{next-got, refused-on, Reached, reached-start, reached-on, reached-out, reached-end, reached-place}
 
 -- One more is written behind what is written
 written-more : {H I A : Type 0} (F : Format H I A) (done : List I) (i : I)
@@ -125,6 +127,33 @@ module _ (file : List ℕ) (start channels count : ℕ) where
               inside = omega (arith, w .inside, k .inside, length-drop place file);
               short = omega (arith, w .short, k .short, size);
             }
+
+-- The same, where patterns are only tried
+pub record PatternsTried (file : List ℕ) (start channels count j place : ℕ) : Type 0 where
+  pub reached : Reached patternFormat (replicate count channels) file start (λ done. Unit {0}) j place
+  pub inside : place ≤ length file
+
+module _ (file : List ℕ) (start channels count : ℕ) where
+  pub tried-start : start ≤ length file → PatternsTried file start channels count 0 start
+  tried-start l = record { reached = reached-start patternFormat _ file start (λ done. Unit {0}) tt; inside = l }
+
+  module _ {j place : ℕ} (w : PatternsTried file start channels count j place) where
+    pub tried-end : count ≤ j → sample.Next place ≡ placeStep start (each patternFormat .read (replicate count channels) start (drop start file))
+    tried-end h = reached-place patternFormat _ file start (w .reached) (rw length-replicate h)
+
+    module _ (h : j < count) where
+      pub tried-out : {step : PlaceStep} {f : Fault} → step ≡ placeStep place (readPattern channels place (drop place file)) → step ≡ sample.Refused f
+          → step ≡ placeStep start (each patternFormat .read (replicate count channels) start (drop start file))
+      tried-out e told = refused-on place start _ _ e told λ r er.
+          reached-out patternFormat _ file start (w .reached) channels (rw length-replicate h) (getD-replicate count j channels channels h) er
+
+      pub tried-on : Bytes file → 1 ≤ channels → {next : ℕ} → sample.Next next ≡ placeStep place (readPattern channels place (drop place file)) → PatternsTried file start channels count (j + 1) next
+      tried-on b c e = next-got place _ e λ i n ei q.
+          let k = pattern-keeps channels c .keeps place (drop place file) i n (bytes-drop place b) ei in
+          record {
+            reached = reached-on patternFormat _ file start (w .reached) channels (rw length-replicate h) (getD-replicate count j channels channels h) (λ done. Unit {0}) ei q (λ t. tt);
+            inside = omega (arith, w .inside, k .inside, length-drop place file);
+          }
 
 -- An instrument that was read, and one that was refused
 never-instrument : {A : Type 0} {part : InstrumentPart} {f : Fault} → instrument.Read part ≡ instrument.Refused f → A

@@ -14,6 +14,8 @@ use Rattle.steps.specs.declared.header.HeaderStep.{HeaderStep}
 use Rattle.steps.specs.declared.header.HeaderStep.the-variants as header
 use Rattle.steps.specs.declared.pattern.PatternStep.{PatternStep}
 use Rattle.steps.specs.declared.pattern.PatternStep.the-variants as pattern
+use Rattle.steps.specs.declared.sample.PlaceStep.{PlaceStep}
+use Rattle.steps.specs.declared.sample.PlaceStep.the-variants as sample
 use Rattle.steps.specs.declared.instrument.InstrumentStep.{InstrumentStep}
 use Rattle.steps.specs.declared.instrument.InstrumentStep.the-variants as instrument
 use Rattle.walk.specs.declared.RunStep.{RunStep}
@@ -78,6 +80,10 @@ instrumentRefused (instrument.Refused fault) = run.Refused fault
 abbrev pub headerRefused : HeaderStep → WalkStep
 headerRefused (header.Read part) = walked.Refused (record { number = 0; place = part .start })
 headerRefused (header.Refused fault) = walked.Refused fault
+
+abbrev pub placeRefused : PlaceStep → WalkStep
+placeRefused (sample.Next place) = walked.Refused (record { number = 0; place = place })
+placeRefused (sample.Refused fault) = walked.Refused fault
 
 abbrev pub runRefused : RunStep → WalkStep
 runRefused (run.Read part) = walked.Refused (record { number = 0; place = part .next })

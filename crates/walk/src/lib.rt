@@ -7,6 +7,8 @@ use steps::instrument::read_instrument;
 use steps::pattern::PatternStep;
 use steps::pattern::mark_of;
 use steps::pattern::read_pattern;
+use steps::pattern::scan_pattern;
+use steps::sample::PlaceStep;
 ghost use mathlib.Core.Path.{_≡_};
 ghost use Prim.Native.Nat.{ℕ, _≤_};
 ghost use mathlib.Core.List.{List};
@@ -18,7 +20,11 @@ ghost use Rattle.xm.specs.Instrument.{instrumentFormat};
 ghost use Rattle.xm.specs.Module.{Found, fileMost, readFile};
 ghost use Rattle.xm.specs.Table.{checking};
 ghost use Rattle.steps.specs.Mark.{Marks};
-ghost use Rattle.walk.specs.File.{patternsStep, instrumentsStep, walkStep, verdictOf, patternRefused, instrumentRefused, headerRefused, runRefused, walkRefused};
+ghost use Rattle.steps.specs.Step.{placeStep};
+ghost use Rattle.walk.specs.File.{patternsStep, instrumentsStep, walkStep, verdictOf, patternRefused, instrumentRefused, headerRefused, placeRefused, runRefused, walkRefused};
+
+// "A file is at most 16,777,216 bytes"
+const FILE_MOST: usize = 16777216;
 
 // Structures in a row: where they end, how many samples they have, and the bytes of their pressed forms.
 pub struct Run {
@@ -110,6 +116,26 @@ fn read_patterns(
     })
 }
 
+// `count` patterns, from a place on, that are only tried.
+fn scan_patterns(file: &[u8], at: usize, channels: usize, count: usize) -> PlaceStep
+    requires { ⌜ at ≤ length (now file) ⌝ }
+    requires { ⌜ length (now file) ≤ fileMost ⌝ }
+    requires { ⌜ (1 ≤ channels) × (channels ≤ 64) ⌝ }
+    ensures { λ r. ⌜ r ≡ placeStep at (each patternFormat .read (replicate count channels) at (drop at (now (file .entry)))) ⌝ }
+{
+    let mut place = at;
+    let mut done = 0;
+    while done < count {
+        let step = scan_pattern(file, place, channels);
+        let PlaceStep::Next(next) = step else {
+            return step;
+        };
+        place = next;
+        done += 1;
+    }
+    PlaceStep::Next(place)
+}
+
 // An instrument's refusal, passed on.
 fn refused_instrument(step: InstrumentStep) -> RunStep
     ensures { λ r. ⌜ r ≡ instrumentRefused step ⌝ }
@@ -164,6 +190,19 @@ fn refused_header(step: HeaderStep) -> WalkStep
     }
 }
 
+// The refusal of patterns that were only tried, passed on.
+fn refused_place(step: PlaceStep) -> WalkStep
+    ensures { λ r. ⌜ r ≡ placeRefused step ⌝ }
+{
+    match step {
+        PlaceStep::Next(place) => WalkStep::Refused(Fault {
+            number: 0,
+            place: place,
+        }),
+        PlaceStep::Refused(fault) => WalkStep::Refused(fault),
+    }
+}
+
 // The refusal of structures in a row, passed on.
 fn refused_run(step: RunStep) -> WalkStep
     ensures { λ r. ⌜ r ≡ runRefused step ⌝ }
@@ -183,7 +222,7 @@ pub fn walk(file: &[u8], marks: &mut [u8; 256]) -> WalkStep
     ensures answer { λ r. ⌜ r ≡ walkStep (readFile (now (file .entry))) ⌝ }
     ensures marked { λ _. ⌜ ((found : Found) (end : ℕ) → readFile (now (file .entry)) ≡ got found end → Marks (now (file .entry)) (found .1 .0) (now (marks .exit))) ⌝ }
 {
-    if 16777216 < file.len() {
+    if FILE_MOST < file.len() {
         return WalkStep::Refused(Fault {
             number: 2,
             place: 0,
@@ -224,20 +263,33 @@ fn refused_walk(step: WalkStep) -> Verdict
     }
 }
 
-// The check of a file: its first fault, or its end and counts.
+// The check of a file, in one pass: its first fault, or its end and counts. What only the press wants is not measured.
 pub fn check(file: &[u8]) -> Verdict
     ensures { λ r. ⌜ r ≡ verdictOf (checking (now (file .entry))) ⌝ }
 {
-    let mut marks: [u8; 256] = [0; 256];
-    let step = walk(file, &mut marks);
-    let WalkStep::Accepted(summary) = step else {
-        return refused_walk(step);
+    if FILE_MOST < file.len() {
+        return Verdict::Refused(Fault {
+            number: 2,
+            place: 0,
+        });
+    }
+    let step = read_header(file);
+    let HeaderStep::Read(head) = step else {
+        return refused_walk(refused_header(step));
+    };
+    let first = scan_patterns(file, head.start, head.channels, head.patterns);
+    let PlaceStep::Next(next) = first else {
+        return refused_walk(refused_place(first));
+    };
+    let last = read_instruments(file, next, head.instruments);
+    let RunStep::Read(run) = last else {
+        return refused_walk(refused_run(last));
     };
     Verdict::Accepted(Module {
-        end: summary.end,
-        channels: summary.channels,
-        patterns: summary.patterns,
-        instruments: summary.instruments,
-        samples: summary.samples,
+        end: run.next,
+        channels: head.channels,
+        patterns: head.patterns,
+        instruments: head.instruments,
+        samples: run.samples,
     })
 }

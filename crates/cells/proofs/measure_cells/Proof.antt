@@ -6,7 +6,6 @@ use mathlib.Core.Logic.{⊎-elim}
 use mathlib.Core.Path.{sym, ap, _∙_}
 use native.Mathlib.Omega.{arith}
 use borrow.Author.Tests.{leb-true}
-use lib.Count.{ones, onesIn}
 use lib.ListN.{length, drop}
 use denote.Ref.{now}
 use Rattle.xm.specs.Cell.{lengthBy, cellAt}
@@ -16,17 +15,16 @@ use Rattle.cells.specs.Row.{readRow, measuredOf}
 use Rattle.cells.specs.Inside.{shortestBy}
 use Rattle.cells.proofs.Short.{shortest-by, short-by, kept-most}
 use Rattle.cells.proofs.Row.{measure-all, Measuring}
-use Rattle.cells.proofs.Wide.{ones-table}
-use Rattle.cells.proofs.Run.{Ready, ready-stay, ready-run, ready-cell, ready-note}
+use Rattle.cells.proofs.Run.{run-at, Ready, ready-stay, ready-run, ready-cell, ready-note}
 use borrow.Author.Needs.{needs}
 use Rattle.cells.proofs.measure_cells.Statement.{statement}
 use Rattle.cells.proofs.measure_cells.Tie as tie
 
 abbrev Inv-loop : tie.InvT-loop
-Inv-loop stored count table used₀ shortest₀ same₀ left₀ used shortest same left = Measuring stored (measuredOf stored (readRow count 0 stored)) used shortest same left
+Inv-loop stored count used₀ shortest₀ same₀ left₀ used shortest same left = Measuring stored (measuredOf stored (readRow count 0 stored)) used shortest same left
 
 abbrev μ-loop : tie.MeasureT-loop
-μ-loop stored count table used₀ shortest₀ same₀ left₀ used shortest same left = left
+μ-loop stored count used₀ shortest₀ same₀ left₀ used shortest same left = left
 
 ready : (j : tie.Joined2 Inv-loop μ-loop) → Ready (now (j .before .before .before .before .before .before .args .stored)) (measuredOf (now (j .before .before .before .before .before .before .args .stored)) (readRow (j .before .before .before .before .before .before .args .count) 0 (now (j .before .before .before .before .before .before .args .stored))))
     (j .if2 .used) (j .if2 .shortest) (j .before .before .before .before .loop .same) (j .if2 .left) (j .before .before .before .before .loop .left)
@@ -34,17 +32,20 @@ ready j =
     let l = j .before .before .before .before .loop in
     let many : 9 ≤ l .left = omega arith in
     let wide : 16 ≤ length (now (j .before .before .before .before .before .before .args .stored)) - l .used = omega (arith, leb-true) in
-    ⊎-elim (λ w. ready-run (l .inv) many wide (w .1 .result) (w .1 .ensures) (w .2) (w .3) (w .4)) (λ w. ready-stay (l .inv) many wide (w .1) (w .2) (w .3)) (j .if2 .came)
+    ⊎-elim (λ w.
+    ready-run (l .inv) many wide (w .2 .result)
+    (run-at (now (j .before .before .before .before .before .before .args .stored)) (l .used) (w .1 .result) (w .2 .result) (λ i. omega (arith, j .before .before .before .before .before .shared-slice-known .given i)) (w .1 .ensures) (w .2 .ensures)) (w .3)
+    (w .4) (w .5)) (λ w. ready-stay (l .inv) many wide (w .1) (w .2) (w .3)) (j .if2 .came)
 
-turn : (c : tie.After-row-known2 Inv-loop μ-loop) → Measuring (now (c .before .before .before .before .before .before .before .before .before .before .before .before .before .before .before .before .before .args .stored)) (measuredOf (now (c .before .before .before .before .before .before .before .before .before .before .before .before .before .before .before .before .before .args .stored)) (readRow (c .before .before .before .before .before .before .before .before .before .before .before .before .before .before .before .before .before .args .count) 0 (now (c .before .before .before .before .before .before .before .before .before .before .before .before .before .before .before .before .before .args .stored))))
-    (c .before .before .before .before .before .before .before .before .before .before .before .if2 .used + c .before .before .before .before .length-by .result) (c .before .before .before .before .before .before .before .before .before .before .before .if2 .shortest + c .before .shortest-by .result) (c .before .before .still-same .result) (c .before .before .before .before .before .before .before .before .before .before .before .if2 .left - 1)
+turn : (c : tie.After-row-known2 Inv-loop μ-loop) → Measuring (now (c .before .before .before .before .before .before .before .before .before .before .before .before .before .before .before .before .args .stored)) (measuredOf (now (c .before .before .before .before .before .before .before .before .before .before .before .before .before .before .before .before .args .stored)) (readRow (c .before .before .before .before .before .before .before .before .before .before .before .before .before .before .before .before .args .count) 0 (now (c .before .before .before .before .before .before .before .before .before .before .before .before .before .before .before .before .args .stored))))
+    (c .before .before .before .before .before .before .before .before .before .before .if2 .used + c .before .before .before .before .length-by .result) (c .before .before .before .before .before .before .before .before .before .before .if2 .shortest + c .before .shortest-by .result) (c .before .before .still-same .result) (c .before .before .before .before .before .before .before .before .before .before .if2 .left - 1)
 turn c =
-    let j = c .before .before .before .before .before .before .before .before .before .before .before in
+    let j = c .before .before .before .before .before .before .before .before .before .before in
     let used = j .if2 .used in
     let s = now (j .before .before .before .before .before .before .args .stored) in
     let length = c .before .before .before .before .length-by .ensures in
     let kept = c .before .before .before .kept-at .ensures in
-    ready-cell (ready j) (omega (arith, c .before .before .before .before .before .before .before .note-by .ensures)) length
+    ready-cell (ready j) (omega (arith, c .before .before .before .before .before .before .note-by .ensures)) length
     (c .before .shortest-by .ensures ∙ ap shortestBy kept ∙ shortest-by (cellAt (drop used s)) (cell-length (drop used s)))
     (c .before .before .still-same .ensures ∙ ap (λ (b : Bool). j .before .before .before .before .loop .same && b) (short-by (drop used s) _ _ _ (sym (head-at used s 0)) (length ∙ ap lengthBy (sym (head-at used s 0))) kept))
 
@@ -57,14 +58,17 @@ sub-if1 c = omega arith
 shared-slice-read-if2 : tie.Need-shared-slice-read-if2 Inv-loop μ-loop
 shared-slice-read-if2 c = omega (arith, leb-true)
 
+word-requires : tie.Need-word-requires Inv-loop μ-loop
+word-requires c κs = omega (arith, leb-true)
+
 empty-run-requires : tie.Need-empty-run-requires Inv-loop μ-loop
-empty-run-requires c κs = omega (arith, leb-true)
+empty-run-requires c κs = search needs
 
 add-used : tie.Need-add-used Inv-loop μ-loop
 add-used c = omega (arith, leb-true, c .empty-run .ensures .few)
 
 add-shortest : tie.Need-add-shortest Inv-loop μ-loop
-add-shortest c = omega (arith, leb-true, c .empty-run .ensures .few, c .before .before .before .before .before .loop .inv .small)
+add-shortest c = omega (arith, leb-true, c .empty-run .ensures .few, c .before .before .before .before .before .before .loop .inv .small)
 
 sub-left : tie.Need-sub-left Inv-loop μ-loop
 sub-left c = omega (arith, c .empty-run .ensures .few)
@@ -85,15 +89,14 @@ returns : tie.Need-returns Inv-loop μ-loop
 returns c = ready-note (ready (c .before .before .before .before .before)) (omega (arith, c .before .note-by .ensures))
 
 length-by-requires : tie.Need-length-by-requires Inv-loop μ-loop
-unfolding ones onesIn
-length-by-requires c κs = ones-table
+length-by-requires c κs = search needs
 
 kept-at-requires : tie.Need-kept-at-requires Inv-loop μ-loop
-kept-at-requires c κs = (omega (arith, ready (c .before .before .before .before .before .before .before) .wide), c .length-by .ensures)
+kept-at-requires c κs = (omega (arith, ready (c .before .before .before .before .before .before) .wide), c .length-by .ensures)
 
 still-same-requires : tie.Need-still-same-requires Inv-loop μ-loop
 still-same-requires c κs =
-    let j = c .before .before .before .before .before .before .before .before in
+    let j = c .before .before .before .before .before .before .before in
     omega (arith, c .kept-at .ensures, kept-most (drop (j .if2 .used) (now (j .before .before .before .before .before .before .args .stored))))
 
 shortest-by-requires : tie.Need-shortest-by-requires Inv-loop μ-loop
@@ -106,10 +109,10 @@ add-used-2 : tie.Need-add-used-2 Inv-loop μ-loop
 add-used-2 c = let m = turn c in omega (arith, m .inside)
 
 sub-left-2 : tie.Need-sub-left-2 Inv-loop μ-loop
-sub-left-2 c = omega (arith, ready (c .before .before .before .before .before .before .before .before .before .before .before .before) .some)
+sub-left-2 c = omega (arith, ready (c .before .before .before .before .before .before .before .before .before .before .before) .some)
 
 loop-less : tie.Need-loop-less Inv-loop μ-loop
-loop-less c = let r = ready (c .before .before .before .before .before .before .before .before .before .before .before .before) in omega (arith, r .some, r .fewer)
+loop-less c = let r = ready (c .before .before .before .before .before .before .before .before .before .before .before) in omega (arith, r .some, r .fewer)
 
 loop-again : tie.Need-loop-again Inv-loop μ-loop
 loop-again c = turn (c .before)
@@ -129,6 +132,7 @@ measure-cells-spec =
     loop-holds
     sub-if1
     shared-slice-read-if2
+    word-requires
     empty-run-requires
     add-used
     add-shortest

@@ -10,7 +10,7 @@ use borrow.Author.Tests.{not-true, not-false}
 use Rattle.xm.specs.Answer.{inFront}
 use Rattle.xm.proofs.Got.{no-true}
 use Rattle.xm.proofs.Packing.{UnpackRange, unpack-argument, unpack-cells, unpack-room, unpack-gives}
-use Rattle.cells.specs.Inside.{refusedStored, unpackTests}
+use Rattle.cells.specs.Inside.{unpackTests}
 use Rattle.cells.proofs.Unpacking.{pass-holds, holds-pass, found-of, fault-of, bytes-none, fine-some, bytes-some, bytes-long, rows-most, answers-refusal, answers-pattern}
 use borrow.Author.Needs.{needs}
 use Rattle.cells.proofs.unpack.Statement.{statement}
@@ -31,8 +31,8 @@ returns c =
     (unpack-argument (a .rows) (a .channels) d (length lent)
     (λ h. no-true (sym (not-true _ (c .if1 .taken)) ∙ c .before .in-range .ensures ∙ holds-pass (unpackTests (a .rows) (a .channels) (length d)) h))) refl
 
-read-stored-requires : tie.Need-read-stored-requires
-read-stored-requires c κs = let h = range c in (h .0, (h .1 .0, tt))
+scan-stored-requires : tie.Need-scan-stored-requires
+scan-stored-requires c κs = let h = range c in (h .0, (h .1 .0, tt))
 
 enum-known-step : tie.Need-enum-known-step
 enum-known-step c = search needs
@@ -40,25 +40,22 @@ enum-known-step c = search needs
 enum-told : tie.Need-enum-told
 enum-told c = search needs
 
-refused-stored-requires : tie.Need-refused-stored-requires
-refused-stored-requires c κs = search needs
-
 returns-2 : tie.Need-returns-2
 returns-2 c =
-    let a = c .before .before .before .before .before .before .before .before .args in
+    let a = c .before .before .before .before .before .before .before .args in
     let d = now (a .stored) in
     let lent = now (a .cells) in
-    let told = c .before .enum-told .given .1 in
-    let f = fault-of (a .channels) (a .rows) d _ (sym told ∙ c .before .before .before .read-stored .ensures) in
-    let x = answers-refusal (a .rows) (a .channels) d lent (unpack-cells (a .rows) (a .channels) d (length lent) (range (c .before .before .before .before)) (f .1 .0)) (f .1 .1) in
-    (c .refused-stored .ensures ∙ ap refusedStored told ∙ x .0, x .1)
+    let told = c .enum-told .given .1 in
+    let f = fault-of (a .channels) (a .rows) d _ (sym told ∙ c .before .before .scan-stored .ensures) in
+    let x = answers-refusal (a .rows) (a .channels) d lent (unpack-cells (a .rows) (a .channels) d (length lent) (range (c .before .before .before)) (f .1 .0)) (f .1 .1) in
+    (told ∙ x .0, x .1)
 
 mul-count : tie.Need-mul-count
 mul-count c =
     let a = c .before .before .before .before .before .before .before .before .args in
     let d = now (a .stored) in
     let lent = now (a .cells) in
-    let f = found-of (a .channels) (a .rows) d _ (sym (c .before .step .given .1) ∙ c .before .before .before .read-stored .ensures) in
+    let f = found-of (a .channels) (a .rows) d _ (sym (c .before .step .given .1) ∙ c .before .before .before .scan-stored .ensures) in
     omega (arith, mul-le-mul (rows-most f (range (c .before .before .before .before) .0 .1)) (range (c .before .before .before .before) .1 .0 .1))
 
 mul-if2 : tie.Need-mul-if2
@@ -66,7 +63,7 @@ mul-if2 c =
     let a = c .before .before .before .before .before .before .before .before .args in
     let d = now (a .stored) in
     let lent = now (a .cells) in
-    let f = found-of (a .channels) (a .rows) d _ (sym (c .before .step .given .1) ∙ c .before .before .before .read-stored .ensures) in
+    let f = found-of (a .channels) (a .rows) d _ (sym (c .before .step .given .1) ∙ c .before .before .before .scan-stored .ensures) in
     omega (arith, mul-le-mul (rows-most f (range (c .before .before .before .before) .0 .1)) (range (c .before .before .before .before) .1 .0 .1))
 
 returns-3 : tie.Need-returns-3
@@ -74,7 +71,7 @@ returns-3 c =
     let a = c .before .before .before .before .before .before .before .before .before .args in
     let d = now (a .stored) in
     let lent = now (a .cells) in
-    let f = found-of (a .channels) (a .rows) d _ (sym (c .before .before .step .given .1) ∙ c .before .before .before .before .read-stored .ensures) in
+    let f = found-of (a .channels) (a .rows) d _ (sym (c .before .before .step .given .1) ∙ c .before .before .before .before .scan-stored .ensures) in
     answers-refusal (a .rows) (a .channels) d lent
     (unpack-room (a .rows) (a .channels) d (length lent) (range (c .before .before .before .before .before)) (f .reads) (omega (arith, bytes-long f, c .if2 .taken))) refl
 
@@ -89,7 +86,7 @@ fill-cells-requires c κs =
     let a = c .before .before .before .before .before .before .before .before .before .before .before .args in
     let d = now (a .stored) in
     let lent = now (a .cells) in
-    let f = found-of (a .channels) (a .rows) d _ (sym (c .before .before .before .before .step .given .1) ∙ c .before .before .before .before .before .before .read-stored .ensures) in
+    let f = found-of (a .channels) (a .rows) d _ (sym (c .before .before .before .before .step .given .1) ∙ c .before .before .before .before .before .before .scan-stored .ensures) in
     (fine-some f (omega (arith, c .before .if3 .left)), omega arith)
 
 same-length : tie.Need-same-length
@@ -100,7 +97,7 @@ returns-4 c =
     let a = c .before .before .before .before .before .before .before .before .before .before .before .before .before .before .args in
     let d = now (a .stored) in
     let lent = now (a .cells) in
-    let f = found-of (a .channels) (a .rows) d _ (sym (c .before .before .before .before .before .before .before .step .given .1) ∙ c .before .before .before .before .before .before .before .before .before .read-stored .ensures) in
+    let f = found-of (a .channels) (a .rows) d _ (sym (c .before .before .before .before .before .before .before .step .given .1) ∙ c .before .before .before .before .before .before .before .before .before .scan-stored .ensures) in
     let w = bytes-none f (c .before .before .before .before .if3 .taken) in
     answers-pattern (a .rows) (a .channels) d lent
     (unpack-gives (a .rows) (a .channels) d (length lent) (range (c .before .before .before .before .before .before .before .before .before .before)) (f .reads) (omega (arith, bytes-long f, c .before .before .before .before .before .if2 .left))) (omega (arith, f .same))
@@ -114,7 +111,7 @@ returns-5 c =
     let a = c .before .before .before .before .before .before .before .before .before .before .before .before .before .before .args in
     let d = now (a .stored) in
     let lent = now (a .cells) in
-    let f = found-of (a .channels) (a .rows) d _ (sym (c .before .before .before .before .before .before .before .step .given .1) ∙ c .before .before .before .before .before .before .before .before .before .read-stored .ensures) in
+    let f = found-of (a .channels) (a .rows) d _ (sym (c .before .before .before .before .before .before .before .step .given .1) ∙ c .before .before .before .before .before .before .before .before .before .scan-stored .ensures) in
     let w = bytes-some f (omega (arith, c .before .before .before .before .if3 .left)) in
     answers-pattern (a .rows) (a .channels) d lent
     (unpack-gives (a .rows) (a .channels) d (length lent) (range (c .before .before .before .before .before .before .before .before .before .before)) (f .reads) (omega (arith, bytes-long f, c .before .before .before .before .before .if2 .left))) (omega (arith, f .same))
@@ -126,10 +123,9 @@ unpack-spec =
     (tie.spec
     in-range-requires
     returns
-    read-stored-requires
+    scan-stored-requires
     enum-known-step
     enum-told
-    refused-stored-requires
     returns-2
     mul-count
     mul-if2

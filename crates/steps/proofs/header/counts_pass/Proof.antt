@@ -1,4 +1,4 @@
--- `walk::header::counts_pass` meets its contract: each range fails or holds as its branch says. Assumes nothing.
+-- `steps::header::counts_pass` meets its contract: each range fails or holds as its branch says. Assumes nothing.
 use mathlib.Core.Path.{sym}
 use native.Mathlib.Omega.{arith}
 use Rattle.steps.proofs.Tests.{all-pass, not-all-pass}

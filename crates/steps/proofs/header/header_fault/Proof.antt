@@ -1,4 +1,4 @@
--- `walk::header::header_fault` meets its contract: each return is the first test that fails, and the last is that all hold. Assumes nothing.
+-- `steps::header::header_fault` meets its contract: each return is the first test that fails, and the last is that all hold. Assumes nothing.
 use mathlib.Core.Path.{refl, sym, _∙_}
 use native.Mathlib.Omega.{arith}
 use borrow.Author.Tests.{not-true, not-false}

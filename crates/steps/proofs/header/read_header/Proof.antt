@@ -1,4 +1,4 @@
--- `walk::header::read_header` meets its contract: a test's refusal, or the header's counts and end. Assumes nothing.
+-- `steps::header::read_header` meets its contract: a test's refusal, or the header's counts and end. Assumes nothing.
 use native.Mathlib.Omega.{arith}
 use Rattle.xm.specs.Got.{AllHold}
 use Rattle.xm.specs.Header.{headerTests}

@@ -1,4 +1,4 @@
--- `walk::instrument::instrument_fault` meets its contract: each return is the first test that fails, or that all hold. Assumes nothing.
+-- `steps::instrument::instrument_fault` meets its contract: each return is the first test that fails, or that all hold. Assumes nothing.
 use Prim.Native.Nat.{ℕ, _*_}
 use mathlib.Core.Path.{refl, sym, ap₂}
 use native.Mathlib.Nat.{mul-le-mul-right}

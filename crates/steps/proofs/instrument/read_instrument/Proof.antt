@@ -1,4 +1,4 @@
--- `walk::instrument::read_instrument` meets its contract: a test's refusal, no samples, or what the samples come to. Assumes nothing.
+-- `steps::instrument::read_instrument` meets its contract: a test's refusal, no samples, or what the samples come to. Assumes nothing.
 use Prim.Native.Nat.{ℕ, _*_}
 use mathlib.Core.Path.{ap₂, _∙_}
 use native.Mathlib.Omega.{arith}

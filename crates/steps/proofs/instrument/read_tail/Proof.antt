@@ -1,4 +1,4 @@
--- `walk::instrument::read_tail` meets its contract: the samples' refusal, or what they come to. Assumes nothing.
+-- `steps::instrument::read_tail` meets its contract: the samples' refusal, or what they come to. Assumes nothing.
 use mathlib.Core.Path.{sym, _∙_}
 use native.Mathlib.Omega.{arith}
 use Rattle.steps.proofs.InstrumentLaws.{tail-out, tail-heads, tail-inside, tail-read}

@@ -1,4 +1,4 @@
--- `walk::instrument::refused_samples` meets its contract. Assumes nothing.
+-- `steps::instrument::refused_samples` meets its contract. Assumes nothing.
 use mathlib.Core.Path.{sym, ap}
 use Rattle.steps.specs.Step.{samplesRefused}
 use borrow.Author.Needs.{needs}

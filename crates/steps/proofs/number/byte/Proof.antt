@@ -1,4 +1,4 @@
--- `walk::number::byte` meets its contract. Assumes nothing.
+-- `steps::number::byte` meets its contract. Assumes nothing.
 use mathlib.Core.Path.{sym}
 use native.Mathlib.Omega.{arith}
 use Prim.Native.Nat.{_+_}

@@ -1,4 +1,4 @@
--- `walk::number::long` meets its contract. Assumes nothing.
+-- `steps::number::long` meets its contract. Assumes nothing.
 use Rattle.steps.proofs.NumberLaws.{long-words}
 use borrow.Author.Needs.{needs}
 use Rattle.steps.proofs.number.long.Statement.{statement}

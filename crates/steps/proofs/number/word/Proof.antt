@@ -1,4 +1,4 @@
--- `walk::number::word` meets its contract. Assumes nothing.
+-- `steps::number::word` meets its contract. Assumes nothing.
 use Rattle.xm.specs.Number.{wordAt}
 use borrow.Author.Needs.{needs}
 use Rattle.steps.proofs.number.word.Statement.{statement}

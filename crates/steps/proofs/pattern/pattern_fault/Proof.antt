@@ -1,4 +1,4 @@
--- `walk::pattern::pattern_fault` meets its contract: each return is the first test that fails, and the last is that all hold. Assumes nothing.
+-- `steps::pattern::pattern_fault` meets its contract: each return is the first test that fails, and the last is that all hold. Assumes nothing.
 use mathlib.Core.Path.{refl, sym}
 use native.Mathlib.Omega.{arith}
 use lib.ListN.{length-drop}

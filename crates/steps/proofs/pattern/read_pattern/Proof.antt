@@ -1,5 +1,4 @@
--- `walk::pattern::read_pattern` meets its contract: a test's refusal, that of the stored cells, or the pattern. Assumes nothing.
-use Prim.Native.Nat.{_+_}
+-- `steps::pattern::read_pattern` meets its contract: a test's refusal, that of the stored cells, or the pattern. Assumes nothing.
 use mathlib.Core.Path.{_∙_}
 use native.Mathlib.Omega.{arith}
 use lib.ListN.{drop, length-drop}
@@ -24,26 +23,14 @@ pattern-fault-requires c κs = search needs
 returns : tie.Need-returns
 returns c = pattern-refused _ _ _ (c .before .pattern-fault .ensures) (c .if1 .taken)
 
-long-requires : tie.Need-long-requires
-long-requires c κs =
-    let a = c .before .before .before .args in
-    let h = held c in omega (arith, length-drop (a .at) (a .file .now))
-
-add-place : tie.Need-add-place
-add-place c = search needs
-
-word-requires : tie.Need-word-requires
-word-requires c κs =
-    let a = c .before .before .before .before .args in
-    let h = held (c .before) in omega (arith, length-drop (a .at) (a .file .now))
-
-word-requires-2 : tie.Need-word-requires-2
-word-requires-2 c κs =
-    let a = c .before .before .before .before .before .args in
-    let h = held (c .before .before) in omega (arith, length-drop (a .at) (a .file .now))
+pattern-head-requires : tie.Need-pattern-head-requires
+pattern-head-requires c κs = (c .before .before .before .pre .1 .0, held c)
 
 add-next : tie.Need-add-next
-add-next c = search needs
+add-next c =
+    let a = c .before .before .before .before .before .args in
+    let head = c .before .pattern-head .ensures in
+    let h = held (c .before .before) in omega (arith, head .place, head .size, length-drop (a .at) (a .file .now))
 
 sub-read-stored : tie.Need-sub-read-stored
 sub-read-stored c = search needs
@@ -53,11 +40,12 @@ part-read-stored-start c = search needs
 
 part-read-stored-end : tie.Need-part-read-stored-end
 part-read-stored-end c =
-    let a = c .before .before .before .before .before .before .args in
-    let h = held (c .before .before .before) in omega (arith, length-drop (a .at) (a .file .now))
+    let a = c .before .before .before .before .before .args in
+    let head = c .before .pattern-head .ensures in
+    let h = held (c .before .before) in omega (arith, head .place, head .size, length-drop (a .at) (a .file .now))
 
 read-stored-requires : tie.Need-read-stored-requires
-read-stored-requires c κs = let h = held (c .before .before .before .before) in omega arith
+read-stored-requires c κs = let h = held (c .before .before .before) in omega (arith, c .before .before .pattern-head .ensures .rows)
 
 enum-known-step : tie.Need-enum-known-step
 enum-known-step c = search needs
@@ -67,25 +55,27 @@ enum-told c = search needs
 
 refused-stored-requires : tie.Need-refused-stored-requires
 refused-stored-requires c κs =
-    let t = c .before .before .before .before .before .before .before in
+    let t = c .before .before .before .before .before .before in
     let a = t .before .before .before .args in
+    let head = c .before .before .before .before .before .pattern-head in
     let h = held t in (
-      omega (arith, length-drop (a .at) (a .file .now)),
-      stored-place (a .file .now) (a .at + c .before .before .before .before .before .before .long .result) (c .before .before .before .before .word2 .result) (c .before .before .before .before .word2 .ensures .small) (plain t) (a .channels) (c .before .before .before .before .before .word .result) (c .before .before .read-stored .ensures),
+      omega (arith, head .ensures .place, length-drop (a .at) (a .file .now)),
+      stored-place (a .file .now) (head .result .place) (head .result .size) (head .ensures .small) (plain t) (a .channels) (head .result .rows) (c .before .before .read-stored .ensures),
     )
 
 returns-2 : tie.Need-returns-2
 returns-2 c =
-    let t = c .before .before .before .before .before .before .before .before in
+    let t = c .before .before .before .before .before .before .before in
     let a = t .before .before .before .args in
-    c .refused-stored .ensures
-    ∙ pattern-out (a .file .now) (a .at) (a .channels) (held t) (c .before .before .before .before .before .before .before .long .ensures .value) (c .before .before .before .before .before .before .word .ensures .value) (c .before .before .before .before .before .word2 .ensures .value) (c .before .before .before .read-stored .ensures) (c .before .enum-told .given .1)
+    let head = c .before .before .before .before .before .before .pattern-head .ensures in
+    c .refused-stored .ensures ∙ pattern-out (a .file .now) (a .at) (a .channels) (held t) (head .place) (head .rows) (head .size) (c .before .before .before .read-stored .ensures) (c .before .enum-told .given .1)
 
 returns-3 : tie.Need-returns-3
 returns-3 c =
-    let t = c .before .before .before .before .before .before .before .before in
+    let t = c .before .before .before .before .before .before .before in
     let a = t .before .before .before .args in
-    pattern-read (a .file .now) (a .at) (a .channels) (held t) (c .before .before .before .before .before .before .before .long .ensures .value) (c .before .before .before .before .before .before .word .ensures .value) (c .before .before .before .before .before .word2 .ensures .value) (c .before .before .before .read-stored .ensures) (c .before .step .given .1)
+    let head = c .before .before .before .before .before .before .pattern-head .ensures in
+    pattern-read (a .file .now) (a .at) (a .channels) (held t) (head .place) (head .rows) (head .size) (c .before .before .before .read-stored .ensures) (c .before .step .given .1)
 
 pub read-pattern-spec : {M : Type 1} → statement M
 read-pattern-spec =
@@ -93,10 +83,7 @@ read-pattern-spec =
     (tie.spec
     pattern-fault-requires
     returns
-    long-requires
-    add-place
-    word-requires
-    word-requires-2
+    pattern-head-requires
     add-next
     sub-read-stored
     part-read-stored-start

@@ -1,4 +1,4 @@
--- `walk::pattern::refused_stored` meets its contract. Assumes nothing.
+-- `steps::pattern::refused_stored` meets its contract. Assumes nothing.
 use mathlib.Core.Path.{sym, ap}
 use native.Mathlib.Omega.{arith}
 use Rattle.steps.specs.Step.{storedFault, storedRefused}

@@ -1,4 +1,4 @@
--- `walk::sample::head_fault` meets its contract: each return is the first test that fails, and the last is that all hold. Assumes nothing.
+-- `steps::sample::head_fault` meets its contract: each return is the first test that fails, and the last is that all hold. Assumes nothing.
 use mathlib.Core.Path.{sym}
 use native.Mathlib.Omega.{arith}
 use Rattle.steps.specs.Sample.{wideTest, loopTest}

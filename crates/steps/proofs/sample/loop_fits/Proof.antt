@@ -1,4 +1,4 @@
--- `walk::sample::loop_fits` meets its contract: a sample that does not loop passes, and one that loops by where its loop ends. Assumes nothing.
+-- `steps::sample::loop_fits` meets its contract: a sample that does not loop passes, and one that loops by where its loop ends. Assumes nothing.
 use mathlib.Core.Bool.{true, _&&_, not, and-false}
 use mathlib.Core.Path.{_≡_, sym}
 use Prim.Native.Nat.{_%_}

@@ -1,4 +1,4 @@
--- `walk::sample::read_all_data` meets its contract. The loop's invariant: the data of so many samples are read, and the next header is known.
+-- `steps::sample::read_all_data` meets its contract. The loop's invariant: the data of so many samples are read, and the next header is known.
 -- Assumes nothing.
 use Prim.Native.Nat.{_-_}
 use mathlib.Core.Path.{sym, _∙_}

@@ -1,4 +1,4 @@
--- `walk::sample::read_data` meets its contract. Assumes nothing.
+-- `steps::sample::read_data` meets its contract. Assumes nothing.
 use native.Mathlib.Omega.{arith}
 use Rattle.steps.proofs.SampleLaws.{data-cut, data-there}
 use borrow.Author.Needs.{needs}

@@ -1,4 +1,4 @@
--- `walk::sample::read_head` meets its contract. Assumes nothing.
+-- `steps::sample::read_head` meets its contract. Assumes nothing.
 use Rattle.steps.proofs.SampleLaws.{head-refused, head-passed}
 use borrow.Author.Needs.{needs}
 use Rattle.steps.proofs.sample.read_head.Statement.{statement}

@@ -1,4 +1,4 @@
--- `walk::sample::read_heads` meets its contract. The loop's invariant: so many headers are read, and the place stands behind them. Assumes nothing.
+-- `steps::sample::read_heads` meets its contract. The loop's invariant: so many headers are read, and the place stands behind them. Assumes nothing.
 use Prim.Native.Nat.{_-_}
 use mathlib.Core.Path.{sym, _∙_}
 use native.Mathlib.Omega.{arith}

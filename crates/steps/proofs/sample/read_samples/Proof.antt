@@ -1,4 +1,4 @@
--- `walk::sample::read_samples` meets its contract: the headers' refusal, or the answer over the data. Assumes nothing.
+-- `steps::sample::read_samples` meets its contract: the headers' refusal, or the answer over the data. Assumes nothing.
 use mathlib.Core.Path.{sym, _∙_}
 use native.Mathlib.Omega.{arith}
 use Rattle.steps.proofs.SampleLaws.{samples-out, samples-on, samples-inside}

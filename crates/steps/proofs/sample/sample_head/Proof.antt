@@ -1,4 +1,4 @@
--- `walk::sample::sample_head` meets its contract: each field is the number at its offset. Assumes nothing.
+-- `steps::sample::sample_head` meets its contract: each field is the number at its offset. Assumes nothing.
 use mathlib.Core.Path.{_∙_}
 use mir.Syntax.{w8}
 use mir.Facts.{toZ-ofZ}

@@ -1,4 +1,4 @@
--- `walk::sample::signed_byte` meets its contract: the laws of a byte's two halves. Assumes nothing.
+-- `steps::sample::signed_byte` meets its contract: the laws of a byte's two halves. Assumes nothing.
 use native.Mathlib.Omega.{arith}
 use Rattle.steps.proofs.Sign.{lower-half, upper-fits, upper-half}
 use borrow.Author.Needs.{needs}

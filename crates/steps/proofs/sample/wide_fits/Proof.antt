@@ -1,4 +1,4 @@
--- `walk::sample::wide_fits` meets its contract. Assumes nothing.
+-- `steps::sample::wide_fits` meets its contract. Assumes nothing.
 use borrow.Author.Tests.{eq-eqb, ne-eqb}
 use Rattle.steps.proofs.sample.wide_fits.Statement.{statement}
 use Rattle.steps.proofs.sample.wide_fits.Tie as tie
