@@ -30,10 +30,9 @@ use Rattle.steps.specs.declared.sample.PlaceStep.the-variants as sample
 use Rattle.steps.proofs.Tests.{RefuseAt, fault-holds, fault-refuses}
 use Rattle.steps.proofs.Shift.{shifted, stored-shifted}
 
-part-path : {place place′ size size′ rows rows′ shortest shortest′ next next′ : ℕ} {same same′ : Bool} → place ≡ place′ → size ≡ size′ → rows ≡ rows′ → shortest ≡ shortest′ → same ≡ same′ → next ≡ next′
-    → _≡_ {A = PatternStep} (Read (record { place = place; size = size; rows = rows; shortest = shortest; same = same; next = next }))
-    (Read (record { place = place′; size = size′; rows = rows′; shortest = shortest′; same = same′; next = next′ }))
-part-path p q r t u v = cc
+part-path : {shortest shortest′ next next′ : ℕ} {same same′ : Bool} → shortest ≡ shortest′ → same ≡ same′ → next ≡ next′
+    → _≡_ {A = PatternStep} (Read (record { shortest = shortest; same = same; next = next })) (Read (record { shortest = shortest′; same = same′; next = next′ }))
+part-path t u v = cc
 
 -- Stored cells as the code cuts them out, and a refusal of theirs: its place is inside them, or at their end
 module _ (file : List ℕ) (base size : ℕ) (small : size < 65536) where
@@ -109,11 +108,11 @@ module _ (file : List ℕ) (place : ℕ) where
     by-refusal (refused r) e told = sym (ap (patternStep file place) (pass (patternTests place from) h (step-refused _ (shifts ∙ ap (shifted (place + L)) e))))
 
     by-pattern : (g : Got Pattern) {size : StoredSize} → readStored channels rows 0 d ≡ g → storedOf d g ≡ stored.Read size
-        → Read (record { place = place + L; size = S; rows = size .rows; shortest = size .shortest; same = size .same; next = place + L + S }) ≡ patternStep file place (readPattern channels place from)
+        → Read (record { shortest = size .shortest; same = size .same; next = place + L + S }) ≡ patternStep file place (readPattern channels place from)
     unfolding readPattern shifted
     by-pattern (got p n) {size} e told =
         let z = same-read told in
-        part-path refl refl (ap StoredSize.rows (sym z)) (ap StoredSize.shortest (sym z))
+        part-path (ap StoredSize.shortest (sym z))
         (ap StoredSize.same (sym z) ∙ ap (λ (l : List ℕ). sameBytes (take S l) (writeStored p)) (drop-drop L place file)) (add-assoc place L S)
         ∙ sym (ap (patternStep file place) (pass (patternTests place from) h (step _ (shifts ∙ ap (shifted (place + L)) e) refl)))
     by-pattern (refused r) e told = never-both (sym told)
@@ -145,7 +144,7 @@ module _ (file : List ℕ) (place : ℕ) where
         pattern-out told = ap₂ storedRefused p same-step ∙ by-refusal _ refl (sym same-step ∙ told)
 
         pub pattern-read : {z : StoredSize} → step ≡ stored.Read z
-            → Read (record { place = base; size = size; rows = z .rows; shortest = z .shortest; same = z .same; next = base + size }) ≡ patternStep file place (readPattern channels place from)
+            → Read (record { shortest = z .shortest; same = z .same; next = base + size }) ≡ patternStep file place (readPattern channels place from)
         pattern-read told = rw (p, r) (by-pattern _ refl (sym same-step ∙ told))
 
       module _ {step : Unpacked} (e : step ≡ rowsOf (readStored channels row 0 cut)) where

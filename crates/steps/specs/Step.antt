@@ -39,9 +39,6 @@ headerStep (refused r) = header.Refused (faultOf r)
 -- A pattern at a place of the file.
 abbrev pub patternStep : (file : List ℕ) (place : ℕ) → Got PatternFound → PatternStep
 patternStep file place (got i used) = pattern.Read (record {
-  place = i .dataPlace;
-  size = i .dataSize;
-  rows = i .content .rows;
   shortest = length (writeStored (i .content));
   same = sameBytes (part (i .dataPlace) (i .dataSize) file) (writeStored (i .content));
   next = place + used;

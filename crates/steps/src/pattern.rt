@@ -22,12 +22,8 @@ pub const COPIED: u8 = 1;
 
 pub const NOTHING: u8 = 2;
 
-// A pattern's data place and S, the rows it reads as, the bytes of its shortest stored form and whether it stands in that form already,
-// and where the next structure starts.
+// The bytes of a pattern's shortest stored form and whether it stands in that form already, and where the next structure starts.
 pub struct PatternPart {
-    pub place: usize,
-    pub size: usize,
-    pub rows: usize,
     pub shortest: usize,
     pub same: bool,
     pub next: usize,
@@ -124,9 +120,6 @@ pub fn read_pattern(file: &[u8], at: usize, channels: usize) -> PatternStep
         return refused_stored(step, place);
     };
     PatternStep::Read(PatternPart {
-        place: place,
-        size: head.size,
-        rows: stored.rows,
         shortest: stored.shortest,
         same: stored.same,
         next: next,
