@@ -93,7 +93,7 @@ fn field(stored: &[u8], place: usize, bits: u8) -> u8
 }
 
 // The cell at the head, which stands there whole.
-pub fn take_cell(stored: &[u8]) -> Cell
+fn take_cell(stored: &[u8]) -> Cell
     requires { ⌜ needed (now stored) ≤ length (now stored) ⌝ }
     ensures { λ r. ⌜ r ≡ cellOf (cellAt (now (stored .entry))) ⌝ }
 {
@@ -446,7 +446,7 @@ fn fill_first(stored: &[u8], place: usize, word: u64, out: &mut [u8])
 }
 
 // Cells in a row that were accepted, five bytes each, at the front, two or more at a time.
-pub fn fill_cells(stored: &[u8], count: usize, out: &mut [u8])
+fn fill_cells(stored: &[u8], count: usize, out: &mut [u8])
     requires { ⌜ accepted (readRow count 0 (now stored)) ≡ true ⌝ }
     requires { ⌜ count * 5 ≤ length (now out) ⌝ }
     ensures { λ _. ⌜ now (out .exit) ≡ inFront (flat (cellsIn count (now (stored .entry)))) (now (out .entry)) ⌝ }
