@@ -1,18 +1,18 @@
 -- Laws of unpacking: what its tests and its reading say, and its answers and its memory at each exit; that both are fixed.
 -- Assumes nothing.
 use Prim.Native.Nat.{ℕ, zero, suc, _+_, _*_, _≤_}
-use mathlib.Core.Bool.{true, and-eq-true-iff}
+use mathlib.Core.Bool.{true}
 use mathlib.Core.List.{List, [], _∷_, _++_}
 use mathlib.Core.Path.{_≡_, refl, sym, ap, _∙_}
 use native.Mathlib.Nat.{mul-le-mul}
 use native.Mathlib.Omega.{arith}
 use lib.ListN.{length, replicate, length-replicate, replicate-append-replicate}
-use Rattle.xm.specs.Got.{Refusal, Got, got, refused, Test, passes, AllHold}
+use Rattle.xm.specs.Got.{Refusal, Got, got, refused, AllHold}
 use Rattle.xm.specs.Format.{flat}
 use Rattle.xm.specs.Answer.{Answer, gives, refuses, numbers, inFront, after}
 use Rattle.xm.specs.Stored.{Pattern, readCells, readStored}
 use Rattle.xm.specs.Packing.{argumentTests, cellBytes, rowsRead, unpacking, unpackAfter}
-use Rattle.xm.proofs.Got.{holds-passes, passes-holds, passed, bind-got, got-carry}
+use Rattle.xm.proofs.Got.{passed, bind-got, got-carry}
 use Rattle.xm.proofs.Stored.{stored-empty, stored-some}
 use Rattle.refusal.specs.Fault.{faultOf}
 use Rattle.cells.specs.declared.Unpacked.{Unpacked}
@@ -20,18 +20,8 @@ use Rattle.cells.specs.declared.Unpacked.the-variants.{Rows, Refused as 
 use Rattle.refusal.specs.declared.Fault.{Fault}
 use Rattle.cells.specs.Row.{readRow, accepted, cellsIn}
 use Rattle.cells.specs.Unpacked.{rowsOf, unpackedOf, unpackedNumbers}
-use Rattle.cells.specs.Inside.{passAll}
 use Rattle.cells.proofs.Row.{row-of}
 use Rattle.cells.proofs.Fill.{cells-length}
-
--- Tests pass all together exactly if they all hold
-pub pass-holds : (ts : List Test) → passAll ts ≡ true → AllHold ts
-pass-holds [] e = tt
-pass-holds (t ∷ ts) e = let b = and-eq-true-iff (passes t) (passAll ts) .0 e in (passes-holds t (b .0), pass-holds ts (b .1))
-
-pub holds-pass : (ts : List Test) → AllHold ts → passAll ts ≡ true
-holds-pass [] h = refl
-holds-pass (t ∷ ts) h = and-eq-true-iff (passes t) (passAll ts) .1 (holds-passes t (h .0), holds-pass ts (h .1))
 
 pub count-most : (rows channels : ℕ) → AllHold (argumentTests rows channels) → rows * channels ≤ 256 * 64
 count-most rows channels h = mul-le-mul (h .0 .1) (h .1 .0 .1)

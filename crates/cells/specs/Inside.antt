@@ -4,7 +4,7 @@ use mathlib.Core.Bool.{Bool, true, false, cond, _&&_}
 use mathlib.Core.List.{List, [], _∷_, _++_}
 use lib.Dec.{ltb, eqb}
 use lib.ListN.{length, getD, drop, replicate}
-use Rattle.xm.specs.Got.{Got, got, refused, Test, passes, atMost, _at_}
+use Rattle.xm.specs.Got.{Got, got, refused, Test, atMost, _at_}
 use Rattle.xm.specs.Cell.{markedFrom, needed, cellAt, readCell, kepts, writeCell}
 use Rattle.xm.specs.PatternInFile.{dataMost}
 use Rattle.xm.specs.Packing.{argumentTests}
@@ -83,7 +83,3 @@ refusedScan (RefusedScan fault) = RefusedUnpacked fault
 -- The tests for 16, of the data's length.
 abbrev pub unpackTests : (rows channels size : ℕ) → List Test
 unpackTests rows channels size = argumentTests rows channels ++ (atMost dataMost size (16 at 0) ∷ [])
-
-abbrev pub passAll : List Test → Bool
-passAll [] = true
-passAll (t ∷ ts) = passes t && passAll ts

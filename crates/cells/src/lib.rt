@@ -8,7 +8,7 @@ ghost use Prim.Native.Nat.{_+_, _*_, _%_, _<_, _≤_};
 ghost use mathlib.Core.Bool.{true, false, _&&_};
 ghost use lib.Dec.{eqb};
 ghost use lib.ListN.{replicate, length, drop};
-ghost use Rattle.xm.specs.Got.{AllHold};
+ghost use Rattle.xm.specs.Got.{AllHold, allPass};
 ghost use Rattle.xm.specs.Format.{flat};
 ghost use Rattle.xm.specs.Answer.{inFront};
 ghost use Rattle.xm.specs.Cell.{lengthBy, fieldBy, needed, cellAt, readCell, bit, kepts};
@@ -17,7 +17,7 @@ ghost use Rattle.xm.specs.Packing.{argumentTests, unpacking, unpackAfter};
 ghost use Rattle.cells.specs.Step.{cellOf, fieldsOf, stepOf};
 ghost use Rattle.cells.specs.Row.{readRow, accepted, endOf, measuredOf, cellsIn};
 ghost use Rattle.cells.specs.Unpacked.{rowsOf, storedOf, unpackedOf};
-ghost use Rattle.cells.specs.Inside.{Whole, measureFrom, shortestBy, shortBy, refusedEnd, refusedAt, storedSize, refusedRow, refusedScan, firstFields, unpackTests, passAll};
+ghost use Rattle.cells.specs.Inside.{Whole, measureFrom, shortestBy, shortBy, refusedEnd, refusedAt, storedSize, refusedRow, refusedScan, firstFields, unpackTests};
 
 // "Only the note is limited (0..97)"
 const NOTE_MOST: u8 = 97;
@@ -471,7 +471,7 @@ fn fill_cells(stored: &[u8], count: usize, out: &mut [u8])
 
 // Rows, channels and the length of the data as 16 asks for.
 fn in_range(rows: usize, channels: usize, size: usize) -> bool
-    ensures { λ r. ⌜ r ≡ passAll (unpackTests rows channels size) ⌝ }
+    ensures { λ r. ⌜ r ≡ allPass (unpackTests rows channels size) ⌝ }
 {
     if rows < 1 {
         return false;

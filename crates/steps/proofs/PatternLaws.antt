@@ -1,18 +1,19 @@
 -- Laws of the pattern step. Assumes nothing.
-use Prim.Native.Nat.{ℕ, _+_, _-_, _≤_, _<_}
+use Prim.Native.Nat.{ℕ, suc, _+_, _-_, _≤_, _<_}
 use mathlib.Core.Bool.{Bool}
-use mathlib.Core.List.{List}
+use mathlib.Core.List.{List, [], _∷_}
 use mathlib.Core.Path.{_≡_, refl, sym, ap, ap₂, _∙_}
 use native.Mathlib.Nat.{add-assoc, add-sub-cancel-left}
 use native.Mathlib.Omega.{arith}
 use lib.ListN.{length, take, drop, length-take}
 use lib.Seq.{drop-drop}
+use borrow.Author.Tests.{ne-eqb}
 use Rattle.xm.specs.Number.{Bytes, wordAt, longAt, part}
 use Rattle.xm.specs.Got.{Got, got, refused, AllHold}
-use Rattle.xm.specs.Stored.{Pattern, readStored, writeStored}
+use Rattle.xm.specs.Stored.{Pattern, readCells, readStored, writeStored}
 use Rattle.xm.specs.PatternInFile.{patternTests, readPattern, dataMost}
 use Rattle.xm.proofs.Number.{bytes-drop, bytes-take}
-use Rattle.xm.proofs.Got.{pass, step, step-refused}
+use Rattle.xm.proofs.Got.{pass, passed, step, step-refused, bind-got, got-value}
 use Rattle.xm.proofs.Fault.{stored-faults}
 use Rattle.refusal.specs.declared.Fault.{Fault}
 use Rattle.cells.specs.Row.{sameBytes}
@@ -23,12 +24,22 @@ use Rattle.cells.specs.declared.StoredStep.the-variants as stored
 use Rattle.cells.specs.declared.Unpacked.{Unpacked}
 use Rattle.cells.specs.declared.Unpacked.the-variants as unpacked
 use Rattle.steps.specs.Test.{firstFault}
-use Rattle.steps.specs.Step.{storedFault, storedRefused, patternStep, rowsFault, rowsRefused, placeStep}
+use Rattle.steps.specs.Step.{storedFault, storedRefused, patternStep, rowsReadAs, rowsFault, rowsRefused, placeStep}
 use Rattle.steps.specs.declared.pattern.PatternStep.{PatternStep}
 use Rattle.steps.specs.declared.pattern.PatternStep.the-variants.{Read, Refused}
 use Rattle.steps.specs.declared.sample.PlaceStep.the-variants as sample
 use Rattle.steps.proofs.Tests.{RefuseAt, fault-holds, fault-refuses}
 use Rattle.steps.proofs.Shift.{shifted, stored-shifted}
+
+-- The rows that a pattern reads as
+rows-some : (rows : ℕ) (b : ℕ) (d : List ℕ) → rowsReadAs rows (length (b ∷ d)) ≡ rows
+rows-some rows b d = rw (ne-eqb (suc (length d)) 0 (λ e. omega arith))
+
+pub rows-stored : (channels rows place : ℕ) (d : List ℕ) (p : Pattern) (m : ℕ) → readStored channels rows place d ≡ got p m → p .rows ≡ rowsReadAs rows (length d)
+unfolding readStored readCells
+rows-stored channels rows place [] p m e = ap Pattern.rows (sym (got-value e))
+rows-stored channels rows place (b ∷ d) p m e =
+    bind-got _ _ e λ cells used ec e. passed _ _ e λ h e. ap Pattern.rows (sym (got-value e)) ∙ sym (rows-some rows b d)
 
 part-path : {shortest shortest′ next next′ : ℕ} {same same′ : Bool} → shortest ≡ shortest′ → same ≡ same′ → next ≡ next′
     → _≡_ {A = PatternStep} (Read (record { shortest = shortest; same = same; next = next })) (Read (record { shortest = shortest′; same = same′; next = next′ }))

@@ -1,16 +1,16 @@
 -- What code that goes through tests in order needs of them. Assumes nothing.
 use Prim.Native.Nat.{ℕ, zero, suc, _≤_}
-use mathlib.Core.Bool.{Bool, true, false, not, cond, and-eq-true-iff}
+use mathlib.Core.Bool.{Bool, true, false, not, cond}
 use mathlib.Core.List.{List, [], _∷_}
 use mathlib.Core.Path.{_≡_, refl, sym, ap, _∙_}
 use native.Mathlib.Omega.{arith}
 use lib.ListN.{take, drop}
 use lib.Seq.{take-nil}
 use borrow.Author.Tests.{not-true, not-false}
-use Rattle.xm.specs.Got.{Got, refused, _>>_, Test, passes, refusalOf, Holds, AllHold, checked, _at_}
+use Rattle.xm.specs.Got.{Got, refused, _>>_, Test, passes, allPass, refusalOf, Holds, AllHold, checked, _at_}
 use Rattle.xm.specs.Format.{All}
-use Rattle.xm.proofs.Got.{no-true, holds-passes, passes-holds, test-holds, test-fails}
-use Rattle.steps.specs.Test.{allPass, firstFault}
+use Rattle.xm.proofs.Got.{no-true, holds-passes, passes-holds, all-pass, all-hold, test-holds, test-fails}
+use Rattle.steps.specs.Test.{firstFault}
 
 -- A test that fails does not pass
 pub not-passes : (t : Test) → (Holds t → ⊥) → passes t ≡ false
@@ -28,16 +28,6 @@ pub test-failed : (t : Test) {b : Bool} → b ≡ passes t → not b ≡ true �
 test-failed t e q h = no-true (sym (sym e ∙ not-true _ q) ∙ holds-passes t (h .0))
 
 -- A test of all
-pub all-pass : (ts : List Test) → AllHold ts → allPass ts ≡ true
-unfolding allPass
-all-pass [] h = refl
-all-pass (t ∷ ts) h = rw (holds-passes t (h .0), all-pass ts (h .1))
-
-pub all-hold : (ts : List Test) → allPass ts ≡ true → AllHold ts
-unfolding allPass
-all-hold [] e = tt
-all-hold (t ∷ ts) e = let b = and-eq-true-iff (passes t) (allPass ts) .0 e in (passes-holds t (b .0), all-hold ts (b .1))
-
 pub not-all-pass : (ts : List Test) → (AllHold ts → ⊥) → allPass ts ≡ false
 not-all-pass ts f = go (allPass ts) refl
   where

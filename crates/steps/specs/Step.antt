@@ -1,11 +1,13 @@
 -- What each step answers: of a reading that was accepted, what the walk needs of it; of one that was refused, the refusal.
 use Prim.Native.Nat.{ℕ, _+_, _<_}
+use mathlib.Core.Bool.{cond}
 use mathlib.Core.List.{List, [], _∷_}
 use mathlib.Core.Path.{_≡_}
+use lib.Dec.{eqb}
 use lib.ListN.{length}
 use Rattle.xm.specs.Number.{wordAt, longAt, part}
 use Rattle.xm.specs.Got.{Got, got, refused}
-use Rattle.xm.specs.Stored.{writeStored}
+use Rattle.xm.specs.Stored.{standardRows, writeStored}
 use Rattle.xm.specs.Header.{HeaderFound}
 use Rattle.xm.specs.PatternInFile.{PatternFound}
 use Rattle.xm.specs.Sample.{Stretch, SamplesFound, samplesFormat}
@@ -35,6 +37,10 @@ headerStep (got i used) = header.Read (record {
   start = used;
 })
 headerStep (refused r) = header.Refused (faultOf r)
+
+-- "With S = 0 the pattern is the standard empty one .. whatever row number stands there."
+abbrev pub rowsReadAs : (row size : ℕ) → ℕ
+rowsReadAs row size = cond (eqb size 0) standardRows row
 
 -- A pattern at a place of the file.
 abbrev pub patternStep : (file : List ℕ) (place : ℕ) → Got PatternFound → PatternStep

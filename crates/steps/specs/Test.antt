@@ -1,12 +1,8 @@
--- What tests that are tried in order come to: whether all pass, and the number of the first that does not.
+-- What tests that are tried in order come to: the number of the first that does not pass.
 use Prim.Native.Nat.{ℕ}
-use mathlib.Core.Bool.{Bool, true, cond, _&&_}
+use mathlib.Core.Bool.{cond}
 use mathlib.Core.List.{List, [], _∷_}
 use Rattle.xm.specs.Got.{Test, passes, refusalOf}
-
-unfoldable pub allPass : List Test → Bool
-allPass [] = true
-allPass (t ∷ ts) = passes t && allPass ts
 
 -- 0 if all pass.
 unfoldable pub firstFault : List Test → ℕ

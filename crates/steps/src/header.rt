@@ -5,7 +5,8 @@ use crate::number::word;
 use refusal::Fault;
 ghost use mathlib.Core.Path.{_≡_};
 ghost use Rattle.xm.specs.Header.{readHeader, countTests, headerTests};
-ghost use Rattle.steps.specs.Test.{allPass, firstFault};
+ghost use Rattle.xm.specs.Got.{allPass};
+ghost use Rattle.steps.specs.Test.{firstFault};
 ghost use Rattle.steps.specs.Step.{headerStep};
 
 // What the walk needs of a header: its counts, and where the first pattern starts.

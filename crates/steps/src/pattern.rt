@@ -13,7 +13,7 @@ ghost use Rattle.xm.specs.Module.{fileMost};
 ghost use Rattle.xm.specs.Got.{AllHold};
 ghost use Rattle.steps.specs.Mark.{markBy};
 ghost use Rattle.steps.specs.Test.{firstFault};
-ghost use Rattle.steps.specs.Step.{storedFault, storedRefused, patternStep, HeadOf, rowsFault, rowsRefused, placeStep};
+ghost use Rattle.steps.specs.Step.{storedFault, storedRefused, patternStep, rowsReadAs, HeadOf, rowsFault, rowsRefused, placeStep};
 
 // A second pass writes the cells again, copies them as they stand, or writes nothing.
 pub const AGAIN: u8 = 0;
@@ -163,6 +163,13 @@ pub fn scan_pattern(file: &[u8], at: usize, channels: usize) -> PlaceStep
         return refused_rows(step, place);
     };
     PlaceStep::Next(next)
+}
+
+// The rows that a pattern reads as, by the row number in its header and S.
+pub fn rows_read(row: usize, size: usize) -> usize
+    ensures { λ r. ⌜ r ≡ rowsReadAs row size ⌝ }
+{
+    if size == 0 { 64 } else { row }
 }
 
 // What a second pass does with a pattern.

@@ -21,12 +21,13 @@ use Rattle.xm.proofs.Format.{joined-length, read-length}
 use Rattle.xm.proofs.Demands.{tables-tell}
 use Rattle.refusal.specs.Fault.{faultOf}
 use Rattle.refusal.specs.declared.Fault.{Fault}
-use Rattle.steps.specs.Test.{allPass}
+use Rattle.xm.specs.Got.{allPass}
 use Rattle.walk.specs.File.{verdictOf}
 use Rattle.walk.specs.declared.Module.{Module}
 use Rattle.walk.specs.declared.Verdict.{Verdict}
 use Rattle.walk.specs.declared.Verdict.the-variants as verdict
-use Rattle.steps.proofs.Tests.{all-hold, not-all-hold}
+use Rattle.xm.proofs.Got.{all-hold}
+use Rattle.steps.proofs.Tests.{not-all-hold}
 use Rattle.tables.specs.Accepted.{Accepted, listIn}
 use Rattle.tables.specs.Into.{lent, roomFor, roomTestsOf, patternsAfter, instrumentsAfter}
 use Rattle.tables.proofs.Reading.{file-reads}

@@ -1,30 +1,23 @@
 -- What an accepted pattern says of the bytes at its place. Assumes nothing.
 use Prim.Native.Nat.{ℕ, zero, suc, _+_, _≤_}
 use mathlib.Core.List.{List, [], _∷_}
-use mathlib.Core.Path.{_≡_, refl, sym, ap, _∙_}
+use mathlib.Core.Path.{_≡_, refl, ap, _∙_}
 use native.Mathlib.Omega.{arith}
 use lib.ListN.{length, drop, length-drop}
 use lib.Seq.{length-take-le}
 use borrow.Author.Tests.{ne-eqb}
 use Rattle.xm.specs.Got.{got}
 use Rattle.xm.specs.Number.{part}
-use Rattle.xm.specs.Stored.{Pattern, rowsMost, readCells, readStored}
+use Rattle.xm.specs.Stored.{rowsMost}
 use Rattle.xm.specs.PatternInFile.{leastPattern, headSizeAt, rowsAt, dataSizeAt, PatternFound, readPattern}
 use Rattle.xm.specs.Table.{patternRow, patternNumbers}
-use Rattle.xm.proofs.Got.{passed, bind-got, got-value, got-carry}
-use Rattle.tables.specs.Place.{rowsRead, patternAt}
+use Rattle.xm.proofs.Got.{passed, bind-got, got-carry}
+use Rattle.steps.specs.Step.{rowsReadAs}
+use Rattle.steps.proofs.PatternLaws.{rows-stored}
+use Rattle.tables.specs.Place.{patternAt}
 
--- The rows it reads as
-rows-some : (rows : ℕ) (b : ℕ) (d : List ℕ) → rowsRead rows (length (b ∷ d)) ≡ rows
-rows-some rows b d = rw (ne-eqb (suc (length d)) 0 (λ e. omega arith))
-
-stored-rows : (channels rows place : ℕ) (d : List ℕ) (p : Pattern) (m : ℕ) → readStored channels rows place d ≡ got p m → p .rows ≡ rowsRead rows (length d)
-unfolding readStored readCells
-stored-rows channels rows place [] p m e = ap Pattern.rows (sym (got-value e))
-stored-rows channels rows place (b ∷ d) p m e =
-    bind-got _ _ e λ cells used ec e. passed _ _ e λ h e. ap Pattern.rows (sym (got-value e)) ∙ sym (rows-some rows b d)
-
-rows-few : (rows size : ℕ) → rows ≤ rowsMost → rowsRead rows size ≤ rowsMost
+-- The rows it reads as are few
+rows-few : (rows size : ℕ) → rows ≤ rowsMost → rowsReadAs rows size ≤ rowsMost
 rows-few rows zero h = omega arith
 rows-few rows (suc size) h = rw (ne-eqb (suc size) 0 (λ e. omega arith)) h
 
@@ -43,7 +36,7 @@ pattern-stands channels file place i n e =
     passed _ _ e λ h e. bind-got _ _ e λ p m ep e.
     let s = drop place file in
     let l : length (part (headSizeAt s) (dataSizeAt s) s) ≡ dataSizeAt s = length-take-le (dataSizeAt s) (drop (headSizeAt s) s) (omega (arith, length-drop (headSizeAt s) s, h .1 .1 .1 .0)) in
-    let rows : p .rows ≡ rowsRead (rowsAt s) (dataSizeAt s) = stored-rows channels (rowsAt s) _ _ p m ep ∙ ap (rowsRead (rowsAt s)) l in
+    let rows : p .rows ≡ rowsReadAs (rowsAt s) (dataSizeAt s) = rows-stored channels (rowsAt s) _ _ p m ep ∙ ap (rowsReadAs (rowsAt s)) l in
     got-carry (λ (r : PatternFound) (t : ℕ). PatternStands file place r t) e
     (record {
       starts = refl;

@@ -12,9 +12,8 @@ use Rattle.xm.specs.PatternInFile.{PatternFound, patternFormat}
 use Rattle.xm.specs.Sample.{Stretch, stretchRegion, headFormat}
 use Rattle.xm.specs.Instrument.{instrumentSizeAt, countAt, headerSizeAt, InstrumentFound, readInstrument, instrumentFormat}
 use Rattle.xm.specs.Module.{Found, moduleFormat, readFile}
-use Rattle.xm.specs.Structure.{isStructure, structuresOf, structures, standingAt, reading}
+use Rattle.xm.specs.Structure.{isStructure, kindNumber, structuresOf, structures, standingAt, reading}
 use Rattle.xm.specs.Structure as structure
-use Rattle.xm.specs.Demands.{kindNumber}
 use Rattle.xm.proofs.Got.{no-true, passed, bind-got, got-carry}
 use Rattle.tables.specs.Place.{headSizeOf, instrumentAt}
 use Rattle.tables.specs.Standing.{kindAt, standing, standingOf, standingNumbers, readingNumbers, headsAfter, amongHeads}

@@ -1,17 +1,15 @@
 -- What stands at a place of an accepted file, read off its bytes: no test is made again, and no cell is read.
 use Prim.Native.Nat.{ℕ, zero, suc, _+_, _*_, _≤_, _<_}
-use mathlib.Core.Bool.{cond}
 use mathlib.Core.List.{List, [], _∷_}
-use lib.Dec.{eqb}
 use lib.IntN.{ℤ}
 use lib.ListN.{length, drop}
-use Rattle.xm.specs.Stored.{standardRows}
 use Rattle.xm.specs.Header.{patternsAt, instrumentsAt, headerEnd}
 use Rattle.xm.specs.PatternInFile.{headSizeAt, rowsAt, dataSizeAt}
 use Rattle.xm.specs.Sample.{leastHead, headBytes, dataSize, widthOf, finetune, relativeNote}
 use Rattle.xm.specs.Instrument.{samplesMost, instrumentSizeAt, countAt, headerSizeAt}
 use Rattle.xm.specs.Module.{fileMost}
 use Rattle.xm.specs.Table as row
+use Rattle.steps.specs.Step.{rowsReadAs}
 use Rattle.tables.specs.declared.place.Counts.{Counts}
 use Rattle.tables.specs.declared.place.PatternAt.{PatternAt}
 use Rattle.tables.specs.declared.place.InstrumentAt.{InstrumentAt}
@@ -20,12 +18,8 @@ use Rattle.tables.specs.declared.sample.SampleRow.{SampleRow}
 abbrev pub countsOf : (file : List ℕ) → Counts
 countsOf file = record { patterns = patternsAt file; instruments = instrumentsAt file; start = headerEnd file }
 
--- "With S = 0 the pattern is the standard empty one .. whatever row number stands there."
-abbrev pub rowsRead : (rows size : ℕ) → ℕ
-rowsRead rows size = cond (eqb size 0) standardRows rows
-
 abbrev pub patternAt : (place : ℕ) → List ℕ → PatternAt
-patternAt place s = record { place = place + headSizeAt s; size = dataSizeAt s; rows = rowsRead (rowsAt s) (dataSizeAt s) }
+patternAt place s = record { place = place + headSizeAt s; size = dataSizeAt s; rows = rowsReadAs (rowsAt s) (dataSizeAt s) }
 
 -- An instrument without samples has no H.
 abbrev pub headSizeOf : (k : ℕ) → List ℕ → ℕ

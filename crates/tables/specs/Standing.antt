@@ -10,7 +10,7 @@ use Rattle.xm.specs.PatternInFile.{patternFormat}
 use Rattle.xm.specs.Instrument.{instrumentFormat}
 use Rattle.xm.specs.Module.{Found}
 use Rattle.xm.specs.Structure as structure
-use Rattle.xm.specs.Demands.{kindNumber}
+use Rattle.xm.specs.Structure.{kindNumber}
 use Rattle.refusal.specs.Fault.{faultOf}
 use Rattle.walk.specs.declared.Verdict.{Verdict}
 use Rattle.walk.specs.declared.Verdict.the-variants as verdict

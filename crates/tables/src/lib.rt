@@ -20,7 +20,7 @@ ghost use mathlib.Core.Path.{_≡_};
 ghost use Prim.Native.Nat.{_/_, min};
 ghost use lib.ListN.{length};
 ghost use Rattle.xm.specs.Table.{sampleStride, tuneStride, checkingInto};
-ghost use Rattle.steps.specs.Test.{allPass};
+ghost use Rattle.xm.specs.Got.{allPass};
 ghost use Rattle.walk.specs.File.{verdictOf};
 ghost use Rattle.tables.specs.Into.{lent, checkedInto, tablesThen, roomFor, roomTestsOf, patternsAfter, instrumentsAfter};
 

@@ -1,6 +1,7 @@
 // What stands at a place of an accepted file: a second pass, which makes no test again and reads no cell.
 use steps::number::long;
 use steps::number::word;
+use steps::pattern::rows_read;
 use steps::sample::sample_head;
 ghost use mathlib.Core.Path.{_≡_};
 ghost use Prim.Native.Nat.{_+_, _≤_, _<_};
@@ -11,7 +12,7 @@ ghost use Rattle.xm.specs.PatternInFile.{leastPattern};
 ghost use Rattle.xm.specs.Instrument.{instrumentTests};
 ghost use Rattle.xm.specs.Module.{fileMost, readFile};
 ghost use Rattle.tables.specs.Accepted.{Accepted, InstrumentsFrom};
-ghost use Rattle.tables.specs.Place.{countsOf, rowsRead, patternAt, instrumentAt, dataPlace, Stands};
+ghost use Rattle.tables.specs.Place.{countsOf, patternAt, instrumentAt, dataPlace, Stands};
 
 // The header's counts, and where the first pattern starts.
 pub struct Counts {
@@ -44,12 +45,6 @@ pub fn header_counts(file: &[u8]) -> Counts
         instruments: word(file, 0, 72),
         start: size + 60,
     }
-}
-
-fn rows_read(rows: usize, size: usize) -> usize
-    ensures { λ r. ⌜ r ≡ rowsRead rows size ⌝ }
-{
-    if size == 0 { 64 } else { rows }
 }
 
 pub fn pattern_at(file: &[u8], at: usize) -> PatternAt

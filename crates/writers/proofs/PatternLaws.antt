@@ -1,6 +1,6 @@
 -- Laws of a pattern that was read and is written. Assumes nothing.
 use Prim.Native.Nat.{ℕ, _+_, _-_, _≤_}
-use mathlib.Core.Bool.{Bool, true, false, cond}
+use mathlib.Core.Bool.{true}
 use mathlib.Core.List.{List, [], _++_, append-nil}
 use mathlib.Core.Path.{_≡_, refl, sym, ap, ap₂, _∙_}
 use native.Mathlib.Nat.{add-sub-cancel-left}
@@ -17,23 +17,17 @@ use Rattle.xm.specs.Stored.{channelsMost, rowsMost, Pattern, readStored, writeS
 use Rattle.xm.specs.PatternInFile.{dataMost, patternTests, PatternFound, readPattern, writePattern, patternFormat}
 use Rattle.xm.proofs.Number.{bytes-drop, bytes-take, word-small, part-drop}
 use Rattle.xm.proofs.Got.{passed, bind-got, got-value, got-used}
-use Rattle.xm.proofs.Stored.{stored-keeps, stored-rows, stored-empty}
+use Rattle.xm.proofs.Stored.{stored-keeps}
 use Rattle.shortest.specs.Found.{rewritten, storedPressed, Known}
 use Rattle.shortest.proofs.Long.{stored-nothing}
 use Rattle.shortest.proofs.Read.{got-accepted, stored-anywhere}
 use Rattle.steps.specs.Mark.{copied, nothing, Marked}
+use Rattle.steps.specs.Step.{rowsReadAs}
+use Rattle.steps.proofs.PatternLaws.{rows-stored}
 use Rattle.steps.proofs.MarkLaws.{marked-nothing, marked-copied}
 use Rattle.writers.specs.Found.{Told, readAt, pressedAt}
-use Rattle.writers.specs.Pattern.{rowsBy, patternHead}
+use Rattle.writers.specs.Pattern.{patternHead}
 use Rattle.writers.proofs.Writing.{first-last}
-
--- The rows are those of the pattern
-rows-by : (channels row place size : ℕ) (d : List ℕ) (p : Pattern) (n : ℕ) → length d ≡ size → readStored channels row place d ≡ got p n → rowsBy row size ≡ p .rows
-rows-by channels row place size d p n l e = go (eqb size 0) refl
-  where
-    go : (b : Bool) → eqb size 0 ≡ b → cond b 64 row ≡ p .rows
-    go true q = sym (ap Pattern.rows (stored-empty channels row place d p n (omega (arith, eqb-true size 0 q)) e))
-    go false q = let some = eqb-false size 0 q in sym (stored-rows channels row place d p n (omega arith) e)
 
 module _ (file : List ℕ) (place channels mark : ℕ) where
   abbrev from : List ℕ
@@ -93,11 +87,11 @@ module _ (file : List ℕ) (place channels mark : ℕ) where
 
     pub record PatternLies : Type 0 where
       pub there : place + head + size ≤ length file
-      pub rows-high : rowsBy row size ≤ rowsMost
+      pub rows-high : rowsReadAs row size ≤ rowsMost
       pub size-high : length (storedPressed row channels cut) ≤ dataMost
       pub known : Known row channels cut (eqb mark nothing) (eqb mark copied)
       pub long : length (pressedAt patternFormat channels file place) ≡ 9 + length (storedPressed row channels cut)
-      pub written : {rows shortest : ℕ} → rows ≡ rowsBy row size → shortest ≡ length (storedPressed row channels cut)
+      pub written : {rows shortest : ℕ} → rows ≡ rowsReadAs row size → shortest ≡ length (storedPressed row channels cut)
           → (lent : List ℕ) {left : List ℕ} → 9 ≤ length lent → left ≡ inFront (storedPressed row channels cut) (take (length lent - 9) (drop 9 lent))
           → inFront (patternHead rows shortest) (putMid 9 (length lent - 9) lent left) ≡ inFront (pressedAt patternFormat channels file place) lent
 
@@ -114,19 +108,19 @@ module _ (file : List ℕ) (place channels mark : ℕ) where
       long : length d ≡ size
       long = length-take-le S (drop L from) (omega (arith, length-drop L from, w .tests .1 .1 .1 .0)) ∙ sym r
 
-      is-rows : rowsBy row size ≡ w .pattern .rows
-      is-rows = ap (λ (n : ℕ). rowsBy n size) q ∙ rows-by channels (wordAt 5 from) (place + L) size d (w .pattern) (w .used) long (w .reads)
+      is-rows : rowsReadAs row size ≡ w .pattern .rows
+      is-rows = ap (λ (n : ℕ). rowsReadAs n size) q ∙ ap (rowsReadAs (wordAt 5 from)) (sym long) ∙ sym (rows-stored channels (wordAt 5 from) (place + L) d (w .pattern) (w .used) (w .reads))
 
       is-pressed : storedPressed row channels cut ≡ writeStored (w .pattern)
       is-pressed =
           ap₂ (λ (n : ℕ) (s : List ℕ). storedPressed n channels s) q same-cut
           ∙ ap (rewritten writeStored) (stored-anywhere (wordAt 5 from) channels (place + L) d (w .pattern) (w .used) (w .reads))
 
-      is-written : pressedAt patternFormat channels file place ≡ patternHead (rowsBy row size) (length (storedPressed row channels cut)) ++ storedPressed row channels cut
+      is-written : pressedAt patternFormat channels file place ≡ patternHead (rowsReadAs row size) (length (storedPressed row channels cut)) ++ storedPressed row channels cut
       unfolding writePattern
       is-written =
           w .written ∙ ap₂ (λ (n : ℕ) (l : List ℕ). patternHead n (length l) ++ (l ++ [])) (sym is-rows) (sym is-pressed)
-          ∙ ap (λ (l : List ℕ). patternHead (rowsBy row size) (length (storedPressed row channels cut)) ++ l) (append-nil (storedPressed row channels cut))
+          ∙ ap (λ (l : List ℕ). patternHead (rowsReadAs row size) (length (storedPressed row channels cut)) ++ l) (append-nil (storedPressed row channels cut))
 
       pub pattern-lies : Bytes file → 1 ≤ channels → channels ≤ channelsMost → PatternLies
       pattern-lies b some high =

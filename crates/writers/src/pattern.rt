@@ -7,6 +7,7 @@ use steps::number::long;
 use steps::number::word;
 use steps::pattern::COPIED;
 use steps::pattern::NOTHING;
+use steps::pattern::rows_read;
 ghost use mathlib.Core.Path.{_≡_};
 ghost use Prim.Native.Nat.{_≤_};
 ghost use lib.ListN.{length};
@@ -15,17 +16,7 @@ ghost use Rattle.xm.specs.Stored.{channelsMost, rowsMost};
 ghost use Rattle.xm.specs.PatternInFile.{dataMost, patternFormat};
 ghost use Rattle.steps.specs.Mark.{Marked};
 ghost use Rattle.writers.specs.Found.{Told, readAt, pressedAt};
-ghost use Rattle.writers.specs.Pattern.{rowsBy, patternHead};
-
-// The rows that a stored form reads as: with no data it is the standard empty pattern.
-fn rows_of(row: usize, size: usize) -> usize
-    ensures { λ r. ⌜ r ≡ rowsBy row size ⌝ }
-{
-    if size == 0 {
-        return 64;
-    }
-    row
-}
+ghost use Rattle.writers.specs.Pattern.{patternHead};
 
 // L, packing type, rows and S: 9 bytes.
 fn write_head(rows: usize, size: usize, out: &mut [u8])
@@ -60,6 +51,6 @@ pub fn write_pattern(file: &[u8], at: usize, channels: usize, mark: u8, out: &mu
         mark == COPIED,
         &mut out[9..],
     );
-    write_head(rows_of(row, size), shortest, out);
+    write_head(rows_read(row, size), shortest, out);
     9 + shortest
 }

@@ -7,7 +7,7 @@ use native.Mathlib.Omega.{arith}
 use lib.Dec.{leb, eqb}
 use borrow.Author.Tests.{leb-true, le-leb, lt-leb, leb-false, eqb-true, eq-eqb, eqb-false, ne-eqb}
 use Rattle.xm.specs.Format.{All}
-use Rattle.xm.specs.Got.{Refusal, Got, got, refused, _>>=_, _>>_, Test, present, atLeast, atMost, within, exactly, unlike, even, holds, when, passes, refusalOf, Holds, AllHold, ensure, checked}
+use Rattle.xm.specs.Got.{Refusal, Got, got, refused, _>>=_, _>>_, Test, present, atLeast, atMost, within, exactly, unlike, even, holds, when, passes, allPass, refusalOf, Holds, AllHold, ensure, checked}
 
 pub not-both : {A : Type 0} {x : A} {n : ℕ} {r : Refusal} → _≡_ {A = Got A} (refused r) (got x n) → ⊥
 not-both e = let z : _≡_ {A = ℕ} 0 1 = cc in omega arith
@@ -47,6 +47,17 @@ passes-holds (even value r) e = eqb-true (value % 2) 0 e
 passes-holds (holds b r) e = e
 passes-holds (when true t) e = λ q. passes-holds t e
 passes-holds (when false t) e = λ q. absurd (no-true q)
+
+-- and so do all
+pub all-pass : (ts : List Test) → AllHold ts → allPass ts ≡ true
+unfolding allPass
+all-pass [] h = refl
+all-pass (t ∷ ts) h = rw (holds-passes t (h .0), all-pass ts (h .1))
+
+pub all-hold : (ts : List Test) → allPass ts ≡ true → AllHold ts
+unfolding allPass
+all-hold [] e = tt
+all-hold (t ∷ ts) e = let b = and-eq-true-iff (passes t) (allPass ts) .0 e in (passes-holds t (b .0), all-hold ts (b .1))
 
 -- A goal that says what a reading comes to: the first test holds, or fails; all hold; a step is known
 pub test-holds : {A : Type 0} (t : Test) (ts : List Test) (g : Got A) → Holds t → (checked (t ∷ ts) >> g) ≡ (checked ts >> g)

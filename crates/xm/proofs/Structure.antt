@@ -13,9 +13,9 @@ use Rattle.xm.specs.Got.{Refusal, got, refused}
 use Rattle.xm.specs.Format.{Kind, header, patternHeader, patternData, instrument, sampleHeader, sampleData, Region, Format, All}
 use Rattle.xm.specs.Answer.{Answer, gives, refuses, answered}
 use Rattle.xm.specs.Module.{Found, moduleFormat, readFile}
-use Rattle.xm.specs.Structure.{isStructure, structuresOf, structures, Standing, stands, ended, standingAt, reading, readUpTo, placeAfter}
+use Rattle.xm.specs.Structure.{isStructure, kindNumber, structuresOf, structures, Standing, stands, ended, standingAt, reading, readUpTo, placeAfter}
 use Rattle.xm.specs.Asking.{Lies}
-use Rattle.xm.specs.Demands.{Adjoin, kindNumber, ofKind, regionAt, ReaderHandsOver, ReadersTell}
+use Rattle.xm.specs.Demands.{Adjoin, ofKind, regionAt, ReaderHandsOver, ReadersTell}
 use Rattle.xm.proofs.Got.{no-true}
 use Rattle.xm.proofs.Answer.{answer-gives, answer-refuses}
 use Rattle.xm.proofs.Format.{cons-path, Roomy}

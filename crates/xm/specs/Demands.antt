@@ -21,7 +21,7 @@ use Rattle.xm.specs.Module.{Found, Content, moduleFormat, fileMost, read
 use Rattle.xm.specs.Delta.{storedNumbers, decoding, coding, allFit, decodeNumbers, decodeAfter, codeNumbers, codeAfter, valuesOf}
 use Rattle.xm.specs.Table.{PatternRow, InstrumentRow, SampleRow, patternRows, instrumentRows, sampleRowsIn, sampleRows, Checked, checkedAs, checking, checkNumbers, checkLoader, Room, checkingInto, Tables, roomOf, tablesAfter, sampleNumbers}
 use Rattle.xm.specs.Asking.{Lies, asking, askingFlat, askingRows, noRow}
-use Rattle.xm.specs.Structure.{isStructure, structures, stands, ended, reading, placeAfter}
+use Rattle.xm.specs.Structure.{isStructure, kindNumber, structures, stands, ended, reading, placeAfter}
 use Rattle.xm.specs.Press.{contentOf, pressed, pressingAs, pressing, pressNumbersAs, pressAfterAs, pressLoader}
 
 -- DEMAND 1. "Bad input gets a refusal number and a place. A refused call changes nothing in the memory it was lent", and no call writes
@@ -191,14 +191,6 @@ pub record RegionsApart (file : List ℕ) (rs : List Region) (end : ℕ) : Type 
   pub apart : (j k : ℕ) → j < k → k < length rs → regionAt rs j .place + regionAt rs j .size ≤ regionAt rs k .place
 
 -- Every place in a table is the start of its region, and every size the size: the regions of a kind, in file order, are the rows'.
-abbrev pub kindNumber : Kind → ℕ
-kindNumber header = 0
-kindNumber patternHeader = 1
-kindNumber patternData = 2
-kindNumber instrument = 3
-kindNumber sampleHeader = 4
-kindNumber sampleData = 5
-
 abbrev pub ofKind : Kind → List Region → List Lies
 ofKind kind [] = []
 ofKind kind (r ∷ rs) = cond (eqb (kindNumber kind) (kindNumber (r .kind))) (record { place = r .place; size = r .size } ∷ ofKind kind rs) (ofKind kind rs)

@@ -58,6 +58,10 @@ passes (holds b r) = b
 passes (when true t) = passes t
 passes (when false t) = true
 
+unfoldable pub allPass : List Test → Bool
+allPass [] = true
+allPass (t ∷ ts) = passes t && allPass ts
+
 abbrev pub refusalOf : Test → Refusal
 refusalOf (present needed there r) = r
 refusalOf (atLeast least value r) = r

@@ -16,6 +16,15 @@ isStructure instrument = true
 isStructure sampleHeader = true
 isStructure sampleData = false
 
+-- A kind as a number.
+abbrev pub kindNumber : Kind → ℕ
+kindNumber header = 0
+kindNumber patternHeader = 1
+kindNumber patternData = 2
+kindNumber instrument = 3
+kindNumber sampleHeader = 4
+kindNumber sampleData = 5
+
 abbrev pub structuresOf : List Region → List Region
 structuresOf [] = []
 structuresOf (r ∷ rs) = cond (isStructure (r .kind)) (r ∷ structuresOf rs) (structuresOf rs)

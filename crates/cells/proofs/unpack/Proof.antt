@@ -8,16 +8,16 @@ use lib.ListN.{length}
 use denote.Ref.{now}
 use borrow.Author.Tests.{not-true, not-false}
 use Rattle.xm.specs.Answer.{inFront}
-use Rattle.xm.proofs.Got.{no-true}
+use Rattle.xm.proofs.Got.{no-true, all-pass, all-hold}
 use Rattle.xm.proofs.Packing.{UnpackRange, unpack-argument, unpack-cells, unpack-room, unpack-gives}
 use Rattle.cells.specs.Inside.{unpackTests}
-use Rattle.cells.proofs.Unpacking.{pass-holds, holds-pass, found-of, fault-of, bytes-none, fine-some, bytes-some, bytes-long, rows-most, answers-refusal, answers-pattern}
+use Rattle.cells.proofs.Unpacking.{found-of, fault-of, bytes-none, fine-some, bytes-some, bytes-long, rows-most, answers-refusal, answers-pattern}
 use borrow.Author.Needs.{needs}
 use Rattle.cells.proofs.unpack.Statement.{statement}
 use Rattle.cells.proofs.unpack.Tie as tie
 
 range : (c : tie.Else1) → UnpackRange (c .before .before .before .before .args .rows) (c .before .before .before .before .args .channels) (now (c .before .before .before .before .args .stored))
-range c = pass-holds (unpackTests _ _ _) (sym (c .before .in-range .ensures) ∙ not-false _ (c .if1 .left))
+range c = all-hold (unpackTests _ _ _) (sym (c .before .in-range .ensures) ∙ not-false _ (c .if1 .left))
 
 in-range-requires : tie.Need-in-range-requires
 in-range-requires c κs = search needs
@@ -29,7 +29,7 @@ returns c =
     let lent = now (a .cells) in
     answers-refusal (a .rows) (a .channels) d lent
     (unpack-argument (a .rows) (a .channels) d (length lent)
-    (λ h. no-true (sym (not-true _ (c .if1 .taken)) ∙ c .before .in-range .ensures ∙ holds-pass (unpackTests (a .rows) (a .channels) (length d)) h))) refl
+    (λ h. no-true (sym (not-true _ (c .if1 .taken)) ∙ c .before .in-range .ensures ∙ all-pass (unpackTests (a .rows) (a .channels) (length d)) h))) refl
 
 scan-stored-requires : tie.Need-scan-stored-requires
 scan-stored-requires c κs = let h = range c in (h .0, (h .1 .0, tt))

@@ -1,7 +1,8 @@
 -- `tables::has_room` meets its contract. Assumes nothing.
 use mathlib.Core.Path.{sym}
 use native.Mathlib.Omega.{arith}
-use Rattle.steps.proofs.Tests.{all-pass, not-all-pass}
+use Rattle.xm.proofs.Got.{all-pass}
+use Rattle.steps.proofs.Tests.{not-all-pass}
 use Rattle.tables.proofs.has_room.Statement.{statement}
 use Rattle.tables.proofs.has_room.Tie as tie
 

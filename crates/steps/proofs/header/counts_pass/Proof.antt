@@ -1,7 +1,8 @@
 -- `steps::header::counts_pass` meets its contract: each range fails or holds as its branch says. Assumes nothing.
 use mathlib.Core.Path.{sym}
 use native.Mathlib.Omega.{arith}
-use Rattle.steps.proofs.Tests.{all-pass, not-all-pass}
+use Rattle.xm.proofs.Got.{all-pass}
+use Rattle.steps.proofs.Tests.{not-all-pass}
 use Rattle.steps.proofs.header.counts_pass.Statement.{statement}
 use Rattle.steps.proofs.header.counts_pass.Tie as tie
 

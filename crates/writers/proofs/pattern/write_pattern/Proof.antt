@@ -54,13 +54,13 @@ part-write-stored-end-2 c = search needs
 write-stored-requires : tie.Need-write-stored-requires
 write-stored-requires c κs = let l = lies (c .before .before) in (l .known, rw (part-all, length-drop) (omega (arith, l .long, c .before .before .before .before .before .before .before .pre)))
 
-rows-of-requires : tie.Need-rows-of-requires
-rows-of-requires c κs = search needs
+rows-read-requires : tie.Need-rows-read-requires
+rows-read-requires c κs = search needs
 
 write-head-requires : tie.Need-write-head-requires
 write-head-requires c κs =
     let l = lies (c .before .before .before .before .before .before .before) in
-    (omega (arith, c .before .rows-of .ensures, l .rows-high), (omega (arith, c .before .before .before .before .write-stored .ensures .0, l .size-high), omega (arith, l .long, c .before .before .before .before .before .before .before .before .before .before .before .before .pre)))
+    (omega (arith, c .before .rows-read .ensures, l .rows-high), (omega (arith, c .before .before .before .before .write-stored .ensures .0, l .size-high), omega (arith, l .long, c .before .before .before .before .before .before .before .before .before .before .before .before .pre)))
 
 add-result : tie.Need-add-result
 add-result c = omega (arith, c .before .before .before .before .before .before .before .write-stored .ensures .0, lies (c .before .before .before .before .before .before .before .before .before .before) .size-high)
@@ -73,7 +73,7 @@ returns c =
     let l = lies (c .before .before .before .before .before .before .before .before .before .before) in
     let a = c .before .before .before .before .before .before .before .before .before .before .before .before .before .before .before .args in
     let w = c .before .before .before .before .before .before .before .write-stored .ensures in
-    (omega (arith, l .long, w .0), c .before .before .write-head .ensures ∙ l .written (c .before .before .before .before .rows-of .ensures) (w .0) (a .out .now) (omega (arith, l .long, c .before .before .before .before .before .before .before .before .before .before .before .before .before .before .before .pre)) (w .1))
+    (omega (arith, l .long, w .0), c .before .before .write-head .ensures ∙ l .written (c .before .before .before .before .rows-read .ensures) (w .0) (a .out .now) (omega (arith, l .long, c .before .before .before .before .before .before .before .before .before .before .before .before .before .before .before .pre)) (w .1))
 
 pub write-pattern-spec : {M : Type 1} → statement M
 write-pattern-spec =
@@ -91,7 +91,7 @@ write-pattern-spec =
     part-write-stored-start-2
     part-write-stored-end-2
     write-stored-requires
-    rows-of-requires
+    rows-read-requires
     write-head-requires
     add-result
     same-length

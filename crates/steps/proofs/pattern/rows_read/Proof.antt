@@ -1,7 +1,7 @@
--- `tables::place::rows_read` meets its contract. Assumes nothing.
+-- `steps::pattern::rows_read` meets its contract. Assumes nothing.
 use borrow.Author.Tests.{eq-eqb, ne-eqb}
-use Rattle.tables.proofs.place.rows_read.Statement.{statement}
-use Rattle.tables.proofs.place.rows_read.Tie as tie
+use Rattle.steps.proofs.pattern.rows_read.Statement.{statement}
+use Rattle.steps.proofs.pattern.rows_read.Tie as tie
 
 returns : tie.Need-returns
 returns c = rw (eq-eqb (c .before .args .size) 0 (c .if1 .taken))
