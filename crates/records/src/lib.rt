@@ -10,7 +10,8 @@ use row::row_stretch;
 use row::samples_of;
 use tables::check_beside;
 use tables::sample::SampleRow;
-use tables::sample::find_sample;
+use tables::sample::first_sought;
+use tables::sample::row_step;
 use walk::Verdict;
 ghost use mathlib.Core.Path.{_≡_};
 ghost use Prim.Native.Nat.{_≤_};
@@ -62,10 +63,12 @@ fn store_records(file: &[u8], samples: &mut [SampleRow], count: usize)
     requires { ⌜ (count ≤ length (recordsIn (now file))) × (count ≤ length (now samples)) ⌝ }
     ensures { λ _. ⌜ now (samples .exit) ≡ inFront (take count (recordsIn (now (file .entry)))) (now (samples .entry)) ⌝ }
 {
+    let mut from = first_sought(file, count);
     let mut number = 0;
     while number < count {
-        let row = find_sample(file, number);
-        samples[number] = row;
+        let step = row_step(file, from);
+        samples[number] = step.row;
+        from = step.next;
         number += 1;
     }
 }

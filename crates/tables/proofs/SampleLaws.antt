@@ -3,20 +3,23 @@ use Prim.Native.Nat.{ℕ, zero, suc, _+_, _-_, _*_, _≤_, _<_}
 use mathlib.Core.List.{List, _∷_, _++_}
 use mathlib.Core.Path.{_≡_, refl, sym, ap, _∙_}
 use native.Mathlib.Nat.{mul-le-mul-right, suc-mul}
+use native.Mathlib.Numerals.{add-one}
 use native.Mathlib.Omega.{arith}
 use lib.IntN.{ℤ}
-use lib.ListN.{length, getD, drop, length-append, List·getD-append}
-use lib.Seq.{getD-append-add}
+use lib.ListN.{length, getD, drop, length-drop, List·getD-append}
+use lib.Seq.{drop-cons, drop-append-add}
 use Rattle.xm.specs.Number.{Bytes}
 use Rattle.xm.specs.Got.{Got, got, refused, AllHold}
 use Rattle.xm.specs.Format.{joined}
 use Rattle.xm.specs.Sample.{leastHead}
 use Rattle.xm.specs.Instrument.{InstrumentFound, instrumentFormat, instrumentTests}
 use Rattle.xm.specs.Module.{Found, fileMost, readFile}
+use Rattle.xm.specs.Table as row
 use Rattle.xm.specs.Table.{sampleRowsIn, sampleRows}
 use Rattle.xm.specs.Asking.{noRow}
 use Rattle.tables.specs.Accepted.{listIn, ReadsFrom, InstrumentsFrom}
 use Rattle.tables.specs.Place.{instrumentAt, dataPlace, Stands, rowAt}
+use Rattle.tables.specs.Sought.{Seeks}
 use Rattle.tables.specs.declared.place.InstrumentAt.{InstrumentAt}
 use Rattle.tables.specs.declared.sample.SampleRow.{SampleRow}
 use Rattle.tables.proofs.Reading.{accepted-small, some-accepted, reads-none}
@@ -46,52 +49,49 @@ rows-in : (g : Got Found) → listIn sampleRows g ≡ joined sampleRowsIn (listI
 rows-in (got found end) = refl
 rows-in (refused r) = refl
 
--- The sample is the one so numbered of the instruments from a place on
-pub record Searching (file : List ℕ) (number left place : ℕ) : Type 0 where
-  pub small : length file ≤ fileMost
-  pub count : ℕ
-  pub parts : List InstrumentFound
-  pub end : ℕ
-  pub reads : ReadsFrom instrumentFormat tt file count place parts end
-  pub here : left < length (joined sampleRowsIn parts)
-  pub same : getD (listIn sampleRows (readFile file)) number noRow ≡ getD (joined sampleRowsIn parts) left noRow
+-- A sample that is sought from an instrument on
+pub seeks-start : (file : List ℕ) {place : ℕ} → InstrumentsFrom file place → Seeks file (record { number = 0; place = place; left = 0 })
+seeks-start file from = record { count = _; parts = _; end = from .end; reads = from .reads; same = rows-in (readFile file) }
 
-module _ (file : List ℕ) (number : ℕ) where
-  pub searching-start : number < length (listIn sampleRows (readFile file)) → {place : ℕ} → InstrumentsFrom file place → Searching file number number place
-  searching-start l from =
-      let rows = rows-in (readFile file) in
-      record {
-        small = accepted-small file (some-accepted sampleRows (readFile file) l);
-        count = _;
-        parts = _;
-        end = from .end;
-        reads = from .reads;
-        here = rw rows at l;
-        same = ap (λ (l : List _). getD l number noRow) rows;
-      }
+module _ (file : List ℕ) (number : ℕ) (some : number < length (listIn sampleRows (readFile file))) where
+  abbrev all : List row.SampleRow
+  all = listIn sampleRows (readFile file)
 
-  module _ (bytes : Bytes file) {left place : ℕ} (w : Searching file number left place) where
-    searching-next : {R : Type 0}
+  pub seeks-small : length file ≤ fileMost
+  seeks-small = accepted-small file (some-accepted sampleRows (readFile file) some)
+
+  module _ (bytes : Bytes file) {place left : ℕ} (w : Seeks file (record { number = number; place = place; left = left })) where
+    here : left < length (joined sampleRowsIn (w .parts))
+    here = omega (arith, some, ap length (w .same), length-drop number all, length-drop left (joined sampleRowsIn (w .parts)))
+
+    seeks-next : {R : Type 0}
         → ((i : InstrumentFound) (n count : ℕ) (more : List InstrumentFound) → InstrumentStands file place i n → w .parts ≡ i ∷ more → ReadsFrom instrumentFormat tt file count (place + n) more (w .end) → R)
         → R
-    searching-next {R} k = go (w .count) (w .reads)
+    seeks-next {R} k = go (w .count) (w .reads)
       where
         go : (count : ℕ) → ReadsFrom instrumentFormat tt file count place (w .parts) (w .end) → R
-        go zero r = absurd (omega (arith, w .here, ap (λ (l : List InstrumentFound). length (joined sampleRowsIn l)) (reads-none instrumentFormat tt file r .0)))
-        go (suc count) r = instruments-next file (w .small) bytes r (omega arith) λ i n more ei s ep rest. k i n _ more s ep rest
+        go zero r = absurd (omega (arith, here, ap (λ (l : List InstrumentFound). length (joined sampleRowsIn l)) (reads-none instrumentFormat tt file r .0)))
+        go (suc count) r = instruments-next file seeks-small bytes r (omega arith) λ i n more ei s ep rest. k i n _ more s ep rest
 
-    pub searching-tests : AllHold (instrumentTests place (drop place file))
-    searching-tests = searching-next λ i n count more s ep rest. s .tests
+    pub seeks-tests : AllHold (instrumentTests place (drop place file))
+    seeks-tests = seeks-next λ i n count more s ep rest. s .tests
+
+    -- the row sought, and those behind it
+    both : getD all number noRow ∷ drop (suc number) all ≡ getD (joined sampleRowsIn (w .parts)) left noRow ∷ drop (suc left) (joined sampleRowsIn (w .parts))
+    both = sym (drop-cons all number noRow some) ∙ w .same ∙ drop-cons (joined sampleRowsIn (w .parts)) left noRow here
+
+    pub seeks-after : Seeks file (record { number = number + 1; place = place; left = left + 1 })
+    seeks-after = record { count = w .count; parts = w .parts; end = w .end; reads = w .reads; same = rw (add-one number, add-one left) (ap (drop 1) both) }
 
     module _ {x : InstrumentAt} (e : x ≡ instrumentAt place (drop place file)) where
-      pub searching-stands : Stands file x
-      searching-stands = searching-next λ i n count more s ep rest. rw e (s .stands)
+      pub seeks-stands : Stands file x
+      seeks-stands = seeks-next λ i n count more s ep rest. rw e (s .stands)
 
       -- it is one of this instrument's
-      pub searching-found : left < x .samples → getD (listIn sampleRows (readFile file)) number noRow ≡ rowAt file x left
-      searching-found l = searching-next λ i n count more s ep rest.
+      pub seeks-found : left < x .samples → getD all number noRow ≡ rowAt file x left
+      seeks-found l = seeks-next λ i n count more s ep rest.
           let k = ap InstrumentAt.samples e in
-          w .same
+          ap (λ (l : List row.SampleRow). getD l 0 noRow) both
           ∙ ap (λ (l : List InstrumentFound). getD (joined sampleRowsIn l) left noRow) ep
           ∙ List·getD-append (sampleRowsIn i) (joined sampleRowsIn more) noRow left (omega (arith, s .rows-counted))
           ∙ s .rows left (omega arith)
@@ -99,27 +99,24 @@ module _ (file : List ℕ) (number : ℕ) where
 
       -- it is one of a later one's
       module _ (l : x .samples ≤ left) {next : ℕ} (q : next ≡ dataPlace file x (x .samples)) where
-        searching-later : {n : ℕ} {i : InstrumentFound} → InstrumentStands file place i n → next ≡ place + n
-        searching-later s = q ∙ ap (λ (x : InstrumentAt). dataPlace file x (x .samples)) e ∙ sym (s .next)
+        later : {n : ℕ} {i : InstrumentFound} → InstrumentStands file place i n → next ≡ place + n
+        later s = q ∙ ap (λ (x : InstrumentAt). dataPlace file x (x .samples)) e ∙ sym (s .next)
 
-        pub searching-on : Searching file number (left - x .samples) next
-        searching-on = searching-next λ i n count more s ep rest.
+        pub seeks-on : Seeks file (record { number = number; place = next; left = left - x .samples })
+        seeks-on = seeks-next λ i n count more s ep rest.
             let k = ap InstrumentAt.samples e in
-            let at : length (sampleRowsIn i) + (left - x .samples) ≡ left = omega (arith, s .rows-counted) in
-            let long = length-append (sampleRowsIn i) (joined sampleRowsIn more) in
+            let at : left ≡ length (sampleRowsIn i) + (left - x .samples) = omega (arith, s .rows-counted) in
             record {
-              small = w .small;
               count = count;
               parts = more;
               end = w .end;
-              reads = rw (searching-later s) rest;
-              here = omega (arith, long, at, w .here, ap (λ (l : List InstrumentFound). length (joined sampleRowsIn l)) ep);
+              reads = rw (later s) rest;
               same =
                   w .same
-                  ∙ ap (λ (l : List InstrumentFound). getD (joined sampleRowsIn l) left noRow) ep
-                  ∙ ap (λ (n : ℕ). getD (sampleRowsIn i ++ joined sampleRowsIn more) n noRow) (sym at)
-                  ∙ getD-append-add (sampleRowsIn i) (joined sampleRowsIn more) (left - x .samples) noRow;
+                  ∙ ap (λ (l : List InstrumentFound). drop left (joined sampleRowsIn l)) ep
+                  ∙ ap (λ (n : ℕ). drop n (sampleRowsIn i ++ joined sampleRowsIn more)) at
+                  ∙ drop-append-add (sampleRowsIn i) (joined sampleRowsIn more) (left - x .samples);
             }
 
-        pub searching-less : length file - next < length file - place
-        searching-less = searching-next λ i n count more s ep rest. omega (arith, searching-later s, s .some, s .inside)
+        pub seeks-less : length file - next < length file - place
+        seeks-less = seeks-next λ i n count more s ep rest. omega (arith, later s, s .some, s .inside)

@@ -1,5 +1,6 @@
 pub mod Accepted
 pub mod Place
+pub mod Sought
 pub mod Into
 pub mod Ask
 pub mod Standing

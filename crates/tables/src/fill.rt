@@ -4,8 +4,9 @@ use crate::place::first_instrument;
 use crate::place::header_counts;
 use crate::place::instrument_at;
 use crate::place::pattern_at;
-use crate::sample::find_sample;
+use crate::sample::first_sought;
 use crate::sample::put_sample;
+use crate::sample::row_step;
 ghost use mathlib.Core.Path.{_≡_};
 ghost use Prim.Native.Nat.{_+_, _≤_};
 ghost use mathlib.Core.List.{[], _∷_};
@@ -87,10 +88,12 @@ pub fn fill_samples(file: &[u8], count: usize, table: &mut [u32], tunes: &mut [i
     ensures { λ _. ⌜ now (table .exit) ≡ inFront (joined sampleNumbers (listIn sampleRows (readFile (now (file .entry))))) (now (table .entry)) ⌝ }
     ensures { λ _. ⌜ now (tunes .exit) ≡ inFront (joined sampleTunes (listIn sampleRows (readFile (now (file .entry))))) (now (tunes .entry)) ⌝ }
 {
-    let mut number: usize = 0;
-    while number < count {
-        let row = find_sample(file, number);
+    let mut from = first_sought(file, count);
+    while from.number < count {
+        let number = from.number;
+        let step = row_step(file, from);
+        let row = step.row;
         put_sample(table, tunes, number, row);
-        number += 1;
+        from = step.next;
     }
 }

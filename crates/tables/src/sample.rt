@@ -5,7 +5,7 @@ use crate::place::first_instrument;
 use crate::place::instrument_at;
 use steps::sample::sample_head;
 ghost use mathlib.Core.Path.{_≡_};
-ghost use Prim.Native.Nat.{_+_, _*_, _<_, _≤_, _/_, _%_};
+ghost use Prim.Native.Nat.{_+_, _*_, _<_, _≤_, _/_, _%_, _^_};
 ghost use mathlib.Core.Bool.{cond};
 ghost use lib.Dec.{eqb};
 ghost use lib.ListN.{length, getD};
@@ -15,6 +15,7 @@ ghost use Rattle.xm.specs.Table.{sampleRows, sampleStride, tuneStride};
 ghost use Rattle.xm.specs.Asking.{noRow};
 ghost use Rattle.tables.specs.Accepted.{listIn};
 ghost use Rattle.tables.specs.Place.{Stands, rowAt, sampleRow, numbersOf, tunesOf};
+ghost use Rattle.tables.specs.Sought.{Seeks};
 
 // Numbers to a row, and tunes.
 pub const SAMPLE_STRIDE: usize = 4;
@@ -58,17 +59,62 @@ pub fn sample_row(file: &[u8], instrument: InstrumentAt, number: usize) -> Sampl
     }
 }
 
-// The row of a sample of an accepted file, numbered from 0 in file order.
-pub fn find_sample(file: &[u8], number: usize) -> SampleRow
-    requires { ⌜ number < length (listIn sampleRows (readFile (now file))) ⌝ }
-    ensures { λ r. ⌜ r ≡ sampleRow (getD (listIn sampleRows (readFile (now (file .entry)))) number noRow) ⌝ }
+// A sample sought: the one so numbered is the one `left` samples on from the first of the instrument at `place`.
+pub struct Sought {
+    pub number: usize,
+    pub place: usize,
+    pub left: usize,
+}
+
+// The row of the sample sought, and from where the next one is sought.
+pub struct RowStep {
+    pub row: SampleRow,
+    pub next: Sought,
+}
+
+// Where the first of `count` samples is sought. With none to seek nothing is read, as of a refused file.
+pub fn first_sought(file: &[u8], count: usize) -> Sought
+    requires { ⌜ count ≤ length (listIn sampleRows (readFile (now file))) ⌝ }
+    ensures { λ r. ⌜ (r .number ≡ 0) × (0 < count → Seeks (now (file .entry)) r) ⌝ }
 {
-    let mut place = first_instrument(file);
-    let mut left = number;
+    if count == 0 {
+        return Sought {
+            number: 0,
+            place: 0,
+            left: 0,
+        };
+    }
+    let place = first_instrument(file);
+    Sought {
+        number: 0,
+        place: place,
+        left: 0,
+    }
+}
+
+// The row of a sample of an accepted file: from the instrument where it is sought on, only the instruments without it are stepped over.
+pub fn row_step(file: &[u8], from: Sought) -> RowStep
+    requires { ⌜ (from .number < length (listIn sampleRows (readFile (now file)))) × (from .number + 1 < 2 ^ 64) × Seeks (now file) from ⌝ }
+    ensures { λ r. ⌜ (r .row ≡ sampleRow (getD (listIn sampleRows (readFile (now (file .entry)))) (from .number) noRow))
+        × (r .next .number ≡ from .number + 1)
+        × Seeks (now (file .entry)) (r .next) ⌝ }
+{
+    let number = from.number;
+    let mut place = from.place;
+    let mut left = from.left;
     loop {
         let instrument = instrument_at(file, place);
         if left < instrument.samples {
-            return sample_row(file, instrument, left);
+            let row = sample_row(file, instrument, left);
+            let next = Sought {
+                number: number + 1,
+                place: place,
+                left: left + 1,
+            };
+            return RowStep {
+                row: row,
+                next: next,
+            };
         }
         left -= instrument.samples;
         place = data_place(file, instrument, instrument.samples);

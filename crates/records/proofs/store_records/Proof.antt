@@ -1,5 +1,5 @@
 -- `records::store_records` meets its contract: a walk of its MIR, by hand, with a loop and a call in each turn. The borrow of the rows is opened once, before the loop, and closed once, after it.
--- Between the two the memory is the function's own: after i turns it has the first i records in front. All that the proof knows of `find_sample` is that it meets its contract.
+-- Between the two the memory is the function's own: after i turns it has the first i records in front, and the sample sought is the one numbered i. All that the proof knows of `first_sought` and `row_step` is that they meet their contracts.
 -- Assumes nothing.
 use mathlib.Core.Path.{_≡_, refl, sym, ap, _∙_, subst}
 use Prim.Native.Nat.{ℕ, zero, suc, _+_, _*_, _<_, _≤_, _^_}
@@ -22,7 +22,7 @@ use prog.Wp.{Heap, Out, Env, afterSeq, afterBlock, afterTurn, Calls, Loops, Wp, 
 use ghost.Atoms.{Atoms, sem}
 use contract.Monad.{Fun, fact}
 use contract.Running.{givenOf, tables, tablesOf}
-use types.Kit.{Given, Item, ‵, raw, _⊛_, some, later, ⋆, anyQ, atRet, _$_, _∵_, !, qed, by, move, keep, drop, use1, use2, split, join, pick, rewrite, fsplit, fjoin, feqI, suffices, frame, await, done}
+use types.Kit.{Given, Item, Sq, runs, ‵, raw, _⊛_, some, later, ⋆, anyQ, atRet, _$_, _∵_, !, qed, by, move, keep, drop, use1, use2, split, join, pick, rewrite, fsplit, fjoin, feqI, suffices, frame, await, done}
 use types.Part.{whole, sub, look-in}
 use types.Run.{look, init, store, store-raw, forget, stop, hop, fld, from, load, lit, unit-lit, of-opd, bin, and-then, no-more, assigns, assigns-last, land, stays, leaves-loop, returns, enter, alloc1, alloc0, params1, pass1, pass0, free1, free0, exec}
 use sound.Loop.{loop-rule}
@@ -38,7 +38,7 @@ use denote.Signature.{plain}
 use denote.Slice.{sliceTy, sliceVal, MutSlice, ShrSlice, Room, heres, codedHoleys, at-slice, slice-vals, mut-slice-tells, shr-slice-tells, shr-slice-copy}
 use denote.Lend.{Held}
 use denote.Index.{row, place-is, elem-out, elem-put, opens-slice, closes-slice}
-use denote.Steps.{owned, peeks, heard, nothing}
+use denote.Steps.{only, owned, peeks, heard, nothing}
 use denote.Struct.Laws as LL
 use denote.Triple.Statement.{Contract, Triple}
 use denote.Triple.Call.{calls-at}
@@ -55,14 +55,25 @@ use Rattle.xm.specs.Asking.{noRow}
 use Rattle.tables.specs.Accepted.{listIn}
 use Rattle.tables.specs.Place.{sampleRow}
 use Rattle.records.specs.Records.{noRecord, recordsIn}
+use Rattle.tables.specs.Sought.{Seeks}
 use Rattle.tables.specs.declared.sample.SampleRow.{SampleRow}
+use Rattle.tables.specs.declared.sample.Sought.{Sought}
+use Rattle.tables.specs.declared.sample.RowStep.{RowStep}
 use Rattle.records.proofs.Records.{stored-one, stored-length, records-length, record-is}
 use Rattle.tables.proofs.sample.SampleRow as T
 use Rattle.tables.proofs.sample.SampleRow.Laws as T′
-use Rattle.tables.proofs.sample.find_sample as find
-use Rattle.tables.proofs.sample.find_sample.Symbol as find-def
-use Rattle.tables.proofs.sample.find_sample.Symbol.{name as #tables·find-sample}
-use Rattle.tables.proofs.sample.find_sample.Met as find-thm
+use Rattle.tables.proofs.sample.Sought as S
+use Rattle.tables.proofs.sample.Sought.Laws as S′
+use Rattle.tables.proofs.sample.RowStep as R
+use Rattle.tables.proofs.sample.RowStep.Laws as R′
+use Rattle.tables.proofs.sample.first_sought as first
+use Rattle.tables.proofs.sample.first_sought.Symbol as first-def
+use Rattle.tables.proofs.sample.first_sought.Symbol.{name as #tables·first-sought}
+use Rattle.tables.proofs.sample.first_sought.Met as first-thm
+use Rattle.tables.proofs.sample.row_step as step
+use Rattle.tables.proofs.sample.row_step.Symbol as step-def
+use Rattle.tables.proofs.sample.row_step.Symbol.{name as #tables·row-step}
+use Rattle.tables.proofs.sample.row_step.Met as step-thm
 use Rattle.records.proofs.store_records.Key.{name as #records·store-records}
 use Rattle.records.proofs.store_records as f
 use Rattle.records.proofs.store_records.Statement as stated
@@ -84,9 +95,12 @@ fails : (t : Bool) → (Holds t → ⊥) → t ≡ false
 fails true h = absurd (h tt)
 fails false _ = refl
 
--- the contract that the proof cites
-abbrev FindSample : {M : Type 1} (𝓤 : URA M) (H : Heap 𝓤) (A : Atoms 𝓤) (mem : Memory → SProp 𝓤) (run : Routine → Fun 𝓤) → Contract 𝓤
-FindSample 𝓤 H A mem run = tripleOf 𝓤 H A find.signature (find.spec 𝓤 H A mem run)
+-- the contracts that the proof cites
+abbrev First : {M : Type 1} (𝓤 : URA M) (H : Heap 𝓤) (A : Atoms 𝓤) (mem : Memory → SProp 𝓤) (run : Routine → Fun 𝓤) → Contract 𝓤
+First 𝓤 H A mem run = tripleOf 𝓤 H A first.signature (first.spec 𝓤 H A mem run)
+
+abbrev Step : {M : Type 1} (𝓤 : URA M) (H : Heap 𝓤) (A : Atoms 𝓤) (mem : Memory → SProp 𝓤) (run : Routine → Fun 𝓤) → Contract 𝓤
+Step 𝓤 H A mem run = tripleOf 𝓤 H A step.signature (step.spec 𝓤 H A mem run)
 
 -- the locals' types, as the MIR has them
 abbrev rowsTy : Ty
@@ -145,31 +159,55 @@ module _ {M : Type 1} (𝓤 : URA M) (H : Heap 𝓤) (A : Atoms 𝓤) (W : Given
       nothing ! $ owned ! usize (Is usize) (uint-makes 𝓤 H A W w64) n _ (refl, n-fits) $ fjoin ! $ move ! (1 ∷ 0 ∷ []) $ fjoin ! $ move ! (1 ∷ 0 ∷ []) $ fjoin ! $
       feqI ! (List Val) (vunit ∷ []) (vunit ∷ []) refl $ move ! (1 ∷ 0 ∷ []) $ done !
 
-  -- the call of `find_sample` at i: what it is passed, what it asks, and what is known of its result
-  abbrev to : ℕ → FindSample 𝓤 H A mem run .Ghost
-  to i = (((κ′, tt), (q′, tt), tt, (xf, (i, tt)), (sf ∷ [], (vint w64 i ∷ [], tt))), tt)
-
-  goes : (i : ℕ) → i < n → ent 𝓤 (sep 𝓤 (A .lft κ′ q′) (sem 𝓤 H A OwnF)) (sep 𝓤 (FindSample 𝓤 H A mem run .pre (to i)) (sem 𝓤 H A OwnF))
-  goes i small =
+  -- what goes to a callee beside the file, of which a copy is kept
+  lends : {P : SProp 𝓤} → ent 𝓤 (sep 𝓤 (sem 𝓤 H A OwnF) (A .lft κ′ q′)) P → ent 𝓤 (sep 𝓤 (A .lft κ′ q′) (sem 𝓤 H A OwnF)) (sep 𝓤 P (sem 𝓤 H A OwnF))
+  lends {P} passes =
       qed W (‵ (flft κ′ q′) ∷ ‵ OwnF ∷ []) ∵ move ! (1 ∷ []) $ use1 W (‵ OwnF ⊛ ‵ OwnF) (shr-slice-copy 𝓤 H A W (named 0) κ′ u8 .twice xf (sf ∷ [])) $ split ! $
-      move ! (0 ∷ 2 ∷ []) $ use2 W (raw (FindSample 𝓤 H A mem run .pre (to i))) passes $ frame ! $ done !
-    where
-      passes : ent 𝓤 (sep 𝓤 (sem 𝓤 H A OwnF) (A .lft κ′ q′)) (FindSample 𝓤 H A mem run .pre (to i))
-      passes =
-          qed W (‵ OwnF ∷ ‵ (flft κ′ q′) ∷ []) ∵ says ! (omega (arith, small, n-records, records-length fs)) $ nothing ! $ move ! (2 ∷ 0 ∷ []) $ join ! $ frame ! $
-          nothing ! $ owned ! usize (Is usize) (uint-makes 𝓤 H A W w64) i _ (refl, omega (arith, small, n-fits)) $ fjoin ! $ move ! (1 ∷ 0 ∷ []) $ fjoin ! $ done !
+      move ! (0 ∷ 2 ∷ []) $ use2 W (raw P) passes $ frame ! $ done !
 
-  abbrev Found : ℕ → SampleRow → Type 0
-  Found i r = r ≡ sampleRow (getD (listIn sampleRows (readFile fs)) i noRow)
+  -- the call of `first_sought`: what it is passed, what it asks, and what is known of its result
+  abbrev to-first : First 𝓤 H A mem run .Ghost
+  to-first = (((κ′, tt), (q′, tt), tt, (xf, (n, tt)), (sf ∷ [], (vint w64 n ∷ [], tt))), tt)
 
-  said : (i : ℕ) (r : SampleRow) → ent 𝓤 (ensured 𝓤 H A find.ended (find.clauses 𝓤 H A mem run) (κ′, tt) (xf, (i, tt)) tt r) (fact 𝓤 (Found i r))
-  said i r = exE 𝓤 _ (λ ws. snd∗ 𝓤 (sem 𝓤 H A (lasts find.ended (κ′, tt) (xf, (i, tt)) ws)) (fact 𝓤 (Found i r)))
+  goes-first : ent 𝓤 (sep 𝓤 (A .lft κ′ q′) (sem 𝓤 H A OwnF)) (sep 𝓤 (First 𝓤 H A mem run .pre to-first) (sem 𝓤 H A OwnF))
+  goes-first = lends (
+      qed W (‵ OwnF ∷ ‵ (flft κ′ q′) ∷ []) ∵ says ! (omega (arith, n-records, records-length fs)) $ nothing ! $ move ! (2 ∷ 0 ∷ []) $ join ! $ frame ! $
+      nothing ! $ owned ! usize (Is usize) (uint-makes 𝓤 H A W w64) n _ (refl, n-fits) $ fjoin ! $ move ! (1 ∷ 0 ∷ []) $ fjoin ! $ done !)
+
+  -- the sample sought is the one numbered i, and its machine value is u
+  abbrev Sought-at : ℕ → Sought → Val → Type 0
+  Sought-at i x u = (x .number ≡ i) × (i < n → Seeks fs x) × Is S.the-row x (u ∷ [])
+
+  abbrev Started : Sought → Type 0
+  Started x = (x .number ≡ 0) × (0 < n → Seeks fs x)
+
+  said-first : (x : Sought) → ent 𝓤 (ensured 𝓤 H A first.ended (first.clauses 𝓤 H A mem run) (κ′, tt) (xf, (n, tt)) tt x) (fact 𝓤 (Started x))
+  said-first x = exE 𝓤 _ (λ ws. snd∗ 𝓤 (sem 𝓤 H A (lasts first.ended (κ′, tt) (xf, (n, tt)) ws)) (fact 𝓤 (Started x)))
+
+  -- the call of `row_step` of x: the same
+  module _ (i : ℕ) (small : i < n) (x : Sought) (ux : Val) (sought : Sought-at i x ux) where
+    abbrev to : Step 𝓤 H A mem run .Ghost
+    to = (((κ′, tt), (q′, tt), tt, (xf, (x, tt)), (sf ∷ [], (ux ∷ [], tt))), tt)
+
+    goes : ent 𝓤 (sep 𝓤 (A .lft κ′ q′) (sem 𝓤 H A OwnF)) (sep 𝓤 (Step 𝓤 H A mem run .pre to) (sem 𝓤 H A OwnF))
+    goes = lends (
+        qed W (‵ OwnF ∷ ‵ (flft κ′ q′) ∷ []) ∵ says ! (omega (arith, small, n-records, records-length fs, sought .0), omega (arith, small, n-fits, sought .0), sought .1 small) $ nothing ! $ move ! (2 ∷ 0 ∷ []) $ join ! $ frame ! $
+        nothing ! $ owned ! S.the-row (Is S.the-row) (LL.makes S.the-type S′.the-plain 𝓤 H A) x _ (sought .2) $ fjoin ! $ move ! (1 ∷ 0 ∷ []) $ fjoin ! $ done !)
+
+    abbrev Stepped : RowStep → Type 0
+    Stepped r = (r .row ≡ sampleRow (getD (listIn sampleRows (readFile fs)) (x .number) noRow)) × (r .next .number ≡ x .number + 1) × Seeks fs (r .next)
+
+    said : (r : RowStep) → ent 𝓤 (ensured 𝓤 H A step.ended (step.clauses 𝓤 H A mem run) (κ′, tt) (xf, (x, tt)) tt r) (fact 𝓤 (Stepped r))
+    said r = exE 𝓤 _ (λ ws. snd∗ 𝓤 (sem 𝓤 H A (lasts step.ended (κ′, tt) (xf, (x, tt)) ws)) (fact 𝓤 (Stepped r)))
+
+    found : (r : RowStep) → Stepped r → r .row ≡ sampleRow (getD (listIn sampleRows (readFile fs)) i noRow)
+    found r e = e .0 ∙ ap (λ (j : ℕ). sampleRow (getD (listIn sampleRows (readFile fs)) j noRow)) (sought .0)
 
   -- stored, it is the next record in front
-  stored : (i : ℕ) (r : SampleRow) → i < n → Found i r → set (zs i) i r ≡ zs (suc i)
+  stored : (i : ℕ) (r : SampleRow) → i < n → r ≡ sampleRow (getD (listIn sampleRows (readFile fs)) i noRow) → set (zs i) i r ≡ zs (suc i)
   stored i r small e = ap (λ (d : SampleRow). set (zs i) i d) (e ∙ record-is fs i) ∙ stored-one rs ys i noRecord (omega (arith, small, n-records)) (omega (arith, small, n-rows))
 
-  module _ (𝓣 : Tables 𝓤 H) (fm : FmC 𝓤 H (W .laws) (𝓣 .C)) (known : Triple 𝓤 (𝓣 .C #tables·find-sample) (FindSample 𝓤 H A mem run)) (l₀ l₁ l₂ l₃ l₄ l₅ l₆ l₇ l₈ : ℕ) where
+  module _ (𝓣 : Tables 𝓤 H) (fm : FmC 𝓤 H (W .laws) (𝓣 .C)) (known : Triple 𝓤 (𝓣 .C #tables·row-step) (Step 𝓤 H A mem run)) (l₀ l₁ l₂ l₃ l₄ l₅ l₆ l₇ l₈ l₉ : ℕ) where
     abbrev C : Calls 𝓤 H
     C = 𝓣 .C
 
@@ -177,59 +215,69 @@ module _ {M : Type 1} (𝓤 : URA M) (H : Heap 𝓤) (A : Atoms 𝓤) (W : Given
     Λ = 𝓣 .Λ
 
     abbrev En : Env 𝓤 H
-    En = (tyUnit, l₀) ∷ (fileTy, l₁) ∷ (rowsTy, l₂) ∷ (tyInt w64, l₃) ∷ (tyInt w64, l₄) ∷ (T′.mir, l₅) ∷ (tyBool, l₆) ∷ (tyInt w64, l₇) ∷ (tyPtr, l₈) ∷ []
+    En = (tyUnit, l₀) ∷ (fileTy, l₁) ∷ (rowsTy, l₂) ∷ (tyInt w64, l₃) ∷ (S′.mir, l₄) ∷ (tyInt w64, l₅) ∷ (R′.mir, l₆) ∷ (tyBool, l₇) ∷ (tyInt w64, l₈) ∷ (tyPtr, l₉) ∷ []
 
     -- what no turn changes: the parameters' locals, the result's, the open borrow, the file, its lifetime's token, and that each local dies
     abbrev Frame : List (Item 𝓤)
     Frame = ‵ (fat fullShare fileTy l₁ 0 sf) ∷ ‵ (fat fullShare rowsTy l₂ 0 s) ∷ ‵ (fat fullShare (tyInt w64) l₃ 0 (vint w64 n)) ∷ ‵ (froom tyUnit l₀ 0)
         ∷ ‵ (fobor κ q (Held T.the-row (length ys) b o γ)) ∷ ‵ (fobs γ (codedHoleys T.the-row .code (heres T.the-row ys))) ∷ ‵ (fauth γ (codedHoleys T.the-row .code (heres T.the-row ys))) ∷ ‵ OwnF ∷ ‵ (flft κ′ q′)
-        ∷ ‵ (fdies tyUnit l₀) ∷ ‵ (fdies fileTy l₁) ∷ ‵ (fdies rowsTy l₂) ∷ ‵ (fdies (tyInt w64) l₃) ∷ ‵ (fdies (tyInt w64) l₄) ∷ ‵ (fdies T′.mir l₅) ∷ ‵ (fdies tyBool l₆) ∷ ‵ (fdies (tyInt w64) l₇) ∷ ‵ (fdies tyPtr l₈) ∷ []
+        ∷ ‵ (fdies tyUnit l₀) ∷ ‵ (fdies fileTy l₁) ∷ ‵ (fdies rowsTy l₂) ∷ ‵ (fdies (tyInt w64) l₃) ∷ ‵ (fdies S′.mir l₄) ∷ ‵ (fdies (tyInt w64) l₅) ∷ ‵ (fdies R′.mir l₆) ∷ ‵ (fdies tyBool l₇) ∷ ‵ (fdies (tyInt w64) l₈) ∷ ‵ (fdies tyPtr l₉) ∷ []
 
-    -- before turn i
-    abbrev At : ℕ → List (Item 𝓤)
-    At i = ‵ (row T.the-row fullShare (zs i) b o) ∷ ‵ (fat fullShare (tyInt w64) l₄ 0 (vint w64 i)) ∷ ‵ (froom T′.mir l₅ 0) ∷ ‵ (froom tyBool l₆ 0) ∷ ‵ (froom (tyInt w64) l₇ 0) ∷ ‵ (froom tyPtr l₈ 0) ∷ Frame
+    -- before a turn: how many are done, the sample sought, and its machine value
+    abbrev State : Type 0
+    State = ℕ × (Sought × Val)
+
+    abbrev At : State → List (Item 𝓤)
+    At x = ‵ (row T.the-row fullShare (zs (x .0)) b o) ∷ ‵ (fat fullShare (tyInt w64) l₅ 0 (vint w64 (x .0))) ∷ ‵ (froom R′.mir l₆ 0) ∷ ‵ (froom tyBool l₇ 0) ∷ ‵ (froom (tyInt w64) l₈ 0) ∷ ‵ (froom tyPtr l₉ 0) ∷ ‵ (fat fullShare S′.mir l₄ 0 (x .1 .1)) ∷ Frame
+
+    abbrev Told : State → Type 0
+    Told x = Sought-at (x .0) (x .1 .0) (x .1 .1)
 
     -- the invariant, where t rows are left
     abbrev Inv : ℕ → SProp 𝓤
-    Inv t = ex 𝓤 (λ (i : ℕ). guard 𝓤 (i + t ≡ n) (⋆ 𝓤 H A (At i)))
+    Inv t = ex 𝓤 (λ (x : State). guard 𝓤 ((x .0 + t ≡ n) × Told x) (⋆ 𝓤 H A (At x)))
 
     abbrev Below : ℕ → SProp 𝓤
     Below t = ex 𝓤 (λ (t′ : ℕ). guard 𝓤 (t′ < t) (Inv t′))
 
     -- when the loop is left, the rest of the body runs
     abbrev Left : Out → SProp 𝓤
-    Left = afterBlock 𝓤 H (afterSeq 𝓤 H (Wp 𝓤 H C Λ En M′.t-3 (atReturn 𝓤 H En Post)) (atReturn 𝓤 H En Post))
+    Left = afterBlock 𝓤 H (afterSeq 𝓤 H (Wp 𝓤 H C Λ En M′.t-4 (atReturn 𝓤 H En Post)) (atReturn 𝓤 H En Post))
 
     -- a turn that stores one record
-    more : (i : ℕ) (X : SProp 𝓤) → i < n → ent 𝓤 (⋆ 𝓤 H A (At (suc i))) X → ent 𝓤 (⋆ 𝓤 H A (At i)) (Wp 𝓤 H C Λ En M′.turn-1 (afterTurn 𝓤 H X Left))
+    more : (x : State) (X : SProp 𝓤) → x .0 < n → Told x → ((y : State) → y .0 ≡ suc (x .0) → Told y → ent 𝓤 (⋆ 𝓤 H A (At y)) X) → ent 𝓤 (⋆ 𝓤 H A (At x)) (Wp 𝓤 H C Λ En M′.turn-1 (afterTurn 𝓤 H X Left))
     unfolding afterTurn
-    more i X small k =
-        qed W (At i) ∵ exec ! C Λ En M′.turn-1 (anyQ (afterTurn 𝓤 H X Left)) $
-        -- [the row; _4; _5; _6; _7; _8; _1; _2; _3; _0; the open borrow; obs; auth; the file; its token; …]
-        assigns ! (bin ! (load ! (from ! (stop !)) (look ! 1 refl)) (load ! (from ! (stop !)) (look ! 8 refl)) tt) (from ! (stop !)) (init ! 3 refl (tt, tt)) $
-        rewrite ! 3 (λ (t : Bool). ‵ (fat fullShare tyBool l₆ 0 (vbool t))) (holds (ltb i n) (lt→ltb i n small)) refl $
+    more (i, (x, ux)) X small sought k =
+        qed W (At (i, (x, ux))) ∵ exec ! C Λ En M′.turn-1 (anyQ (afterTurn 𝓤 H X Left)) $
+        -- [the row; _5; _6; _7; _8; _9; _4; _1; _2; _3; _0; the open borrow; obs; auth; the file; its token; …]
+        assigns ! (bin ! (load ! (from ! (stop !)) (look ! 1 refl)) (load ! (from ! (stop !)) (look ! 9 refl)) tt) (from ! (stop !)) (init ! 3 refl (tt, tt)) $
+        rewrite ! 3 (λ (t : Bool). ‵ (fat fullShare tyBool l₇ 0 (vbool t))) (holds (ltb i n) (lt→ltb i n small)) refl $
         stays ! (load ! (from ! (stop !)) (look ! 3 refl)) $
-        move ! (14 ∷ 13 ∷ []) $ use2 W (raw (FindSample 𝓤 H A mem run .pre (to i)) ⊛ ‵ OwnF) (goes i small) $ split ! $
-        -- [what `find_sample` asks; the file; the row; _4; _5; _6; _7; _8; _1; _2; …]
-        calls-at ! fm (FindSample 𝓤 H A mem run) known (to i) (and-then ! (load ! (from ! (stop !)) (look ! 8 refl)) (and-then ! (load ! (from ! (stop !)) (look ! 3 refl)) (no-more !))) (λ u.
-        use1 W (later (some (λ (r : SampleRow). ((‵ (flft κ′ q′) ⊛ ‵ ftrue) ⊛ ‵ (T.the-row .own r (u ∷ []))) ⊛ raw (ensured 𝓤 H A find.ended (find.clauses 𝓤 H A mem run) (κ′, tt) (xf, (i, tt)) tt r)))) (id⊢ 𝓤 _) $ await ! tt $ pick ! (λ r.
-        split ! $ move ! (1 ∷ []) $ use1 W (raw (fact 𝓤 (Found i r))) (said i r) $ heard ! (Found i r) (λ e. split ! $ move ! (1 ∷ []) $
-        peeks ! T.the-row (Is T.the-row) (shows 𝓤 H A T.the-row) r (u ∷ []) (λ is.
-        -- [what the record owns; the token; the file; the row; _4; _5; _6; _7; _8; _1; …]
-        land ! (from ! (stop !)) (init ! 5 refl (LL.lawful T.the-type T′.the-laws 𝓤 H A W .typed r _ is .0)) $
+        move ! (15 ∷ 14 ∷ []) $ use2 W (raw (Step 𝓤 H A mem run .pre (to i small x ux sought)) ⊛ ‵ OwnF) (goes i small x ux sought) $ split ! $
+        -- [what `row_step` asks; the file; the row; _5; _6; _7; _8; _9; _4; _1; _2; …]
+        calls-at ! fm (Step 𝓤 H A mem run) known (to i small x ux sought) (and-then ! (load ! (from ! (stop !)) (look ! 9 refl)) (and-then ! (load ! (from ! (stop !)) (look ! 8 refl)) (no-more !))) (λ u.
+        use1 W (later (some (λ (r : RowStep). ((‵ (flft κ′ q′) ⊛ ‵ ftrue) ⊛ ‵ (R.the-row .own r (u ∷ []))) ⊛ raw (ensured 𝓤 H A step.ended (step.clauses 𝓤 H A mem run) (κ′, tt) (xf, (x, tt)) tt r)))) (id⊢ 𝓤 _) $ await ! tt $ pick ! (λ r.
+        split ! $ move ! (1 ∷ []) $ use1 W (raw (fact 𝓤 (Stepped i small x ux sought r))) (said i small x ux sought r) $ heard ! (Stepped i small x ux sought r) (λ e. split ! $ move ! (1 ∷ []) $
+        peeks ! R.the-row (Is R.the-row) (shows 𝓤 H A R.the-row) r (u ∷ []) (λ is.
+        -- [what the step owns; the token; the file; the row; _5; _6; _7; _8; _9; _4; _1; _2; …]
+        land ! (from ! (stop !)) (init ! 5 refl (LL.lawful R.the-type R′.the-laws 𝓤 H A W .typed r _ is .0)) $
+        rewrite ! 5 (λ (y : Val). ‵ (fat fullShare R′.mir l₆ 0 y)) (ap only (LL.tells R.the-type R′.the-laws r _ is)) refl $
         assigns ! (bin ! (load ! (from ! (stop !)) (look ! 4 refl)) (lit ! tt) (record { fits = at-fits })) (from ! (stop !)) (init ! 7 refl (tt, record { fits = at-fits })) $
-        assigns ! (bin ! (load ! (from ! (fld ! refl (stop !))) (look-in ! 10 (sub ! 0 refl (whole !)))) (load ! (from ! (stop !)) (look ! 7 refl)) tt) (from ! (stop !)) (init ! 8 refl (tt, tt)) $
-        rewrite ! 8 (λ (p : ℕ). ‵ (fat fullShare tyPtr l₈ 0 (vptr b p))) (sym (place-is 20 o i)) refl $
+        assigns ! (bin ! (load ! (from ! (fld ! refl (stop !))) (look-in ! 11 (sub ! 0 refl (whole !)))) (load ! (from ! (stop !)) (look ! 7 refl)) tt) (from ! (stop !)) (init ! 8 refl (tt, tt)) $
+        rewrite ! 8 (λ (p : ℕ). ‵ (fat fullShare tyPtr l₉ 0 (vptr b p))) (sym (place-is 20 o i)) refl $
         move ! (3 ∷ []) $ elem-out ! T.the-row (Is T.the-row) (shows 𝓤 H A T.the-row) (LL.vals T.the-type T′.the-laws) (LL.tells T.the-type T′.the-laws) fullShare (zs i) i noRecord b o within (λ _.
-        -- [rows[i]; what it owns; the others; what the record owns; the token; the file; _4; _5; _6; _7; _8; _1; …]
-        assigns ! (of-opd ! (load ! (from ! (stop !)) (look ! 7 refl))) (from ! (hop ! (look ! 10 refl) (stop !))) (store-raw ! 0 refl (LL.lawful T.the-type T′.the-laws 𝓤 H A W .typed r _ is .0)) $
-        move ! (1 ∷ []) $ drop ! $ move ! (0 ∷ 2 ∷ 1 ∷ []) $ elem-put ! T.the-row fullShare (zs i) i r (u ∷ []) b o within $
-        rewrite ! 0 (λ (l : List SampleRow). ‵ (row T.the-row fullShare l b o)) (stored i r small e) refl $
-        -- [the row; the token; the file; _4; _5; _6; _7; _8; …]
+        -- [rows[i]; what it owns; the others; what the step owns; the token; the file; _5; _6; _7; _8; _9; _4; …]
+        assigns ! (of-opd ! (load ! (from ! (fld ! refl (stop !))) (look-in ! 7 (sub ! 0 refl (whole !))))) (from ! (hop ! (look ! 10 refl) (stop !))) (store-raw ! 0 refl (LL.lawful T.the-type T′.the-laws 𝓤 H A W .typed (r .row) _ (LL.owed R.the-type R′.the-laws r _ is .0) .0)) $
+        move ! (1 ∷ 3 ∷ []) $ drop ! $ drop ! $ owned ! T.the-row (Is T.the-row) (LL.makes T.the-type T′.the-plain 𝓤 H A) (r .row) _ (LL.owed R.the-type R′.the-laws r _ is .0) $
+        move ! (1 ∷ 0 ∷ 2 ∷ []) $ elem-put ! T.the-row fullShare (zs i) i (r .row) (T′.lowered (r .row) ∷ []) b o within $
+        rewrite ! 0 (λ (l : List SampleRow). ‵ (row T.the-row fullShare l b o)) (stored i (r .row) small (found i small x ux sought r e)) refl $
+        -- [the row; the token; the file; _5; _6; _7; _8; _9; _4; …]
+        assigns ! (of-opd ! (load ! (from ! (fld ! refl (stop !))) (look-in ! 4 (sub ! 1 refl (whole !))))) (from ! (stop !)) (store ! 8 refl (LL.lawful S.the-type S′.the-laws 𝓤 H A W .typed (r .next) _ (LL.owed R.the-type R′.the-laws r _ is .1 .0) .0)) $
         assigns-last ! (bin ! (load ! (from ! (stop !)) (look ! 3 refl)) (lit ! tt) (record { fits = next-fits })) (from ! (stop !)) (store ! 3 refl (tt, record { fits = next-fits })) $
-        forget ! 4 refl $ forget ! 5 refl $ forget ! 6 refl $ forget ! 7 refl $ rewrite ! 3 (λ (j : ℕ). ‵ (fat fullShare (tyInt w64) l₄ 0 (vint w64 j))) (add-one i) refl $
+        forget ! 4 refl $ forget ! 5 refl $ forget ! 6 refl $ forget ! 7 refl $ rewrite ! 3 (λ (j : ℕ). ‵ (fat fullShare (tyInt w64) l₅ 0 (vint w64 j))) (add-one i) refl $
         move ! (1 ∷ []) $ split ! $
-        keep ! (2 ∷ 4 ∷ 5 ∷ 6 ∷ 7 ∷ 8 ∷ 9 ∷ 10 ∷ 11 ∷ 12 ∷ 13 ∷ 14 ∷ 15 ∷ 3 ∷ 0 ∷ 16 ∷ 17 ∷ 18 ∷ 19 ∷ 20 ∷ 21 ∷ 22 ∷ 23 ∷ 24 ∷ []) $ by ! k)))))
+        keep ! (2 ∷ 4 ∷ 5 ∷ 6 ∷ 7 ∷ 8 ∷ 9 ∷ 10 ∷ 11 ∷ 12 ∷ 13 ∷ 14 ∷ 15 ∷ 16 ∷ 3 ∷ 0 ∷ 17 ∷ 18 ∷ 19 ∷ 20 ∷ 21 ∷ 22 ∷ 23 ∷ 24 ∷ 25 ∷ 26 ∷ []) $
+        by ! (k (suc i, (r .next, S′.lowered (r .next))) refl (e .1 ∙ ap (λ (j : ℕ). j + 1) (sought .0) ∙ add-one i, (λ _. e .2), LL.owed R.the-type R′.the-laws r _ is .1 .0)))))))
       where
         within : i < length (zs i)
         within = subst (λ (m : ℕ). i < m) (sym (same-length i (omega (arith, small)))) (omega (arith, small, n-rows))
@@ -241,65 +289,85 @@ module _ {M : Type 1} (𝓤 : URA M) (H : Heap 𝓤) (A : Atoms 𝓤) (W : Given
         next-fits = omega (arith, small, n-fits)
 
     -- the turn that leaves the loop, and the rest of the body: the borrow is closed at what is stored
-    ends : (X : SProp 𝓤) → ent 𝓤 (⋆ 𝓤 H A (At n)) (Wp 𝓤 H C Λ En M′.turn-1 (afterTurn 𝓤 H X Left))
+    ends : (y : Sought × Val) (X : SProp 𝓤) → ent 𝓤 (⋆ 𝓤 H A (At (n, y))) (Wp 𝓤 H C Λ En M′.turn-1 (afterTurn 𝓤 H X Left))
     unfolding afterTurn
-    ends X =
-        qed W (At n) ∵ exec ! C Λ En M′.turn-1 (anyQ (afterTurn 𝓤 H X Left)) $
-        assigns ! (bin ! (load ! (from ! (stop !)) (look ! 1 refl)) (load ! (from ! (stop !)) (look ! 8 refl)) tt) (from ! (stop !)) (init ! 3 refl (tt, tt)) $
-        rewrite ! 3 (λ (t : Bool). ‵ (fat fullShare tyBool l₆ 0 (vbool t))) (fails (ltb n n) (λ h. absurd (omega (arith, ltb→lt n n h)))) refl $
-        leaves-loop ! (load ! (from ! (stop !)) (look ! 3 refl)) $ exec ! C Λ En M′.t-3 (atRet En Post) $
-        assigns ! (of-opd ! (unit-lit !)) (from ! (stop !)) (init ! 9 refl (tt, tt)) $
-        move ! (0 ∷ 10 ∷ 11 ∷ 12 ∷ []) $ closes-slice ! tt T.the-row ys (zs n) (same-length n (omega arith)) b o $
-        -- [obs; the borrow; the token; _4; _5; _6; _7; _8; _1; _2; _3; _0; the file; its token; and that each local dies]
-        returns ! (look ! 11 refl) $ forget ! 3 refl $ forget ! 5 refl $ forget ! 8 refl $ forget ! 9 refl $ forget ! 10 refl $ forget ! 11 refl $
-        move ! (11 ∷ 14 ∷ []) $ free1 ! $ move ! (8 ∷ 13 ∷ []) $ free1 ! $ move ! (8 ∷ 12 ∷ []) $ free1 ! $ move ! (8 ∷ 11 ∷ []) $ free1 ! $ move ! (3 ∷ 10 ∷ []) $ free1 ! $
-        move ! (3 ∷ 9 ∷ []) $ free1 ! $ move ! (3 ∷ 8 ∷ []) $ free1 ! $ move ! (3 ∷ 7 ∷ []) $ free1 ! $ move ! (3 ∷ 6 ∷ []) $ free1 ! $ free0 ! $ by ! exits
+    ends y X =
+        qed W (At (n, y)) ∵ exec ! C Λ En M′.turn-1 (anyQ (afterTurn 𝓤 H X Left)) $
+        assigns ! (bin ! (load ! (from ! (stop !)) (look ! 1 refl)) (load ! (from ! (stop !)) (look ! 9 refl)) tt) (from ! (stop !)) (init ! 3 refl (tt, tt)) $
+        rewrite ! 3 (λ (t : Bool). ‵ (fat fullShare tyBool l₇ 0 (vbool t))) (fails (ltb n n) (λ h. absurd (omega (arith, ltb→lt n n h)))) refl $
+        leaves-loop ! (load ! (from ! (stop !)) (look ! 3 refl)) $ exec ! C Λ En M′.t-4 (atRet En Post) $
+        assigns ! (of-opd ! (unit-lit !)) (from ! (stop !)) (init ! 10 refl (tt, tt)) $
+        move ! (0 ∷ 11 ∷ 12 ∷ 13 ∷ []) $ closes-slice ! tt T.the-row ys (zs n) (same-length n (omega arith)) b o $
+        -- [obs; the borrow; the token; _5; _6; _7; _8; _9; _4; _1; _2; _3; _0; the file; its token; and that each local dies]
+        returns ! (look ! 12 refl) $ forget ! 3 refl $ forget ! 5 refl $ forget ! 8 refl $ forget ! 9 refl $ forget ! 10 refl $ forget ! 11 refl $ forget ! 12 refl $
+        move ! (12 ∷ 15 ∷ []) $ free1 ! $ move ! (9 ∷ 14 ∷ []) $ free1 ! $ move ! (9 ∷ 13 ∷ []) $ free1 ! $ move ! (9 ∷ 12 ∷ []) $ free1 ! $ move ! (8 ∷ 11 ∷ []) $ free1 ! $
+        move ! (3 ∷ 10 ∷ []) $ free1 ! $ move ! (3 ∷ 9 ∷ []) $ free1 ! $ move ! (3 ∷ 8 ∷ []) $ free1 ! $ move ! (3 ∷ 7 ∷ []) $ free1 ! $ move ! (3 ∷ 6 ∷ []) $ free1 ! $ free0 ! $ by ! exits
 
-    below : (t i : ℕ) → suc i + t ≡ n → ent 𝓤 (⋆ 𝓤 H A (At (suc i))) (Below (suc t))
-    below t i e =
+    below : (t : ℕ) (y : State) → (y .0 + t ≡ n) × Told y → ent 𝓤 (⋆ 𝓤 H A (At y)) (Below (suc t))
+    below t y e =
         via 𝓤 (Inv t)
-        (via 𝓤 (guard 𝓤 (suc i + t ≡ n) (⋆ 𝓤 H A (At (suc i)))) (guardI 𝓤 (suc i + t ≡ n) (⋆ 𝓤 H A (At (suc i))) e) (exI 𝓤 (λ (j : ℕ). guard 𝓤 (j + t ≡ n) (⋆ 𝓤 H A (At j))) (suc i)))
+        (via 𝓤 (guard 𝓤 ((y .0 + t ≡ n) × Told y) (⋆ 𝓤 H A (At y))) (guardI 𝓤 ((y .0 + t ≡ n) × Told y) (⋆ 𝓤 H A (At y)) e) (exI 𝓤 (λ (x : State). guard 𝓤 ((x .0 + t ≡ n) × Told x) (⋆ 𝓤 H A (At x))) y))
         (via 𝓤 (guard 𝓤 (t < suc t) (Inv t)) (guardI 𝓤 (t < suc t) (Inv t) (omega arith)) (exI 𝓤 (λ (u : ℕ). guard 𝓤 (u < suc t) (Inv u)) t))
 
     -- a turn from the invariant at t leaves the loop, or ends in the invariant below t
-    turn-at : (t i : ℕ) → i + t ≡ n → ent 𝓤 (⋆ 𝓤 H A (At i)) (Wp 𝓤 H C Λ En M′.turn-1 (afterTurn 𝓤 H (Below t) Left))
-    turn-at zero i e = subst (λ (k : ℕ). ent 𝓤 (⋆ 𝓤 H A (At k)) (Wp 𝓤 H C Λ En M′.turn-1 (afterTurn 𝓤 H (Below zero) Left))) (omega (arith, e)) (ends (Below zero))
-    turn-at (suc t) i e = more i (Below (suc t)) (omega (arith, e)) (below t i (omega (arith, e)))
+    turn-at : (t : ℕ) (x : State) → (x .0 + t ≡ n) × Told x → ent 𝓤 (⋆ 𝓤 H A (At x)) (Wp 𝓤 H C Λ En M′.turn-1 (afterTurn 𝓤 H (Below t) Left))
+    turn-at zero (i, y) e = subst (λ (j : ℕ). ent 𝓤 (⋆ 𝓤 H A (At (j, y))) (Wp 𝓤 H C Λ En M′.turn-1 (afterTurn 𝓤 H (Below zero) Left))) (omega (arith, e .0)) (ends y (Below zero))
+    turn-at (suc t) x e = more x (Below (suc t)) (omega (arith, e .0)) (e .1) (λ y next told. below t y (omega (arith, e .0, next), told))
 
     turns : (t : ℕ) → ent 𝓤 (Inv t) (Wp 𝓤 H C Λ En M′.turn-1 (afterTurn 𝓤 H (Below t) Left))
-    turns t = exE 𝓤 (λ (i : ℕ). guard 𝓤 (i + t ≡ n) (⋆ 𝓤 H A (At i))) (λ i. guardE 𝓤 (i + t ≡ n) (⋆ 𝓤 H A (At i)) (λ e. turn-at t i e))
+    turns t = exE 𝓤 (λ (x : State). guard 𝓤 ((x .0 + t ≡ n) × Told x) (⋆ 𝓤 H A (At x))) (λ x. guardE 𝓤 ((x .0 + t ≡ n) × Told x) (⋆ 𝓤 H A (At x)) (λ e. turn-at t x e))
 
-    loops : ent 𝓤 (⋆ 𝓤 H A (At 0)) (Wp 𝓤 H C Λ En (loop M′.turn-1) Left)
-    loops =
+    loops : (y : Sought × Val) → Told (0, y) → ent 𝓤 (⋆ 𝓤 H A (At (0, y))) (Wp 𝓤 H C Λ En (loop M′.turn-1) Left)
+    loops y told =
         via 𝓤 (Inv n)
-        (via 𝓤 (guard 𝓤 (0 + n ≡ n) (⋆ 𝓤 H A (At 0))) (guardI 𝓤 (0 + n ≡ n) (⋆ 𝓤 H A (At 0)) (omega arith)) (exI 𝓤 (λ (j : ℕ). guard 𝓤 (j + n ≡ n) (⋆ 𝓤 H A (At j))) 0))
+        (via 𝓤 (guard 𝓤 ((0 + n ≡ n) × Told (0, y)) (⋆ 𝓤 H A (At (0, y)))) (guardI 𝓤 ((0 + n ≡ n) × Told (0, y)) (⋆ 𝓤 H A (At (0, y))) (omega arith, told)) (exI 𝓤 (λ (x : State). guard 𝓤 ((x .0 + n ≡ n) × Told x) (⋆ 𝓤 H A (At x))) (0, y)))
         (loop-rule 𝓤 H (W .laws) 𝓣 _<_ (Nat·lt-wfRel .wf) En M′.turn-1 Left Inv turns n)
 
+    -- the call of `first_sought`, and the loop
+    begins : Triple 𝓤 (𝓣 .C #tables·first-sought) (First 𝓤 H A mem run)
+        → Sq W (‵ (flft κ′ q′) ∷ ‵ OwnF ∷ ‵ (row T.the-row fullShare ys b o) ∷ ‵ (fobor κ q (Held T.the-row (length ys) b o γ)) ∷ ‵ (fobs γ (codedHoleys T.the-row .code (heres T.the-row ys))) ∷ ‵ (fauth γ (codedHoleys T.the-row .code (heres T.the-row ys)))
+        ∷ ‵ (froom tyPtr l₉ 0) ∷ ‵ (fdies tyPtr l₉) ∷ ‵ (froom (tyInt w64) l₈ 0) ∷ ‵ (fdies (tyInt w64) l₈) ∷ ‵ (froom tyBool l₇ 0) ∷ ‵ (fdies tyBool l₇) ∷ ‵ (froom R′.mir l₆ 0) ∷ ‵ (fdies R′.mir l₆) ∷ ‵ (froom (tyInt w64) l₅ 0) ∷ ‵ (fdies (tyInt w64) l₅)
+        ∷ ‵ (froom S′.mir l₄ 0) ∷ ‵ (fdies S′.mir l₄) ∷ ‵ (fat fullShare (tyInt w64) l₃ 0 (vint w64 n)) ∷ ‵ (fdies (tyInt w64) l₃) ∷ ‵ (fat fullShare rowsTy l₂ 0 s) ∷ ‵ (fdies rowsTy l₂) ∷ ‵ (fat fullShare fileTy l₁ 0 sf) ∷ ‵ (fdies fileTy l₁) ∷ ‵ (froom tyUnit l₀ 0) ∷ ‵ (fdies tyUnit l₀) ∷ [])
+        (runs C Λ En M′.t-1 (atRet En Post))
+    begins known-first =
+        use2 W (raw (First 𝓤 H A mem run .pre to-first) ⊛ ‵ OwnF) goes-first $ split ! $
+        -- [what `first_sought` asks; the file; the row; the open borrow; obs; auth; _9; …; _1; …; _0; …]
+        calls-at ! fm (First 𝓤 H A mem run) known-first to-first (and-then ! (load ! (from ! (stop !)) (look ! 22 refl)) (and-then ! (load ! (from ! (stop !)) (look ! 18 refl)) (no-more !))) (λ u.
+        use1 W (later (some (λ (x : Sought). ((‵ (flft κ′ q′) ⊛ ‵ ftrue) ⊛ ‵ (S.the-row .own x (u ∷ []))) ⊛ raw (ensured 𝓤 H A first.ended (first.clauses 𝓤 H A mem run) (κ′, tt) (xf, (n, tt)) tt x)))) (id⊢ 𝓤 _) $ await ! tt $ pick ! (λ x.
+        split ! $ move ! (1 ∷ []) $ use1 W (raw (fact 𝓤 (Started x))) (said-first x) $ heard ! (Started x) (λ e. split ! $ move ! (1 ∷ []) $
+        peeks ! S.the-row (Is S.the-row) (shows 𝓤 H A S.the-row) x (u ∷ []) (λ is. drop ! $
+        -- [the file's token; the file; the row; the open borrow; obs; auth; _9; …; _1; …; _0; …]
+        land ! (from ! (stop !)) (init ! 16 refl (LL.lawful S.the-type S′.the-laws 𝓤 H A W .typed x _ is .0)) $
+        assigns ! (of-opd ! (lit ! tt)) (from ! (stop !)) (init ! 14 refl (tt, record { fits = lit< tt })) $ split ! $
+        -- [the file's token; true; the file; the row; the open borrow; obs; auth; _9; …; _1; …; _0; …]
+        keep ! (3 ∷ 15 ∷ 13 ∷ 11 ∷ 9 ∷ 7 ∷ 17 ∷ 23 ∷ 21 ∷ 19 ∷ 25 ∷ 4 ∷ 5 ∷ 6 ∷ 2 ∷ 0 ∷ 26 ∷ 24 ∷ 22 ∷ 20 ∷ 18 ∷ 16 ∷ 14 ∷ 12 ∷ 10 ∷ 8 ∷ []) $
+        by ! (loops (x, u) (e .0, e .1, is))))))
+
   -- the MIR, up to the loop: the borrow is opened once, before it
-  walk : (𝓣 : Tables 𝓤 H) → FmC 𝓤 H (W .laws) (𝓣 .C) → Triple 𝓤 (𝓣 .C #tables·find-sample) (FindSample 𝓤 H A mem run)
+  walk : (𝓣 : Tables 𝓤 H) → FmC 𝓤 H (W .laws) (𝓣 .C) → Triple 𝓤 (𝓣 .C #tables·first-sought) (First 𝓤 H A mem run) → Triple 𝓤 (𝓣 .C #tables·row-step) (Step 𝓤 H A mem run)
       → ent 𝓤 (onEntry 𝓤 H A f.signature (κ′, (κ, tt)) (q′, (q, tt)) a vals) (WpFn 𝓤 H (𝓣 .C) (𝓣 .Λ) code.function (sf ∷ s ∷ vint w64 n ∷ []) Post)
-  walk 𝓣 fm known =
+  walk 𝓣 fm known-first known =
       qed W ((‵ (flft κ′ q′) ⊛ ‵ (flft κ q) ⊛ ‵ ftrue) ∷ ‵ (owns (ShrSlice (named 0) κ′ u8 ∷ MutSlice (named 1) κ T.the-row ∷ usize ∷ []) a vals) ∷ []) ∵ enter ! (𝓣 .C) (𝓣 .Λ) code.function (sf ∷ s ∷ vint w64 n ∷ []) _ $
-      alloc1 ! (λ l₀. alloc1 ! (λ l₁. alloc1 ! (λ l₂. alloc1 ! (λ l₃. alloc1 ! (λ l₄. alloc1 ! (λ l₅. alloc1 ! (λ l₆. alloc1 ! (λ l₇. alloc1 ! (λ l₈. alloc0 ! $ params1 ! $
-      pass1 ! (init ! 14 refl (tt, (tt, (record { fits = room-f .0 }, tt)))) $ pass1 ! (init ! 12 refl (tt, (tt, (record { fits = room .0 }, tt)))) $ pass1 ! (init ! 10 refl (tt, record { fits = n-fits })) $ pass0 ! $
-      assigns ! (of-opd ! (lit ! tt)) (from ! (stop !)) (init ! 8 refl (tt, record { fits = lit< tt })) $
-      move ! (19 ∷ []) $ fsplit ! $ move ! (1 ∷ []) $ fsplit ! $ fsplit ! $ drop ! $ fsplit ! $ move ! (22 ∷ []) $ split ! $ move ! (1 ∷ []) $ split ! $ move ! (3 ∷ 4 ∷ 0 ∷ []) $
+      alloc1 ! (λ l₀. alloc1 ! (λ l₁. alloc1 ! (λ l₂. alloc1 ! (λ l₃. alloc1 ! (λ l₄. alloc1 ! (λ l₅. alloc1 ! (λ l₆. alloc1 ! (λ l₇. alloc1 ! (λ l₈. alloc1 ! (λ l₉. alloc0 ! $ params1 ! $
+      pass1 ! (init ! 16 refl (tt, (tt, (record { fits = room-f .0 }, tt)))) $ pass1 ! (init ! 14 refl (tt, (tt, (record { fits = room .0 }, tt)))) $ pass1 ! (init ! 12 refl (tt, record { fits = n-fits })) $ pass0 ! $
+      move ! (21 ∷ []) $ fsplit ! $ move ! (1 ∷ []) $ fsplit ! $ fsplit ! $ drop ! $ fsplit ! $ move ! (24 ∷ []) $ split ! $ move ! (1 ∷ []) $ split ! $ move ! (3 ∷ 4 ∷ 0 ∷ []) $
       opens-slice ! tt T.the-row ys b o $
-      keep ! (0 ∷ 16 ∷ 14 ∷ 12 ∷ 10 ∷ 8 ∷ 22 ∷ 20 ∷ 18 ∷ 24 ∷ 1 ∷ 2 ∷ 3 ∷ 7 ∷ 5 ∷ 25 ∷ 23 ∷ 21 ∷ 19 ∷ 17 ∷ 15 ∷ 13 ∷ 11 ∷ 9 ∷ []) $ by ! (loops 𝓣 fm known l₀ l₁ l₂ l₃ l₄ l₅ l₆ l₇ l₈))))))))))
+      -- [the row; the open borrow; obs; auth; true; the file's token; count's; the file; _9; …; _1; …; _0; …]
+      keep ! (5 ∷ 7 ∷ 0 ∷ 1 ∷ 2 ∷ 3 ∷ 8 ∷ 9 ∷ 10 ∷ 11 ∷ 12 ∷ 13 ∷ 14 ∷ 15 ∷ 16 ∷ 17 ∷ 18 ∷ 19 ∷ 20 ∷ 21 ∷ 22 ∷ 23 ∷ 24 ∷ 25 ∷ 26 ∷ 27 ∷ []) $ begins 𝓣 fm known l₀ l₁ l₂ l₃ l₄ l₅ l₆ l₇ l₈ l₉ known-first))))))))))
 
 module _ {M : Type 1} (𝓤 : URA M) (H : Heap 𝓤) (A : Atoms 𝓤) (W : Given 𝓤 H A) (mem : Memory → SProp 𝓤) (run : Routine → Fun 𝓤) where
-  store-records-walks : (𝓣 : Tables 𝓤 H) → FmC 𝓤 H (W .laws) (𝓣 .C) → Triple 𝓤 (𝓣 .C #tables·find-sample) (FindSample 𝓤 H A mem run) → Walks 𝓤 H A f.ended stayed (WpFn 𝓤 H (𝓣 .C) (𝓣 .Λ) code.function) (f.clauses 𝓤 H A mem run)
-  store-records-walks 𝓣 fm known = walked 𝓤 H A f.ended stayed (f.clauses 𝓤 H A mem run) (WpFn 𝓤 H (𝓣 .C) (𝓣 .Λ) code.function)
+  store-records-walks : (𝓣 : Tables 𝓤 H) → FmC 𝓤 H (W .laws) (𝓣 .C) → Triple 𝓤 (𝓣 .C #tables·first-sought) (First 𝓤 H A mem run) → Triple 𝓤 (𝓣 .C #tables·row-step) (Step 𝓤 H A mem run) → Walks 𝓤 H A f.ended stayed (WpFn 𝓤 H (𝓣 .C) (𝓣 .Λ) code.function) (f.clauses 𝓤 H A mem run)
+  store-records-walks 𝓣 fm known-first known = walked 𝓤 H A f.ended stayed (f.clauses 𝓤 H A mem run) (WpFn 𝓤 H (𝓣 .C) (𝓣 .Λ) code.function)
       (λ κs. (slice-vals, (slice-vals, (uint-vals w64, tt)))) (λ κs. (shr-slice-tells (named 0) (κs .0) u8, (mut-slice-tells (named 1) (κs .1 .0) T.the-row, (uint-tells w64, tt))))
       (λ κs qs bounds a g are. needs 𝓤 ((a .1 .1 .0 ≤ length (recordsIn (a .0 .now))) × (a .1 .1 .0 ≤ length (a .1 .0 .now))) _ (λ l.
-      walk 𝓤 H A W mem run (κs .1 .0) (κs .0) (qs .1 .0) (qs .0) (a .1 .0 .ptr .0) (a .1 .0 .ptr .1) (a .1 .0 .name) (a .1 .0 .now) (a .0) (a .1 .1 .0) (are .1 .0 .0 .1) (are .0 .0 .1) (are .1 .1 .0 .1) (l .0) (l .1) 𝓣 fm known))
+      walk 𝓤 H A W mem run (κs .1 .0) (κs .0) (qs .1 .0) (qs .0) (a .1 .0 .ptr .0) (a .1 .0 .ptr .1) (a .1 .0 .name) (a .1 .0 .now) (a .0) (a .1 .1 .0) (are .1 .0 .0 .1) (are .0 .0 .1) (are .1 .1 .0 .1) (l .0) (l .1) 𝓣 fm known-first known))
 
 store-records-meets : {M : Type 1} (𝓤 : URA M) (H : Heap 𝓤) (A : Atoms 𝓤) (W : Given 𝓤 H A) (mem : Memory → SProp 𝓤) (run : Routine → Fun 𝓤) (𝓣 : Tables 𝓤 H)
-    → Triple 𝓤 (𝓣 .C #tables·find-sample) (FindSample 𝓤 H A mem run)
+    → Triple 𝓤 (𝓣 .C #tables·first-sought) (First 𝓤 H A mem run) → Triple 𝓤 (𝓣 .C #tables·row-step) (Step 𝓤 H A mem run)
     → Meets 𝓤 H A f.signature (WpFn 𝓤 H (𝓣 .C) (𝓣 .Λ) code.function) (f.spec 𝓤 H A mem run)
-store-records-meets 𝓤 H A W mem run 𝓣 known =
+store-records-meets 𝓤 H A W mem run 𝓣 known-first known =
     walk-meets 𝓤 H A f.ended stayed W (goes-none-slice 𝓤 H A W 2 (0 ∷ []) tt (plain (λ _. u8)) yes, (goes-slice 𝓤 H A W 2 1 tt (plain (λ _. T.the-row)), (goes-none 𝓤 H A W 2 (λ _. usize) yes (λ κs x f. refl), tt))) (f.clauses 𝓤 H A mem run)
-    (WpFn 𝓤 H (𝓣 .C) (𝓣 .Λ) code.function) (WpFn-mono 𝓤 H (W .laws) 𝓣 code.function) (store-records-walks 𝓤 H A W mem run 𝓣 (fmOf 𝓤 H (W .laws) 𝓣) known)
+    (WpFn 𝓤 H (𝓣 .C) (𝓣 .Λ) code.function) (WpFn-mono 𝓤 H (W .laws) 𝓣 code.function) (store-records-walks 𝓤 H A W mem run 𝓣 (fmOf 𝓤 H (W .laws) 𝓣) known-first known)
 
 pub store-records-spec : {M : Type 1} → stated.statement M
 unfolding code.routine tablesOf
@@ -307,4 +375,5 @@ store-records-spec 𝓤 H 𝓜 𝓖 𝓡 =
     entered 𝓤 H (tripleOf 𝓤 H (𝓖 .A) f.signature (f.spec 𝓤 H (𝓖 .A) (𝓜 .mem) (𝓡 .run)))
     (tables 𝓤 H 𝓜 𝓡 code.env .C) (tables 𝓤 H 𝓜 𝓡 code.env .Λ) #records·store-records code.function (code.unfolded 𝓤 H 𝓜 𝓡)
     (store-records-meets 𝓤 H (𝓖 .A) (givenOf 𝓤 H 𝓜 𝓖) (𝓜 .mem) (𝓡 .run) (tablesOf 𝓤 H 𝓜 (tables 𝓤 H 𝓜 𝓡 code.env))
-    (cited 𝓤 H (FindSample 𝓤 H (𝓖 .A) (𝓜 .mem) (𝓡 .run)) 𝓜 𝓡 code.env #tables·find-sample find-def.routine code.calls-tables·sample·find-sample (find-thm.met 𝓤 H 𝓜 𝓖 𝓡)))
+    (cited 𝓤 H (First 𝓤 H (𝓖 .A) (𝓜 .mem) (𝓡 .run)) 𝓜 𝓡 code.env #tables·first-sought first-def.routine code.calls-tables·sample·first-sought (first-thm.met 𝓤 H 𝓜 𝓖 𝓡))
+    (cited 𝓤 H (Step 𝓤 H (𝓖 .A) (𝓜 .mem) (𝓡 .run)) 𝓜 𝓡 code.env #tables·row-step step-def.routine code.calls-tables·sample·row-step (step-thm.met 𝓤 H 𝓜 𝓖 𝓡)))
