@@ -9,8 +9,9 @@ use crate::write::refused;
 use crate::write::say;
 use press::Pressed;
 use reader::count::Counted;
-use tables::standing::Standing;
-use tables::standing::standing_at;
+use structures::Standing;
+use structures::hand;
+use structures::start;
 use walk::Verdict;
 
 pub fn put_verdict(verdict: Verdict) {
@@ -25,26 +26,25 @@ pub fn put_verdict(verdict: Verdict) {
     }
 }
 
-// Answers where to look for the next structure.
-fn put_structure(kind: &[u8], place: usize) -> usize {
+fn put_structure(kind: &[u8], place: usize) -> bool {
     say(kind);
     put(place);
-    least(place, 16777216) + 1
+    true
 }
 
-// Answers where to look for the next structure; 0 where there is none.
-fn put_standing(standing: Standing) -> usize {
+// Answers whether a structure was handed over.
+fn put_standing(standing: Standing) -> bool {
     match standing {
         Standing::Pattern(place) => put_structure(b" pattern", place),
         Standing::Instrument(place) => put_structure(b" instrument", place),
         Standing::SampleHeader(place) => put_structure(b" sample", place),
         Standing::End => {
             say(b" end");
-            0
+            false
         }
         Standing::Refused(fault) => {
             put_answer(refused(fault));
-            0
+            false
         }
     }
 }
@@ -53,10 +53,15 @@ fn put_standing(standing: Standing) -> usize {
 const STRUCTURES_MOST: usize = 1000;
 
 pub fn put_structures(file: &[u8]) {
-    let mut place = put_standing(standing_at(file, 0));
+    let mut reached = start(file);
+    let mut on = true;
     let mut left = STRUCTURES_MOST;
-    while 0 < left && 0 < place {
-        place = put_standing(standing_at(file, place));
+    while 0 < left && on {
+        let handed = hand(file, reached);
+        let standing = handed.standing;
+        let further = handed.reached;
+        on = put_standing(standing);
+        reached = further;
         left -= 1;
     }
 }

@@ -1,4 +1,4 @@
--- A call `next(&mut r)` on a reader that lies in a local of the caller: the local is lent for a lifetime a ∷ κ that is made for the call, within the file's own lifetime κ, and comes back with the place moved on.
+-- A call `next(&mut r)` on a reader that lies in a local of the caller: the local is lent for a lifetime a ∷ κ that is made for the call, within the file's own lifetime κ, and comes back having read on.
 --     moved        the reader after the call
 --     part-in      a reader's cell, as a local of a body has it, with what the reader owns is the reader in memory.        to-room      and that is room again, where the local dies
 --     call-next, call-next-last    from the reader in memory and the file's token, with the pointer to it as the one argument: the call, and after it what stands, the reader moved on, and the token
@@ -29,19 +29,19 @@ use denote.Laws.{Is, shows}
 use denote.Lend.{lends-ref, ref-back}
 use denote.Memory.{partAt, mem, cellAt, partOf}
 use denote.Ref.{RefT, NamedLft, MutRef, now}
-use denote.Steps.{peeks, heard, nothing}
+use denote.Steps.{only, peeks, heard, nothing}
 use denote.Struct.Laws as LL
 use denote.Struct.Steps.{spelt}
 use denote.Triple.Statement.{Contract, Triple}
 use denote.Triple.Call.{calls-at, calls-at-last}
 use denote.Triple.Clauses.{ensured, lasts}
 use denote.Triple.Spec.{tripleOf}
-use Rattle.reader.specs.Step.{stepAt}
+use Rattle.structures.specs.Handing.{handing}
 use Rattle.reader.specs.declared.Reader.{Reader}
-use Rattle.tables.specs.declared.standing.Standing.{Standing}
+use Rattle.structures.specs.declared.Standing.{Standing}
 use Rattle.reader.proofs.Reader as T
 use Rattle.reader.proofs.Reader.Laws as T′
-use Rattle.tables.proofs.standing.Standing as F
+use Rattle.structures.proofs.Standing as F
 use Rattle.reader.proofs.Calls.{Called}
 use Rattle.reader.proofs.next as next
 use Rattle.reader.proofs.next.Symbol.{name as #reader·next}
@@ -52,7 +52,7 @@ Next 𝓤 H A mem run = tripleOf 𝓤 H A next.signature (next.spec 𝓤 H A mem
 
 -- the reader after the call
 abbrev pub moved : Reader → Reader
-moved h = record { file = h .file; place = stepAt (now (h .file)) (h .place) .place }
+moved h = record { file = h .file; place = handing (now (h .file)) (h .place) .reached }
 
 -- the struct's type at the lifetime κ
 abbrev pub B : Lft → RattleType
@@ -72,7 +72,7 @@ module _ {M : Type 1} (𝓤 : URA M) (H : Heap 𝓤) (A : Atoms 𝓤) (W : Given
   unfolding partOf
   to-room h l =
       qed W (‵ (partAt (B κ) fullShare h l 0) ∷ []) ∵ fpick ! (λ vs. fsplit ! $ spelt ! (B κ) (Is (B κ)) (shows 𝓤 H A (B κ)) (LL.vals (T.the-type α) (T′.the-laws α)) (LL.tells (T.the-type α) (T′.the-laws α)) fullShare h vs l 0 $
-      use1 W (‵ (fat fullShare (T′.mir erased) l 0 (T′.lowered h))) (W .laws .raw-at fullShare (T′.mir erased) l 0 (T′.lowered h)) $ forget ! 0 refl $ keep ! (0 ∷ []) $ done !)
+      use1 W (‵ (fat fullShare (T′.mir erased) l 0 (only (LL.vals (T.the-type α) (T′.the-laws α) h)))) (W .laws .raw-at fullShare (T′.mir erased) l 0 (only (LL.vals (T.the-type α) (T′.the-laws α) h))) $ forget ! 0 refl $ keep ! (0 ∷ []) $ done !)
 
   -- the two halves of the file's share: one goes to the callee, and one keeps the new lifetime
   abbrev Lq : Share
@@ -115,7 +115,7 @@ module _ {M : Type 1} (𝓤 : URA M) (H : Heap 𝓤) (A : Atoms 𝓤) (W : Given
 
   -- what is to be shown once the call has returned
   abbrev Back : (K : Type 0) → List (Item 𝓤) → Reader → ℕ → (Val → Goal 𝓤 H) → Type 1
-  Back K Γ h l G = (u : Val) (g : Standing) → g ≡ stepAt (now (h .file)) (h .place) .standing → Is F.the-row g (u ∷ []) → Seq K W (‵ (partAt (B κ) fullShare (moved h) l 0) ∷ ‵ (flft κ q) ∷ Γ) (G u)
+  Back K Γ h l G = (u : Val) (g : Standing) → g ≡ handing (now (h .file)) (h .place) .standing → Is F.the-row g (u ∷ []) → Seq K W (‵ (partAt (B κ) fullShare (moved h) l 0) ∷ ‵ (flft κ q) ∷ Γ) (G u)
 
   module _ {K : Type 0} {Γ : List (Item 𝓤)} where
     -- the reader is lent
@@ -125,7 +125,7 @@ module _ {M : Type 1} (𝓤 : URA M) (H : Heap 𝓤) (A : Atoms 𝓤) (W : Given
 
     -- and comes back moved on, beside what stands
     comes-back : K → {G : Goal 𝓤 H} → Soaks G → (a l : ℕ) (δ : GName) (h : Reader) (u : Val)
-        → ((g : Standing) → g ≡ stepAt (now (h .file)) (h .place) .standing → Is F.the-row g (u ∷ []) → Seq K W (‵ (partAt (B κ) fullShare (moved h) l 0) ∷ ‵ (flft κ q) ∷ Γ) G)
+        → ((g : Standing) → g ≡ handing (now (h .file)) (h .place) .standing → Is F.the-row g (u ∷ []) → Seq K W (‵ (partAt (B κ) fullShare (moved h) l 0) ∷ ‵ (flft κ q) ∷ Γ) G)
         → Seq K W (raw (Next 𝓤 H A mem′ run .post (to a l δ h) u) ∷ Held a l δ ∷ Way a ∷ Γ) G
     comes-back t z a l δ h u k =
         use1 W (later (some (λ (g : Standing). ((‵ (flft (a ∷ κ) Rq) ⊛ (‵ (flft κ Lq) ⊛ ‵ ftrue)) ⊛ ‵ (F.the-row .own g (u ∷ []))) ⊛ raw (ensured 𝓤 H A next.ended (next.clauses 𝓤 H A mem′ run) (a ∷ κ, (κ, tt)) (x l δ h, tt) tt g)))) (id⊢ 𝓤 _) $ await t z $ pick t (λ g.

@@ -9,41 +9,44 @@ use denote.Ref.{RefT, now}
 use Rattle.xm.specs.Number.{Bytes}
 use Rattle.xm.specs.Got.{Got, got, refused, Refusal}
 use Rattle.xm.specs.Format.{Kind, Region, patternHeader, instrument, sampleHeader, sampleData, joined}
-use Rattle.xm.specs.Answer.{numbers, answered}
+use Rattle.xm.specs.Answer.{Answer, numbers, answered}
 use Rattle.xm.specs.PatternInFile.{patternFormat}
 use Rattle.xm.specs.Sample.{stretchRegion}
 use Rattle.xm.specs.Instrument.{InstrumentFound, instrumentFormat}
 use Rattle.xm.specs.Module.{Found, moduleFormat, readFile}
 use Rattle.xm.specs.Asking.{Lies}
 use Rattle.xm.specs.Table.{InstrumentRow, SampleRow, patternRow, patternRows, instrumentRows, sampleRows, checkedAs, checking}
-use Rattle.xm.specs.Structure.{structures, reading, readUpTo, placeAfter}
+use Rattle.xm.specs.Structure.{structures, reading, Ahead, started, called, readOn, readFor}
 use Rattle.xm.specs.Demands.{ofKind, regionAt, ReaderHandsOver}
-use Rattle.xm.proofs.Got.{no-true}
 use Rattle.xm.proofs.Format.{cons-path}
 use Rattle.xm.proofs.Structure.{readers-tell}
 use Rattle.xm.proofs.Accepted.{accepted-files}
 use Rattle.refusal.specs.Fault.{faultOf}
-use Rattle.tables.specs.Standing.{kindAt, standingOf}
-use Rattle.tables.specs.declared.standing.Standing.{Standing}
-use Rattle.tables.specs.declared.standing.Standing.the-variants.{Pattern, Instrument, SampleHeader, End, Refused}
+use Rattle.structures.specs.Handing.{kindAt, standingOf, reachedOf, reachedIn}
+use Rattle.structures.specs.declared.Reached.{Reached}
+use Rattle.structures.specs.declared.Standing.{Standing}
+use Rattle.structures.specs.declared.Standing.the-variants.{End, Refused}
+use Rattle.structures.proofs.Calls.{reached-back}
 use Rattle.tables.proofs.IntoLaws.{Counted, rows-counted}
 use Rattle.reader.specs.declared.Reader.{Reader}
 use Rattle.reader.specs.declared.count.Counted as answer
-use Rattle.reader.specs.Step.{pastStanding}
 use Rattle.reader.specs.Count.{countsOf, handsOver, counting, countedOf, countedNumbers, countResults}
-use Rattle.reader.proofs.StepLaws.{past-reading}
-use Rattle.reader.proofs.CountLaws.{kind-count}
+use Rattle.reader.proofs.CountLaws.{kind-count, hand-none}
 
 -- What `next` promises of a reader, of its answer and of the reader after it
 abbrev pub Called : Reader → Standing → Reader → Type 0
 Called r answer r′ =
-    (answer ≡ standingOf (reading (now (r .file)) (r .place))) × (r′ .file ≡ r .file) × (r′ .place ≡ readUpTo (r .place) (reading (now (r .file)) (r .place)))
+    (answer ≡ standingOf (called (now (r .file)) (reachedIn (r .place)))) × (r′ .file ≡ r .file) × (r′ .place ≡ reachedOf (readOn (now (r .file)) (reachedIn (r .place))))
+
+-- and `from_start`
+abbrev pub Started : RefT (List ℕ) → Reader → Type 0
+Started file r = (r .file ≡ file) × (r .place ≡ reachedOf (started (now file)))
 
 same-reader : {a b : Reader} → a .file ≡ b .file → a .place ≡ b .place → a ≡ b
 same-reader e p = λ i. record { file = e i; place = p i }
 
 -- No second answer fits, nor another reader after it
-pub start-once : (file : RefT (List ℕ)) (r other : Reader) → (r .file ≡ file) × (r .place ≡ 0) → (other .file ≡ file) × (other .place ≡ 0) → r ≡ other
+pub start-once : (file : RefT (List ℕ)) (r other : Reader) → Started file r → Started file other → r ≡ other
 start-once file r other c d = same-reader (c .0 ∙ sym (d .0)) (c .1 ∙ sym (d .1))
 
 pub next-once : (r r′ r″ : Reader) (answer other : Standing) → Called r answer r′ → Called r other r″ → (answer ≡ other) × (r′ ≡ r″)
@@ -52,49 +55,53 @@ next-once r r′ r″ answer other c d = (c .0 ∙ sym (d .0), same-reader (c .1
 pub counted-once : (file : List ℕ) {answer other : answer.Counted} → answer ≡ countedOf (counting file) → other ≡ countedOf (counting file) → answer ≡ other
 counted-once file met e = met ∙ sym e
 
--- A call that hands over no structure leaves the reader as it was
-none-past : (place : ℕ) (answer : Standing) → handsOver answer ≡ false → pastStanding place answer ≡ place
-none-past place (Pattern at) h = absurd (no-true (sym h))
-none-past place (Instrument at) h = absurd (no-true (sym h))
-none-past place (SampleHeader at) h = absurd (no-true (sym h))
-none-past place End h = refl
-none-past place (Refused fault) h = refl
-
+-- A call that hands over no structure leaves the reader as it was, whatever its place
 pub next-stays : (r r′ : Reader) (answer : Standing) → Called r answer r′ → handsOver answer ≡ false → r′ ≡ r
-next-stays r r′ answer c h =
-    same-reader (c .1) (c .2 ∙ sym (past-reading (now (r .file)) (r .place)) ∙ ap (pastStanding (r .place)) (sym (c .0)) ∙ none-past (r .place) answer h)
-
--- On a refused file each call gives the check's refusal, wherever the reader stands
-pub next-refuses : (r r′ : Reader) (answer : Standing) → Called r answer r′ → (x : Refusal) → readFile (now (r .file)) ≡ refused x → answer ≡ Refused (faultOf x)
-next-refuses r r′ answer c x e = c .0 ∙ ap standingOf (readers-tell .refuses-so (now (r .file)) x (r .place) e)
+next-stays r r′ answer c h = same-reader (c .1) (c .2 ∙ hand-none (now (r .file)) (r .place) (ap handsOver (sym (c .0)) ∙ h))
 
 -- A reader from the start, and so many calls of it: the readers before and after them, and the answers
 pub record ReadFor (file : RefT (List ℕ)) (calls : ℕ) (reader : ℕ → Reader) (answer : ℕ → Standing) : Type 0 where
-  pub starts : (reader 0 .file ≡ file) × (reader 0 .place ≡ 0)
+  pub starts : Started file (reader 0)
   pub called : (n : ℕ) → n < calls → Called (reader n) (answer n) (reader (suc n))
 
 module _ {file : RefT (List ℕ)} {calls : ℕ} {reader : ℕ → Reader} {answer : ℕ → Standing} (w : ReadFor file calls reader answer) where
-  stands : (n : ℕ) → n ≤ calls → (reader n .file ≡ file) × (reader n .place ≡ placeAfter (now file) n)
+  stands : (n : ℕ) → n ≤ calls → (reader n .file ≡ file) × (reader n .place ≡ reachedOf (readFor (now file) n))
   stands zero l = w .starts
   stands (suc n) l =
       let c = w .called n (omega arith) in
+      let s = stands n (omega arith) in (
+        c .1 ∙ s .0,
+        c .2
+            ∙ ap₂ (λ (f : RefT (List ℕ)) (place : Reached). reachedOf (readOn (now f) (reachedIn place))) (s .0) (s .1)
+            ∙ ap (λ (x : Answer Ahead). reachedOf (readOn (now file) x)) (reached-back (readFor (now file) n)),
+      )
+
+  -- Each call gives what the definition says of its number
+  pub answers : Bytes (now file) → (n : ℕ) → n < calls → answer n ≡ standingOf (reading (now file) n)
+  answers plain n l =
       let s = stands n (omega arith) in
-      (c .1 ∙ s .0, c .2 ∙ ap₂ (λ (f : RefT (List ℕ)) (place : ℕ). readUpTo place (reading (now f) place)) (s .0) (s .1))
+      w .called n l .0
+      ∙ ap₂ (λ (f : RefT (List ℕ)) (place : Reached). standingOf (called (now f) (reachedIn place))) (s .0) (s .1)
+      ∙ ap (λ (x : Answer Ahead). standingOf (called (now file) x)) (reached-back (readFor (now file) n))
+      ∙ ap standingOf (readers-tell .by-number (now file) plain n)
 
-  answers : (n : ℕ) → n < calls → answer n ≡ standingOf (reading (now file) (placeAfter (now file) n))
-  answers n l =
-      let s = stands n (omega arith) in w .called n l .0 ∙ ap₂ (λ (f : RefT (List ℕ)) (place : ℕ). standingOf (reading (now f) place)) (s .0) (s .1)
+  -- On a refused file that is the check's refusal
+  pub refuses : Bytes (now file) → (x : Refusal) → readFile (now file) ≡ refused x → (n : ℕ) → n < calls → answer n ≡ Refused (faultOf x)
+  refuses plain x e n l = answers plain n l ∙ ap standingOf (sym (readers-tell .by-number (now file) plain n) ∙ readers-tell .refuses-so (now file) x n e)
 
-  -- The calls hand over the first structures of the definition's list; after the last, the end for ever
+  -- The calls hand over the first structures of the definition's list, none left out; after the last, the end for ever
   module _ (found : Found) (end : ℕ) (plain : Bytes (now file)) (reads : readFile (now file) ≡ got found end) (n : ℕ) (l : n < calls) where
     tell : ReaderHandsOver (now file) found
     tell = readers-tell .hands-over (now file) found end plain reads
 
+    told : answer n ≡ standingOf (called (now file) (readFor (now file) n))
+    told = answers plain n l ∙ ap standingOf (sym (readers-tell .by-number (now file) plain n))
+
     pub hands-over : n < length (structures found) → answer n ≡ kindAt (regionAt (structures found) n .kind) (regionAt (structures found) n .place)
-    hands-over h = answers n l ∙ ap standingOf (tell .each-one n h)
+    hands-over h = told ∙ ap standingOf (tell .each-one n h)
 
     pub ends : length (structures found) ≤ n → answer n ≡ End
-    ends h = answers n l ∙ ap standingOf (tell .end-then n h)
+    ends h = told ∙ ap standingOf (tell .end-then n h)
 
 -- The numbers counted are those that the check reports
 each-count : {A : Type 0} (kind : Kind) (f : A → List Region) (m : ℕ) → ((x : A) → length (ofKind kind (f x)) ≡ m) → (xs : List A) → length (ofKind kind (joined f xs)) ≡ m * length xs

@@ -1,32 +1,33 @@
 -- The structures counted one by one, as a reader from the start hands them over. Assumes nothing.
 use Prim.Native.Nat.{ℕ, zero, suc, _+_, _≤_, _<_, _^_}
-use mathlib.Core.Bool.{Bool, true, false, cond}
+use mathlib.Core.Bool.{true, false}
 use mathlib.Core.List.{List, [], _∷_, _++_}
-use mathlib.Core.Path.{_≡_, refl, sym, ap, _∙_, subst}
+use mathlib.Core.Path.{_≡_, refl, sym, ap, _∙_}
 use native.Mathlib.Omega.{arith}
-use lib.Dec.{leb}
-use borrow.Author.Tests.{leb-true}
 use lib.ListN.{length, take, length-append}
 use Rattle.xm.specs.Number.{Bytes}
 use Rattle.xm.specs.Got.{Got, got, refused}
 use Rattle.xm.specs.Format.{Kind, Region, header, patternHeader, patternData, instrument, sampleHeader, sampleData, All}
-use Rattle.xm.specs.Answer.{Answer, gives, answered}
+use Rattle.xm.specs.Answer.{Answer, gives}
 use Rattle.xm.specs.Module.{Found, moduleFormat, readFile}
-use Rattle.xm.specs.Structure.{isStructure, structures, standingAt, reading, readUpTo, placeAfter}
+use Rattle.xm.specs.Structure.{isStructure, structures, Ahead, handOver, started, called, readOn, readFor}
 use Rattle.xm.specs.Structure as structure
 use Rattle.xm.specs.Demands.{ofKind, regionAt, ReaderHandsOver}
 use Rattle.xm.proofs.Got.{no-true}
 use Rattle.xm.proofs.Answer.{answer-gives, answer-refuses}
 use Rattle.xm.proofs.Format.{cons-path}
 use Rattle.xm.proofs.Region.{kind-append}
-use Rattle.xm.proofs.Structure.{readers-tell}
+use Rattle.xm.proofs.Structure.{hand-stays, readers-tell}
 use Rattle.tables.specs.Accepted.{listIn}
-use Rattle.tables.specs.Standing.{kindAt, standingOf}
-use Rattle.tables.specs.declared.standing.Standing.{Standing}
-use Rattle.tables.proofs.StandingLaws.{OfStanding, IsStructure, all-structures}
+use Rattle.structures.specs.Handing.{kindAt, standingIn, standingOf, aheadOf, aheadIn, reachedOf, reachedIn, handing}
+use Rattle.structures.specs.declared.Reached.{Reached}
+use Rattle.structures.specs.declared.Reached.the-variants as reached
+use Rattle.structures.specs.declared.Standing.{Standing}
+use Rattle.structures.specs.declared.Standing.the-variants.{End}
+use Rattle.structures.proofs.FewLaws.{structures-few}
+use Rattle.structures.proofs.Calls.{OfStanding, IsStructure, all-structures, hand-kind, reached-back}
 use Rattle.reader.specs.declared.count.Counts.{Counts}
 use Rattle.reader.specs.Count.{countsOf, handsOver, oneMore, endsAs, counting, countedOf}
-use Rattle.reader.proofs.StepLaws.{OfReading, Inside, all-inside}
 
 -- Lists
 take-next : (rs : List Region) (i : ℕ) → i < length rs → take (suc i) rs ≡ take i rs ++ (regionAt rs i ∷ [])
@@ -92,27 +93,29 @@ counts-few rs zero = omega arith
 counts-few [] (suc i) = omega arith
 counts-few (r ∷ rs) (suc i) = omega (arith, total-more (r .kind) (r .place) (r .size) (take i rs), counts-few rs i)
 
--- A reader goes up: what it hands over stands where it is or after it
-standing-after : (place : ℕ) (rs : List Region) → OfStanding (λ (r : Region). place ≤ r .place) (standingAt place rs)
-standing-after place [] = tt
-standing-after place (r ∷ rs) = go (leb place (r .place)) refl (standing-after place rs)
-  where
-    go : (t : Bool) → leb place (r .place) ≡ t → OfStanding (λ (x : Region). place ≤ x .place) (standingAt place rs)
-        → OfStanding (λ (x : Region). place ≤ x .place) (cond t (structure.stands r) (standingAt place rs))
-    go true e w = leb-true place (r .place) e
-    go false e w = w
+-- A call that hands over no structure: how far has been read stays
+hand-none-of : (file : List ℕ) (a : Ahead) (s : structure.Standing) → handOver file a .standing ≡ s → OfStanding IsStructure s → handsOver (standingIn s) ≡ false → handOver file a .ahead ≡ a
+hand-none-of file a (structure.stands kind place) e k h = absurd (no-true (sym h ∙ hands-kind kind place k))
+hand-none-of file a structure.ended e k h = hand-stays file a e
 
-reading-after : (file : List ℕ) (place : ℕ) → OfReading (λ (r : Region). place ≤ r .place) (reading file place)
-unfolding reading
-reading-after file place = go (readFile file)
-  where
-    go : (g : Got Found) → OfReading (λ (r : Region). place ≤ r .place) (answered (λ found end. standingAt place (structures found)) g)
-    go (got found end) = standing-after place (structures found)
-    go (refused r) = tt
+pub hand-none : (file : List ℕ) (x : Reached) → handsOver (standingOf (called file (reachedIn x))) ≡ false → reachedOf (readOn file (reachedIn x)) ≡ x
+hand-none file (reached.Within a) h = ap (λ (b : Ahead). reached.Within (aheadOf b)) (hand-none-of file (aheadIn a) (handOver file (aheadIn a) .standing) refl (hand-kind file (aheadIn a)) h)
+hand-none file (reached.Refused fault) h = refl
 
--- What a reader from the start hands over after i calls
+-- How far a reader from the start has read after i calls, and what it hands over then
+abbrev pub placeAfter : (file : List ℕ) (i : ℕ) → Reached
+placeAfter file zero = reachedOf (started file)
+placeAfter file (suc i) = handing file (placeAfter file i) .reached
+
 abbrev pub standAfter : (file : List ℕ) (i : ℕ) → Standing
-standAfter file i = standingOf (reading file (placeAfter file i))
+standAfter file i = handing file (placeAfter file i) .standing
+
+place-after : (file : List ℕ) (i : ℕ) → placeAfter file i ≡ reachedOf (readFor file i)
+place-after file zero = refl
+place-after file (suc i) = ap (λ (x : Reached). handing file x .reached) (place-after file i) ∙ ap (λ (x : Answer Ahead). reachedOf (readOn file x)) (reached-back (readFor file i))
+
+stand-after : (file : List ℕ) (i : ℕ) → standAfter file i ≡ standingOf (called file (readFor file i))
+stand-after file i = ap (λ (x : Reached). handing file x .standing) (place-after file i) ∙ ap (λ (x : Answer Ahead). standingOf (called file x)) (reached-back (readFor file i))
 
 -- A reader that is run to the end, where these are the structures
 pub record Running (file : List ℕ) (rs : List Region) : Type 0 where
@@ -129,29 +132,27 @@ module _ (file : List ℕ) (plain : Bytes file) (found : Found) (end : ℕ) (rea
   tell : ReaderHandsOver file found
   tell = readers-tell .hands-over file found end plain reads
 
-  is-structure : (i : ℕ) → i < length rs → IsStructure (regionAt rs i)
-  is-structure i l = all-at IsStructure rs i (all-structures (moduleFormat .regions found)) l
+  is-structure : (i : ℕ) → i < length rs → IsStructure (regionAt rs i .kind)
+  is-structure i l = all-at (λ (r : Region). IsStructure (r .kind)) rs i (all-structures (moduleFormat .regions found)) l
 
-  climbs : (i : ℕ) → i < length rs → i ≤ regionAt rs i .place
-  climbs zero l = omega arith
-  climbs (suc i) l =
-      let here : placeAfter file (suc i) ≡ regionAt rs i .place + 1 = ap (readUpTo (placeAfter file i)) (tell .each-one i (omega arith)) in
-      let ahead : placeAfter file (suc i) ≤ regionAt rs (suc i) .place =
-      subst (OfReading (λ (r : Region). placeAfter file (suc i) ≤ r .place)) (tell .each-one (suc i) l) (reading-after file (placeAfter file (suc i))) in
-      omega (arith, here, ahead, climbs i (omega arith))
+  stands-for : (i : ℕ) → i < length rs → standAfter file i ≡ kindAt (regionAt rs i .kind) (regionAt rs i .place)
+  stands-for i l = stand-after file i ∙ ap standingOf (tell .each-one i l)
+
+  stands-last : standAfter file (length rs) ≡ End
+  stands-last = stand-after file (length rs) ∙ ap standingOf (tell .end-then (length rs) (omega arith))
 
   accepted-runs : Running file rs
   unfolding counting
   accepted-runs = record {
-    goes-on = λ i l. ap (λ (answer : Answer structure.Standing). handsOver (standingOf answer)) (tell .each-one i l) ∙ hands-kind (regionAt rs i .kind) (regionAt rs i .place) (is-structure i l);
+    goes-on = λ i l. ap handsOver (stands-for i l) ∙ hands-kind (regionAt rs i .kind) (regionAt rs i .place) (is-structure i l);
     counts-on = λ i l.
-        ap (λ (answer : Answer structure.Standing). oneMore (countsOf (take i rs)) (standingOf answer)) (tell .each-one i l)
+        ap (oneMore (countsOf (take i rs))) (stands-for i l)
         ∙ counts-one (countsOf (take i rs)) (regionAt rs i .kind) (regionAt rs i .place) (regionAt rs i .size) (is-structure i l)
         ∙ sym (ap countsOf (take-next rs i l) ∙ counts-append (take i rs) (regionAt rs i ∷ []));
-    fits = λ i l. omega (arith, counts-few rs i, climbs i l, all-at Inside rs i (all-inside file plain found end reads) l);
-    stops = ap (λ (answer : Answer structure.Standing). handsOver (standingOf answer)) (tell .end-then (length rs) (omega arith));
+    fits = λ i l. omega (arith, counts-few rs i, structures-few file found end plain reads);
+    stops = ap handsOver stands-last;
     counted =
-        ap (λ (answer : Answer structure.Standing). endsAs (countsOf (take (length rs) rs)) (standingOf answer)) (tell .end-then (length rs) (omega arith))
+        ap (endsAs (countsOf (take (length rs) rs))) stands-last
         ∙ ap (λ (xs : List Region). countedOf (gives (countsOf xs))) (take-whole rs)
         ∙ sym (ap countedOf (answer-gives _ reads));
   }
@@ -163,11 +164,11 @@ running file plain = go (readFile file) refl
     go : (g : Got Found) → readFile file ≡ g → Running file (listIn structures g)
     go (got found end) e = accepted-runs file plain found end e
     go (refused r) e =
-        let told = readers-tell .refuses-so file r 0 e in
+        let told = stand-after file 0 ∙ ap standingOf (readers-tell .refuses-so file r 0 e) in
         record {
           goes-on = λ i l. absurd (omega arith);
           counts-on = λ i l. absurd (omega arith);
           fits = λ i l. absurd (omega arith);
-          stops = ap (λ (answer : Answer structure.Standing). handsOver (standingOf answer)) told;
-          counted = ap (λ (answer : Answer structure.Standing). endsAs (countsOf []) (standingOf answer)) told ∙ sym (ap countedOf (answer-refuses _ e));
+          stops = ap handsOver told;
+          counted = ap (endsAs (countsOf [])) told ∙ sym (ap countedOf (answer-refuses _ e));
         }

@@ -1,4 +1,3 @@
-pub mod StepLaws
 pub mod CountLaws
 pub mod Calls
 pub mod KnownBytes

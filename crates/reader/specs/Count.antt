@@ -10,9 +10,9 @@ use Rattle.xm.specs.Table.{Checked, checkResults}
 use Rattle.xm.specs.Structure.{structures}
 use Rattle.xm.specs.Demands.{ofKind}
 use Rattle.refusal.specs.Fault.{faultOf}
-use Rattle.tables.specs.declared.standing.Standing.{Standing}
-use Rattle.tables.specs.declared.standing.Standing.the-variants.{Pattern, Instrument, SampleHeader, End}
-use Rattle.tables.specs.declared.standing.Standing.the-variants as standing
+use Rattle.structures.specs.declared.Standing.{Standing}
+use Rattle.structures.specs.declared.Standing.the-variants.{Pattern, Instrument, SampleHeader, End}
+use Rattle.structures.specs.declared.Standing.the-variants as standing
 use Rattle.reader.specs.declared.count.Counts.{Counts}
 use Rattle.reader.specs.declared.count.Counted.{Counted}
 use Rattle.reader.specs.declared.count.Counted.the-variants as counted

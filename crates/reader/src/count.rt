@@ -2,7 +2,7 @@
 use crate::from_start;
 use crate::next;
 use refusal::Fault;
-use tables::standing::Standing;
+use structures::Standing;
 ghost use mathlib.Core.Path.{_≡_};
 ghost use mathlib.Core.List.{[]};
 ghost use Prim.Native.Nat.{_+_, _<_, _^_};

@@ -10,7 +10,7 @@ use lib.Seq.{getD-drop, take-take, drop-drop, length-take-le}
 use Rattle.xm.specs.Number.{Bytes, byteAt, signed}
 use Rattle.xm.specs.Got.{Got, got, refused, _>>=_, _>>_, checked, _at_}
 use Rattle.xm.specs.Format.{each}
-use Rattle.xm.specs.Sample.{leastHead, headBytes, dataSize, Stretch, readHead, readData, headFormat, dataFormat, SamplesFound, samplesFormat}
+use Rattle.xm.specs.Sample.{leastHead, headBytes, dataSize, Stretch, readHead, readData, headFormat, dataFormat, SamplesFound, samplesFormat, sizeOfFirst}
 use Rattle.xm.proofs.Number.{bytes-drop, Agree, agree-byte, agree-long}
 use Rattle.xm.proofs.Got.{pass, step, test-holds, test-fails, step-refused, passed, bind-got, got-value, got-used, got-carry}
 use Rattle.xm.proofs.Format.{cons-path, many-keeps, read-length}
@@ -21,7 +21,7 @@ use Rattle.refusal.specs.declared.Fault.{Fault}
 use Rattle.steps.specs.Number.{Byte, Long}
 use Rattle.steps.specs.Test.{firstFault}
 use Rattle.steps.specs.Sample.{HeadAt, headTestsOf, headsFrom}
-use Rattle.steps.specs.Step.{placeStep, headSize}
+use Rattle.steps.specs.Step.{placeStep}
 use Rattle.steps.specs.declared.sample.SampleHead.{SampleHead}
 use Rattle.steps.specs.declared.sample.PlaceStep.{PlaceStep}
 use Rattle.steps.specs.declared.sample.PlaceStep.the-variants.{Next, Refused}
@@ -246,12 +246,12 @@ data-written (h ∷ hs) place s ds n e =
     got-carry (λ (r : List Stretch) (u : ℕ). length (each dataFormat .write (each dataFormat .view r)) ≡ u) e₂
     (rw length-append (omega (arith, one, got-used ei, data-written hs (place + k) (drop k s) js m ej)))
 
-first-size : (count size place : ℕ) (s : List ℕ) (is : List Stretch) (n : ℕ) → each headFormat .read (replicate (suc count) size) place s ≡ got is n → headSize is ≡ size
+first-size : (count size place : ℕ) (s : List ℕ) (is : List Stretch) (n : ℕ) → each headFormat .read (replicate (suc count) size) place s ≡ got is n → sizeOfFirst is ≡ size
 unfolding readHead
 first-size count size place s is n e =
     bind-got _ _ e λ i k ei e₁. bind-got _ _ e₁ λ js m ej e₂.
     passed _ _ ei λ h ei.
-    got-carry (λ (r : List Stretch) (u : ℕ). headSize r ≡ size) e₂ (ap Stretch.size (sym (got-value ei)))
+    got-carry (λ (r : List Stretch) (u : ℕ). sizeOfFirst r ≡ size) e₂ (ap Stretch.size (sym (got-value ei)))
 
 pub samples-counted : (count size place : ℕ) (s : List ℕ) (v : SamplesFound) (n : ℕ) → samplesFormat .read (replicate count size) place s ≡ got v n → length (v .0) ≡ count
 samples-counted count size place s v n e =
@@ -259,7 +259,7 @@ samples-counted count size place s v n e =
     got-carry (λ (r : SamplesFound) (u : ℕ). length (r .0) ≡ count) e₂ (read-length headFormat (replicate count size) place s hs m eh ∙ length-replicate count size)
 
 pub record SamplesSize (count size : ℕ) (v : SamplesFound) (n : ℕ) : Type 0 where
-  pub first : 1 ≤ count → headSize (v .0) ≡ size
+  pub first : 1 ≤ count → sizeOfFirst (v .0) ≡ size
   pub heads : count * size ≤ n
   pub written : length (samplesFormat .write (samplesFormat .view v)) + count * size ≡ count * leastHead + n
 
@@ -275,6 +275,6 @@ samples-size count size place s v n l e =
       written = rw length-append (omega (arith, used, heads-written count size place s hs m l eh, data-written (each headFormat .view hs) (place + m) (drop m s) ds k ed));
     })
   where
-    one : (count : ℕ) {hs : List Stretch} {m : ℕ} → each headFormat .read (replicate count size) place s ≡ got hs m → 1 ≤ count → headSize hs ≡ size
+    one : (count : ℕ) {hs : List Stretch} {m : ℕ} → each headFormat .read (replicate count size) place s ≡ got hs m → 1 ≤ count → sizeOfFirst hs ≡ size
     one zero e h = absurd (omega arith)
     one (suc count) e h = first-size count size place s _ _ e

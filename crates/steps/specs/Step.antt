@@ -1,7 +1,7 @@
 -- What each step answers: of a reading that was accepted, what the walk needs of it; of one that was refused, the refusal.
 use Prim.Native.Nat.{ℕ, _+_, _<_}
 use mathlib.Core.Bool.{cond}
-use mathlib.Core.List.{List, [], _∷_}
+use mathlib.Core.List.{List}
 use mathlib.Core.Path.{_≡_}
 use lib.Dec.{eqb}
 use lib.ListN.{length}
@@ -10,7 +10,7 @@ use Rattle.xm.specs.Got.{Got, got, refused}
 use Rattle.xm.specs.Stored.{standardRows, writeStored}
 use Rattle.xm.specs.Header.{HeaderFound}
 use Rattle.xm.specs.PatternInFile.{PatternFound}
-use Rattle.xm.specs.Sample.{Stretch, SamplesFound, samplesFormat}
+use Rattle.xm.specs.Sample.{SamplesFound, sizeOfFirst, samplesFormat}
 use Rattle.xm.specs.Instrument.{leastInstrument, InstrumentFound, instrumentView, writeInstrument}
 use Rattle.xm.specs.Table.{sampleCount}
 use Rattle.refusal.specs.Fault.{faultOf}
@@ -63,16 +63,12 @@ abbrev pub placeStep : {A : Type 0} → (place : ℕ) → Got A → PlaceStep
 placeStep place (got a used) = sample.Next (place + used)
 placeStep place (refused r) = sample.Refused (faultOf r)
 
--- An instrument; and its samples, after fields of so many bytes that count so many of them. H is 0 if there are none.
-abbrev pub headSize : (heads : List Stretch) → ℕ
-headSize [] = 0
-headSize (h ∷ hs) = h .size
-
+-- An instrument; and its samples, after fields of so many bytes that count so many of them.
 abbrev pub instrumentStep : (place : ℕ) → Got InstrumentFound → InstrumentStep
 instrumentStep place (got i used) = instrument.Read (record {
   size = i .size;
   samples = sampleCount i;
-  «head_size» = headSize (i .samples .0);
+  «head_size» = sizeOfFirst (i .samples .0);
   pressed = length (writeInstrument (instrumentView i));
   next = place + used;
 })
@@ -82,7 +78,7 @@ abbrev pub tailStep : (place size count : ℕ) → Got SamplesFound → Instrume
 tailStep place size count (got v used) = instrument.Read (record {
   size = size;
   samples = count;
-  «head_size» = headSize (v .0);
+  «head_size» = sizeOfFirst (v .0);
   pressed = leastInstrument count + length (samplesFormat .write (samplesFormat .view v));
   next = place + used;
 })

@@ -1,5 +1,4 @@
--- What holds of every answer and memory that meet the contracts of the check with tables, of the calls about a sample and of what stands
--- at a place. Assumes nothing.
+-- What holds of every answer and memory that meet the contracts of the check with tables and of the calls about a sample. Assumes nothing.
 use Prim.Native.Nat.{ℕ, zero, suc, _+_, _*_, _≤_, _<_}
 use mathlib.Core.List.{List, [], _∷_}
 use mathlib.Core.Path.{_≡_, refl, sym, ap, _∙_}
@@ -16,7 +15,6 @@ use Rattle.xm.specs.Delta.{decoding, valuesOf}
 use Rattle.xm.specs.Press.{contentOf}
 use Rattle.xm.specs.Table.{PatternRow, SampleRow, patternRows, sampleRows, Checked, checkIntoNumbers, checkingInto, patternStride, sampleStride, patternNumbers, sampleNumbers, Tables, Room, roomOf, tablesAfter}
 use Rattle.xm.specs.Asking.{Lies, stretchOf, askingFlat, askNumbers, noRow}
-use Rattle.xm.specs.Structure.{reading}
 use Rattle.xm.specs.Demands.{RowUnpacks, RowsUnpack, RowDecodes, RowsDecode, AcceptedFile, liesAt}
 use Rattle.xm.proofs.Accepted.{accepted-files, number-at}
 use Rattle.refusal.specs.declared.Fault.{Fault}
@@ -26,10 +24,7 @@ use Rattle.walk.specs.File.{verdictOf, verdictNumbers}
 use Rattle.walk.proofs.Calls.{verdict-numbers}
 use Rattle.tables.specs.declared.ask.Asked.{Asked}
 use Rattle.tables.specs.Ask.{askedOf, askedNumbers}
-use Rattle.tables.specs.declared.standing.Standing.{Standing}
-use Rattle.tables.specs.Standing.{standingOf, standingNumbers, readingNumbers}
 use Rattle.tables.proofs.IntoLaws.{into-accepted}
-use Rattle.tables.proofs.StandingLaws.{reading-numbers}
 
 -- The numbers are the paper's
 pub into-numbers : (room : Room) (file : List ℕ) {answer : Verdict} → answer ≡ verdictOf (checkingInto room file) → verdictNumbers answer ≡ checkIntoNumbers room file
@@ -41,9 +36,6 @@ asked-same (refuses r) = refl
 
 pub asked-numbers : (file table : List ℕ) (number : ℕ) {answer : Asked} → answer ≡ askedOf (askingFlat file table number) → askedNumbers answer ≡ askNumbers (askingFlat file table number)
 asked-numbers file table number met = ap askedNumbers met ∙ asked-same (askingFlat file table number)
-
-pub standing-numbers : (file : List ℕ) (place : ℕ) {answer : Standing} → answer ≡ standingOf (reading file place) → standingNumbers answer ≡ readingNumbers (reading file place)
-standing-numbers file place met = ap standingNumbers met ∙ reading-numbers file place
 
 -- No second answer fits, nor other tables
 pub into-once : (room : Room) (file : List ℕ) {answer other : Verdict} → answer ≡ verdictOf (checkingInto room file) → other ≡ verdictOf (checkingInto room file) → answer ≡ other
@@ -61,9 +53,6 @@ stretch-once file asked met e = met ∙ sym e
 
 pub refusal-once : (asked : Answer Lies) {number other : ℕ} → number ≡ numberOf asked → other ≡ numberOf asked → number ≡ other
 refusal-once asked met e = met ∙ sym e
-
-pub standing-once : (file : List ℕ) (place : ℕ) {answer other : Standing} → answer ≡ standingOf (reading file place) → other ≡ standingOf (reading file place) → answer ≡ other
-standing-once file place met e = met ∙ sym e
 
 -- A refused check leaves the tables as they were
 refused-tables : (answer : Answer Checked) (lent : Tables) {fault : Fault} → Refused fault ≡ verdictOf answer → tablesAfter answer lent ≡ lent

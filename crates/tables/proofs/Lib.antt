@@ -8,6 +8,4 @@ pub mod FillLaws
 pub mod VerdictLaws
 pub mod IntoLaws
 pub mod AskLaws
-pub mod StandingLaws
-pub mod StandingLoops
 pub mod Calls

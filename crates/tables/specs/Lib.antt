@@ -3,4 +3,3 @@ pub mod Place
 pub mod Sought
 pub mod Into
 pub mod Ask
-pub mod Standing

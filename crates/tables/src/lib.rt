@@ -1,9 +1,8 @@
-// The tables of an accepted file, filled in a second pass; a sample asked for by number; and the structures by their places.
+// The tables of an accepted file, filled in a second pass; and a sample asked for by number.
 pub mod ask;
 pub mod fill;
 pub mod place;
 pub mod sample;
-pub mod standing;
 
 use fill::INSTRUMENT_STRIDE;
 use fill::PATTERN_STRIDE;

@@ -10,7 +10,7 @@ use borrow.Rule.Slice.PartMut.{putMid}
 use Rattle.xm.specs.Number.{Bytes, byteAt, wordAt, longAt, part, byte, word, long}
 use Rattle.xm.specs.Got.{Got, got, refused, _>>=_, AllHold}
 use Rattle.xm.specs.Format.{each, flat}
-use Rattle.xm.specs.Sample.{leastHead, Stretch, readData, headFormat, dataFormat, SamplesFound, samplesFormat}
+use Rattle.xm.specs.Sample.{leastHead, Stretch, readData, headFormat, dataFormat, SamplesFound, samplesFormat, sizeOfFirst}
 use Rattle.xm.specs.Instrument.{leastInstrument, samplesMost, voiceFrom, voiceSize, instrumentTests, InstrumentFound, voiceOf, readInstrument, writeVoice, instrumentView, writeInstrument, instrumentFormat}
 use Rattle.xm.proofs.Number.{bytes-drop}
 use Rattle.xm.proofs.Got.{passed, bind-got, got-value, got-used, got-carry}
@@ -21,7 +21,7 @@ use Rattle.xm.specs.Answer.{inFront}
 use Rattle.xm.proofs.Lay.{Laid, laid-none, laid-done}
 use Rattle.shortest.specs.Found.{rewritten}
 use Rattle.steps.specs.Sample.{headsFrom}
-use Rattle.steps.specs.Step.{headSize, instrumentStep}
+use Rattle.steps.specs.Step.{instrumentStep}
 use Rattle.steps.specs.declared.instrument.InstrumentPart.{InstrumentPart}
 use Rattle.steps.specs.declared.instrument.InstrumentStep.{InstrumentStep}
 use Rattle.steps.specs.declared.instrument.InstrumentStep.the-variants.{Read, Refused}
@@ -114,7 +114,7 @@ module _ (file : List ℕ) (place : ℕ) where
     used : ℕ
     tests : AllHold (instrumentTests place from)
     reads : samplesFormat .read (replicate k H) (place + I) (drop I from) ≡ got samples used
-    same : piece ≡ record { size = I; samples = length (samples .0); «head_size» = headSize (samples .0); pressed = length (writeInstrument (instrumentView (found samples))); next = place + (I + used) }
+    same : piece ≡ record { size = I; samples = length (samples .0); «head_size» = sizeOfFirst (samples .0); pressed = length (writeInstrument (instrumentView (found samples))); next = place + (I + used) }
     written : pressedAt instrumentFormat tt file place ≡ writeInstrument (instrumentView (found samples))
 
   pub instrument-there : {i : InstrumentFound} {n : ℕ} → readAt instrumentFormat tt file place ≡ got i n → place ≤ length file

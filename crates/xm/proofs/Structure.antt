@@ -1,43 +1,33 @@
 -- The small reader hands over the structures one by one. Assumes nothing.
-use Prim.Native.Nat.{ℕ, zero, suc, _+_, _-_, _≤_, _<_}
+use Prim.Native.Nat.{ℕ, zero, suc, _+_, _-_, _*_, _≤_, _<_}
 use mathlib.Core.Bool.{Bool, true, false, cond}
-use mathlib.Core.List.{List, [], _∷_}
-use mathlib.Core.Path.{_≡_, refl, sym, ap, _∙_}
-use native.Mathlib.Nat.{zero-add, add-zero, add-suc, add-sub-of-le}
+use mathlib.Core.List.{List, [], _∷_, _++_, map, map-append, append-nil}
+use mathlib.Core.Path.{_≡_, refl, sym, ap, ap₂, _∙_}
+use native.Mathlib.Nat.{zero-add, add-zero, suc-mul, zero-mul}
+use native.Mathlib.Numerals.{add-one}
 use native.Mathlib.Omega.{arith}
-use lib.Dec.{eqb}
-use borrow.Author.Tests.{le-leb, lt-leb, eqb-true}
-use lib.ListN.{length}
-use Rattle.xm.specs.Number.{Bytes}
-use Rattle.xm.specs.Got.{Refusal, got, refused}
-use Rattle.xm.specs.Format.{Kind, header, patternHeader, patternData, instrument, sampleHeader, sampleData, Region, Format, All}
-use Rattle.xm.specs.Answer.{Answer, gives, refuses, answered}
-use Rattle.xm.specs.Module.{Found, moduleFormat, readFile}
-use Rattle.xm.specs.Structure.{isStructure, kindNumber, structuresOf, structures, Standing, stands, ended, standingAt, reading, readUpTo, placeAfter}
+use lib.Dec.{leb, ltb, eqb}
+use borrow.Author.Tests.{le-leb, lt-ltb, eqb-true}
+use lib.ListN.{length, drop, getD, replicate, length-drop}
+use lib.Seq.{drop-drop, getD-drop}
+use Rattle.xm.specs.Number.{Bytes, byteAt, part}
+use Rattle.xm.specs.Got.{Refusal, Got, got, refused}
+use Rattle.xm.specs.Format.{Kind, header, patternHeader, patternData, instrument, sampleHeader, sampleData, Region, Format, joined, each, eachRead}
+use Rattle.xm.specs.Answer.{gives, refuses, answered}
+use Rattle.xm.specs.Header.{HeaderFound, channelsAt, headerEnd, readHeader}
+use Rattle.xm.specs.PatternInFile.{leastPattern, headSizeAt, dataSizeAt, PatternFound, readPattern, patternFormat}
+use Rattle.xm.specs.Sample.{Stretch, sizeOfFirst, stretchRegion, readHead, headFormat}
+use Rattle.xm.specs.Instrument.{instrumentSizeAt, countAt, headerSizeAt, InstrumentFound, voiceOf, readInstrument, instrumentFormat}
+use Rattle.xm.specs.Module.{Found, patternsFor, instrumentsFor, moduleFormat, fileMost, readFile}
+use Rattle.xm.specs.Structure.{isStructure, kindNumber, structuresOf, structures, Standing, stands, ended, handed, reading, Ahead, Handed, endsAt, handHead, handPattern, handInstrument, handOver, aheadAtFirst, started, called, readOn, readFor}
 use Rattle.xm.specs.Asking.{Lies}
-use Rattle.xm.specs.Demands.{Adjoin, ofKind, regionAt, ReaderHandsOver, ReadersTell}
-use Rattle.xm.proofs.Got.{no-true}
-use Rattle.xm.proofs.Answer.{answer-gives, answer-refuses}
-use Rattle.xm.proofs.Format.{cons-path, Roomy}
-use Rattle.xm.proofs.Module.{module-keeps, module-adjoins, whole-read}
-
--- Regions that begin at places that rise, none before `from`
-abbrev Rising : (from : ℕ) → List Region → Type 0
-Rising from [] = Unit {0}
-Rising from (r ∷ rs) = (from ≤ r .place) × Rising (r .place + 1) rs
-
-rising-from : (a b : ℕ) (rs : List Region) → a ≤ b → Rising b rs → Rising a rs
-rising-from a b [] h c = tt
-rising-from a b (r ∷ rs) h c = (omega (arith, c .0), c .1)
-
--- The structures among regions that adjoin rise
-adjoin-rising : (a e : ℕ) (rs : List Region) → Adjoin a rs e → All Roomy rs → Rising a (structuresOf rs)
-adjoin-rising a e [] c h = tt
-adjoin-rising a e (r ∷ rs) c h = go (isStructure (r .kind)) refl (adjoin-rising (r .place + r .size) e rs (c .1) (h .1))
-  where
-    go : (t : Bool) → isStructure (r .kind) ≡ t → Rising (r .place + r .size) (structuresOf rs) → Rising a (cond t (r ∷ structuresOf rs) (structuresOf rs))
-    go true q w = (omega (arith, c .0), rising-from (r .place + 1) (r .place + r .size) (structuresOf rs) (omega (arith, h .0 q)) w)
-    go false q w = rising-from a (r .place + r .size) (structuresOf rs) (omega (arith, c .0)) w
+use Rattle.xm.specs.Demands.{ofKind, regionAt, ReadersTell}
+use Rattle.xm.proofs.Number.{bytes-drop}
+use Rattle.xm.proofs.Got.{no-true, passed, bind-got, got-value, got-used, got-carry}
+use Rattle.xm.proofs.Answer.{answer-gives, answer-refuses, gives-same}
+use Rattle.xm.proofs.Format.{cons-path}
+use Rattle.xm.proofs.Instrument.{heads-used, instrument-keeps}
+use Rattle.xm.proofs.Module.{whole-read}
 
 -- A kind is known by its number, so no structure of a kind is left out
 kindOf : ℕ → Kind
@@ -73,94 +63,357 @@ none-left-out kind (r ∷ rs) h = go (isStructure (r .kind)) refl (eqb (kindNumb
         absurd (no-true (sym p ∙ ap isStructure (sym same) ∙ h))
     go false p false q w = w
 
--- What stands at or after the place behind the structure before
-behind : ℕ → List Region → ℕ → ℕ
-behind from rs zero = from
-behind from rs (suc n) = regionAt rs n .place + 1
+-- The structures among regions, by kind and place
+abbrev pub told : List Region → List Standing
+told rs = map handed (structuresOf rs)
 
-behind-more : (from : ℕ) (r : Region) (rs : List Region) (n : ℕ) → behind from (r ∷ rs) (suc n) ≡ behind (r .place + 1) rs n
-unfolding behind
-behind-more from r rs zero = refl
-behind-more from r rs (suc n) = refl
+structures-append : (xs ys : List Region) → structuresOf (xs ++ ys) ≡ structuresOf xs ++ structuresOf ys
+structures-append [] ys = refl
+structures-append (r ∷ xs) ys = go (isStructure (r .kind)) (structures-append xs ys)
+  where
+    go : (t : Bool) → structuresOf (xs ++ ys) ≡ structuresOf xs ++ structuresOf ys
+        → cond t (r ∷ structuresOf (xs ++ ys)) (structuresOf (xs ++ ys)) ≡ cond t (r ∷ structuresOf xs) (structuresOf xs) ++ structuresOf ys
+    go true e = cons-path refl e
+    go false e = e
 
-behind-low : (from : ℕ) (rs : List Region) (n : ℕ) → Rising from rs → n ≤ length rs → from ≤ behind from rs n
-unfolding behind
-behind-low from rs zero w h = omega arith
-behind-low from [] (suc n) w h = absurd (omega arith)
-behind-low from (r ∷ rs) (suc n) w h = rw (behind-more from r rs n) (omega (arith, w .0, behind-low (r .place + 1) rs n (w .1) (omega arith)))
+told-append : (xs ys : List Region) → told (xs ++ ys) ≡ told xs ++ told ys
+told-append xs ys = ap (map handed) (structures-append xs ys) ∙ map-append handed (structuresOf xs) (structuresOf ys)
 
-passed-by : (place : ℕ) (r : Region) (rs : List Region) → r .place < place → standingAt place (r ∷ rs) ≡ standingAt place rs
-passed-by place r rs h = rw (lt-leb place (r .place) h)
+-- Parts that are read one after the other: none, and the first of them
+module _ {H I A : Type 0} (F : Format H I A) (h : H) where
+  each-next : {R : Type 0} (count place : ℕ) (s : List ℕ) {parts : List I} {used : ℕ} → each F .read (replicate (suc count) h) place s ≡ got parts used
+      → ((i : I) (n : ℕ) (more : List I) (m : ℕ) → F .read h place s ≡ got i n → each F .read (replicate count h) (place + n) (drop n s) ≡ got more m → parts ≡ i ∷ more → used ≡ n + m → R) → R
+  each-next count place s e k =
+      bind-got (F .read h place s) _ e λ i n ei e₁. bind-got (eachRead F (replicate count h) (place + n) (drop n s)) _ e₁ λ more m em e₂.
+      k i n more m ei em (sym (got-value e₂)) (sym (got-used e₂))
 
-stands-next : (from : ℕ) (rs : List Region) (n : ℕ) → Rising from rs → n < length rs → standingAt (behind from rs n) rs ≡ stands (regionAt rs n)
-unfolding behind
-stands-next from [] n w h = absurd (omega arith)
-stands-next from (r ∷ rs) zero w h = rw (le-leb from (r .place) (w .0))
-stands-next from (r ∷ rs) (suc n) w h =
-    let b = behind-more from r rs n in
-    ap (λ (place : ℕ). standingAt place (r ∷ rs)) b
-    ∙ passed-by (behind (r .place + 1) rs n) r rs (omega (arith, behind-low (r .place + 1) rs n (w .1) (omega arith)))
-    ∙ stands-next (r .place + 1) rs n (w .1) (omega arith)
+-- A pattern
+record PatternTold (place : ℕ) (s : List ℕ) (i : PatternFound) (n : ℕ) : Type 0 where
+  starts : i .place ≡ place
+  used : n ≡ headSizeAt s + dataSizeAt s
+  least : leastPattern ≤ length s
 
-ended-next : (from : ℕ) (rs : List Region) → Rising from rs → standingAt (behind from rs (length rs)) rs ≡ ended
-ended-next from [] w = refl
-ended-next from (r ∷ rs) w =
-    let b = behind-more from r rs (length rs) in
-    ap (λ (place : ℕ). standingAt place (r ∷ rs)) b
-    ∙ passed-by (behind (r .place + 1) rs (length rs)) r rs (omega (arith, behind-low (r .place + 1) rs (length rs) (w .1) (omega arith)))
-    ∙ ended-next (r .place + 1) rs (w .1)
+pattern-told : (channels place : ℕ) (s : List ℕ) (i : PatternFound) (n : ℕ) → readPattern channels place s ≡ got i n → PatternTold place s i n
+unfolding readPattern
+pattern-told channels place s i n e =
+    passed _ _ e λ h e₁. bind-got _ _ e₁ λ p m ep e₂. got-carry (λ (r : PatternFound) (t : ℕ). PatternTold place s r t) e₂ (record { starts = refl; used = refl; least = h .0 })
 
-module _ (file : List ℕ) (found : Found) (end : ℕ) (plain : Bytes file) (reads : readFile file ≡ got found end) where
-  rising : Rising 0 (structures found)
-  rising = whole-read moduleFormat file found end reads λ size e.
-      adjoin-rising 0 end (moduleFormat .regions found) (rw (zero-add end) at (module-adjoins .adjoins 0 file found end e)) (module-keeps .keeps 0 file found end plain e .roomy)
+-- An instrument, and its sample headers
+abbrev pub headsFrom : (k size head : ℕ) → List Standing
+headsFrom zero size head = []
+headsFrom (suc k) size head = stands sampleHeader head ∷ headsFrom k size (head + size)
 
-  asked : (place : ℕ) → reading file place ≡ gives (standingAt place (structures found))
-  unfolding reading
-  asked place = answer-gives _ reads
+head-found : (size place : ℕ) (s : List ℕ) {i : Stretch} {n : ℕ} → readHead size place s ≡ got i n → (i .place ≡ place) × (i .size ≡ size) × (n ≡ size)
+unfolding readHead
+head-found size place s e = passed _ _ e λ h e. (ap Stretch.place (sym (got-value e)), ap Stretch.size (sym (got-value e)), sym (got-used e))
 
-  stands-at : (n : ℕ) → n ≤ length (structures found) → placeAfter file n ≡ behind 0 (structures found) n
-  unfolding behind
-  stands-at zero h = refl
-  stands-at (suc n) h =
-      let e : reading file (placeAfter file n) ≡ gives (stands (regionAt (structures found) n)) =
-      asked (placeAfter file n)
-      ∙ ap (λ (place : ℕ). gives (standingAt place (structures found))) (stands-at n (omega arith))
-      ∙ ap gives (stands-next 0 (structures found) n rising (omega arith)) in
-      ap (readUpTo (placeAfter file n)) e
+record HeadsTold (k size head : ℕ) (hs : List Stretch) : Type 0 where
+  all : told (joined (stretchRegion sampleHeader) hs) ≡ headsFrom k size head
+  count : length hs ≡ k
+  first : 0 < k → sizeOfFirst hs ≡ size
 
-  at-end : (k : ℕ) → placeAfter file (length (structures found) + k) ≡ placeAfter file (length (structures found))
-  at-end zero = ap (placeAfter file) (add-zero (length (structures found)))
-  at-end (suc k) =
-      let n = length (structures found) in
-      let e : reading file (placeAfter file (n + k)) ≡ gives ended =
-      asked (placeAfter file (n + k))
-      ∙ ap (λ (place : ℕ). gives (standingAt place (structures found))) (at-end k ∙ stands-at n (omega arith))
-      ∙ ap gives (ended-next 0 (structures found) rising) in
-      ap (placeAfter file) (add-suc n k) ∙ ap (readUpTo (placeAfter file (n + k))) e ∙ at-end k
+heads-told : (k size head : ℕ) (s : List ℕ) (hs : List Stretch) (n : ℕ) → each headFormat .read (replicate k size) head s ≡ got hs n → HeadsTold k size head hs
+heads-told zero size head s hs n e = got-carry (λ (hs : List Stretch) (u : ℕ). HeadsTold zero size head hs) e (record { all = refl; count = refl; first = λ l. absurd (omega (arith, l)) })
+heads-told (suc k) size head s hs n e =
+    bind-got _ _ e λ h a ea e₁. bind-got _ _ e₁ λ hs b eb e₂.
+    let u = head-found size head s ea in
+    let w = heads-told k size (head + a) (drop a s) hs b eb in
+    got-carry (λ (hs : List Stretch) (u : ℕ). HeadsTold (suc k) size head hs) e₂ (record {
+      all = cons-path (ap (stands sampleHeader) (u .0)) (w .all ∙ ap (λ (o : ℕ). headsFrom k size (head + o)) (u .2));
+      count = ap suc (w .count);
+      first = λ l. u .1;
+    })
 
-  later : (n : ℕ) → length (structures found) ≤ n → placeAfter file n ≡ behind 0 (structures found) (length (structures found))
-  later n h = ap (placeAfter file) (sym (add-sub-of-le h)) ∙ at-end (n - length (structures found)) ∙ stands-at (length (structures found)) (omega arith)
+data-told : (ds : List Stretch) → told (joined (stretchRegion sampleData) ds) ≡ []
+data-told [] = refl
+data-told (d ∷ ds) = data-told ds
 
-  hands-over : ReaderHandsOver file found
-  hands-over = record {
-    every-kind = λ kind h. none-left-out kind (moduleFormat .regions found) h;
-    three-kinds = (refl, refl, refl);
-    each-one = λ n h.
-        asked (placeAfter file n)
-        ∙ ap (λ (place : ℕ). gives (standingAt place (structures found))) (stands-at n (omega arith))
-        ∙ ap gives (stands-next 0 (structures found) n rising h);
-    end-then = λ n h.
-        asked (placeAfter file n)
-        ∙ ap (λ (place : ℕ). gives (standingAt place (structures found))) (later n h)
-        ∙ ap gives (ended-next 0 (structures found) rising);
-    stays = λ n h. later (n + 1) (omega arith) ∙ sym (later n h);
-  }
+-- The size of a header does not matter where there are none
+heads-by : (k size head : ℕ) (hs : List Stretch) → HeadsTold k size head hs
+    → (told (joined (stretchRegion sampleHeader) hs) ≡ headsFrom (length hs) (sizeOfFirst hs) head) × (length hs * sizeOfFirst hs ≡ k * size)
+heads-by zero size head hs w =
+    (w .all ∙ ap (λ (n : ℕ). headsFrom n (sizeOfFirst hs) head) (sym (w .count)), ap (λ (n : ℕ). n * sizeOfFirst hs) (w .count) ∙ zero-mul (sizeOfFirst hs) ∙ sym (zero-mul size))
+heads-by (suc k) size head hs w =
+    (w .all ∙ sym (ap₂ (λ (n m : ℕ). headsFrom n m head) (w .count) (w .first (omega arith))), ap₂ (λ (n m : ℕ). n * m) (w .count) (w .first (omega arith)))
+
+pub record InstrumentTold (place : ℕ) (i : InstrumentFound) (n : ℕ) : Type 0 where
+  pub all : told (instrumentFormat .regions i) ≡ stands instrument place ∷ headsFrom (length (i .samples .0)) (sizeOfFirst (i .samples .0)) (place + i .size)
+  pub fits : i .size + length (i .samples .0) * sizeOfFirst (i .samples .0) ≤ n
+  pub some : 1 ≤ n
+
+pub instrument-told : (place : ℕ) (s : List ℕ) (i : InstrumentFound) (n : ℕ) → readInstrument place s ≡ got i n → InstrumentTold place i n
+unfolding readInstrument
+instrument-told place s i n e =
+    passed _ _ e λ h e₁. bind-got _ _ e₁ λ v m ev e₂. bind-got _ _ ev λ hs a eh e₃. bind-got _ _ e₃ λ ds b ed e₄.
+    let w = heads-by _ _ _ hs (heads-told (countAt s) (headerSizeAt s) (place + instrumentSizeAt s) (drop (instrumentSizeAt s) s) hs a eh) in
+    got-carry (λ (r : InstrumentFound) (u : ℕ). InstrumentTold place r u) e₂
+    (got-carry (λ (v : List Stretch × List Stretch) (u : ℕ). InstrumentTold place (record { place = place; size = instrumentSizeAt s; name = part 4 22 s; type = byteAt 26 s; voice = voiceOf (countAt s) s; samples = v }) (instrumentSizeAt s + u)) e₄
+    (record {
+      all = cons-path refl (told-append (joined (stretchRegion sampleHeader) hs) (joined (stretchRegion sampleData) ds) ∙ ap₂ _++_ (w .0) (data-told ds) ∙ append-nil _);
+      fits = omega (arith, w .1, heads-used (countAt s) (headerSizeAt s) (place + instrumentSizeAt s) (drop (instrumentSizeAt s) s) hs a eh);
+      some = omega (arith, h .1 .0);
+    }))
+
+-- What a reader has still to hand over
+record Left (file : List ℕ) (a : Ahead) (all : List Standing) : Type 0 where
+  small : length file ≤ fileMost
+  fits : a .head + a .heads * a .headSize ≤ length file
+  channels : ℕ
+  patterns : List PatternFound
+  used : ℕ
+  patterns-read : each patternFormat .read (replicate (a .patterns) channels) (a .place) (drop (a .place) file) ≡ got patterns used
+  instruments : List InstrumentFound
+  end : ℕ
+  instruments-read : each instrumentFormat .read (replicate (a .instruments) tt) (a .place + used) (drop (a .place + used) file) ≡ got instruments end
+  same : all ≡ headsFrom (a .heads) (a .headSize) (a .head) ++ (told (joined (patternFormat .regions) patterns) ++ told (joined (instrumentFormat .regions) instruments))
+
+-- One call
+record OneCall (file : List ℕ) (a : Ahead) (all : List Standing) : Type 0 where
+  next : Ahead
+  gives-it : handOver file a ≡ record { standing = getD all 0 ended; ahead = next }
+  left : Left file next (drop 1 all)
+
+module _ (file : List ℕ) (bytes : Bytes file) where
+  abbrev ahead : (p i place k head size : ℕ) → Ahead
+  ahead p i place k head size = record { patterns = p; instruments = i; place = place; heads = k; head = head; headSize = size }
+
+  abbrev gave : Ahead → Standing → Handed
+  gave next s = record { standing = s; ahead = next }
+
+  first-is : {all : List Standing} {s : Standing} {rest : List Standing} (next : Ahead) → all ≡ s ∷ rest → gave next s ≡ gave next (getD all 0 ended)
+  first-is next e = ap (gave next) (sym (ap (λ (l : List Standing). getD l 0 ended) e))
+
+  one-call : (p i place k head size : ℕ) (all : List Standing) → Left file (ahead p i place k head size) all → OneCall file (ahead p i place k head size) all
+  unfolding handOver
+  one-call p i place (suc k) head size all w =
+      let z : suc k - 1 ≡ k = omega arith in
+      let next = ahead p i place k (head + size) size in
+      let long : head + size + k * size ≤ length file = omega (arith, w .fits, suc-mul k size) in
+      record {
+        next = next;
+        gives-it = rw (le-leb (length file) fileMost (w .small), lt-ltb 0 (suc k) (omega arith), le-leb (head + size) (length file) (omega (arith, long)), z) (first-is next (w .same));
+        left = record {
+          small = w .small;
+          fits = long;
+          channels = w .channels;
+          patterns = w .patterns;
+          used = w .used;
+          patterns-read = w .patterns-read;
+          instruments = w .instruments;
+          end = w .end;
+          instruments-read = w .instruments-read;
+          same = ap (drop 1) (w .same);
+        };
+      }
+  one-call (suc p) i place zero head size all w =
+      each-next patternFormat (w .channels) p place (drop place file) (w .patterns-read) λ x n more m ex em parts used.
+      let t = pattern-told (w .channels) place (drop place file) x n ex in
+      let s = drop place file in
+      let z : suc p - 1 ≡ p = omega arith in
+      let there : place + n ≡ place + headSizeAt s + dataSizeAt s = omega (arith, t .used) in
+      let next = ahead p i (place + headSizeAt s + dataSizeAt s) 0 0 0 in
+      let later : place + w .used ≡ place + headSizeAt s + dataSizeAt s + m = omega (arith, there, used) in
+      let is : all ≡ stands patternHeader place ∷ (told (joined (patternFormat .regions) more) ++ told (joined (instrumentFormat .regions) (w .instruments))) =
+      w .same
+      ∙ ap (λ (l : List PatternFound). told (joined (patternFormat .regions) l) ++ told (joined (instrumentFormat .regions) (w .instruments))) parts
+      ∙ cons-path (ap (stands patternHeader) (t .starts)) refl in
+      record {
+        next = next;
+        gives-it = rw (le-leb (length file) fileMost (w .small), lt-ltb 0 (suc p) (omega arith), le-leb (place + leastPattern) (length file) (omega (arith, t .least, length-drop place file)), z) (first-is next is);
+        left = record {
+          small = w .small;
+          fits = omega arith;
+          channels = w .channels;
+          patterns = more;
+          used = m;
+          patterns-read = rw (drop-drop n place file, there) at em;
+          instruments = w .instruments;
+          end = w .end;
+          instruments-read = rw later at (w .instruments-read);
+          same = ap (drop 1) is;
+        };
+      }
+  one-call zero (suc i) place zero head size all w =
+      let here : place + w .used ≡ place = omega (arith, got-used (w .patterns-read)) in
+      each-next instrumentFormat tt i place (drop place file) (rw here at (w .instruments-read)) λ x n more m ex em parts used.
+      let t = instrument-told place (drop place file) x n ex in
+      let inside = instrument-keeps .keeps place (drop place file) x n (bytes-drop place bytes) ex .inside in
+      let z : suc i - 1 ≡ i = omega arith in
+      let k = length (x .samples .0) in
+      let next = ahead 0 i (place + n) k (place + x .size) (sizeOfFirst (x .samples .0)) in
+      let is : all ≡ stands instrument place ∷ (headsFrom k (sizeOfFirst (x .samples .0)) (place + x .size) ++ told (joined (instrumentFormat .regions) more)) =
+      w .same
+      ∙ ap₂ (λ (l : List PatternFound) (r : List InstrumentFound). told (joined (patternFormat .regions) l) ++ told (joined (instrumentFormat .regions) r)) (sym (got-value (w .patterns-read))) parts
+      ∙ told-append (instrumentFormat .regions x) (joined (instrumentFormat .regions) more)
+      ∙ ap (λ (l : List Standing). l ++ told (joined (instrumentFormat .regions) more)) (t .all) in
+      record {
+        next = next;
+        gives-it = rw (le-leb (length file) fileMost (w .small), lt-ltb 0 (suc i) (omega arith), le-leb place (length file) (omega (arith, inside, t .some, length-drop place file)), ex, z) (first-is next is);
+        left = record {
+          small = w .small;
+          fits = omega (arith, inside, t .fits, t .some, length-drop place file);
+          channels = w .channels;
+          patterns = [];
+          used = 0;
+          patterns-read = refl;
+          instruments = more;
+          end = m;
+          instruments-read = rw (drop-drop n place file, ← add-zero (place + n)) at em;
+          same = ap (drop 1) is;
+        };
+      }
+  one-call zero zero place zero head size all w =
+      let here : place + w .used ≡ place = omega (arith, got-used (w .patterns-read)) in
+      let is : all ≡ [] =
+      w .same
+      ∙ ap₂ (λ (l : List PatternFound) (r : List InstrumentFound). told (joined (patternFormat .regions) l) ++ told (joined (instrumentFormat .regions) r)) (sym (got-value (w .patterns-read))) (sym (got-value (w .instruments-read))) in
+      let next = ahead 0 0 place 0 head size in
+      record {
+        next = next;
+        gives-it = rw (le-leb (length file) fileMost (w .small)) (ap (gave next) (sym (ap (λ (l : List Standing). getD l 0 ended) is)));
+        left = record {
+          small = w .small;
+          fits = w .fits;
+          channels = w .channels;
+          patterns = w .patterns;
+          used = w .used;
+          patterns-read = w .patterns-read;
+          instruments = w .instruments;
+          end = w .end;
+          instruments-read = w .instruments-read;
+          same = ap (drop 1) is ∙ sym is ∙ w .same;
+        };
+      }
+
+-- A call that hands over no structure leaves the reader as it was, whatever its numbers
+abbrev isEnd : Standing → Bool
+isEnd (stands kind place) = false
+isEnd ended = true
+
+module _ (file : List ℕ) (a : Ahead) where
+  abbrev by : (size heads there patterns whole instruments within : Bool) → Got InstrumentFound → Handed
+  by size heads there patterns whole instruments within g =
+      cond size
+      (cond heads (cond there (handHead a) (endsAt a))
+      (cond patterns (cond whole (handPattern (drop (a .place) file) a) (endsAt a)) (cond instruments (cond within (handInstrument g a) (endsAt a)) (endsAt a))))
+      (endsAt a)
+
+  ended-stays : (size heads there patterns whole instruments within : Bool) (g : Got InstrumentFound)
+      → by size heads there patterns whole instruments within g .standing ≡ ended → by size heads there patterns whole instruments within g .ahead ≡ a
+  ended-stays false b c d e f i g h = refl
+  ended-stays true true true d e f i g h = absurd (no-true (ap isEnd h))
+  ended-stays true true false d e f i g h = refl
+  ended-stays true false c true true f i g h = absurd (no-true (ap isEnd h))
+  ended-stays true false c true false f i g h = refl
+  ended-stays true false c false e true true (got x n) h = absurd (no-true (ap isEnd h))
+  ended-stays true false c false e true true (refused r) h = refl
+  ended-stays true false c false e true false g h = refl
+  ended-stays true false c false e false i g h = refl
+
+  pub hand-stays : handOver file a .standing ≡ ended → handOver file a .ahead ≡ a
+  unfolding handOver
+  hand-stays =
+      ended-stays (leb (length file) fileMost) (ltb 0 (a .heads)) (leb (a .head + a .headSize) (length file)) (ltb 0 (a .patterns)) (leb (a .place + leastPattern) (length file)) (ltb 0 (a .instruments)) (leb (a .place) (length file))
+      (readInstrument (a .place) (drop (a .place) file))
+
+-- Before the first call
+module _ (file : List ℕ) (found : Found) (end : ℕ) (reads : readFile file ≡ got found end) where
+  abbrev all : List Standing
+  all = map handed (structures found)
+
+  first-left : Left file (aheadAtFirst file) all
+  unfolding readHeader
+  first-left =
+      whole-read moduleFormat file found end reads λ small e.
+      bind-got (readHeader 0 file) _ e λ i n eh e₁. bind-got _ _ e₁ λ v m ev e₂.
+      bind-got _ _ ev λ ps k ep e₃. bind-got _ _ e₃ λ is j ei e₄.
+      passed _ _ eh λ tests eh.
+      let patterns = got-carry (λ (i : HeaderFound) (n : ℕ). each patternFormat .read (patternsFor (i .content)) (0 + n) (drop n file) ≡ got ps k) (sym eh) ep in
+      let instruments = got-carry (λ (i : HeaderFound) (n : ℕ). each instrumentFormat .read (instrumentsFor (i .content) []) (0 + n + k) (drop k (drop n file)) ≡ got is j) (sym eh) ei in
+      got-carry (λ (r : Found) (u : ℕ). Left file (aheadAtFirst file) (map handed (structures r))) e₂
+      (got-carry (λ (r : List PatternFound × List InstrumentFound) (u : ℕ). Left file (aheadAtFirst file) (map handed (structures (i, r)))) e₄
+      (record {
+        small = small;
+        fits = omega arith;
+        channels = channelsAt file;
+        patterns = ps;
+        used = k;
+        patterns-read = rw (zero-add (headerEnd file)) at patterns;
+        instruments = is;
+        end = j;
+        instruments-read = rw (zero-add (headerEnd file), drop-drop k (headerEnd file) file) at instruments;
+        same = told-append (joined (patternFormat .regions) ps) (joined (instrumentFormat .regions) is);
+      }))
+
+  module _ (bytes : Bytes file) where
+    call : (a : Ahead) (rest : List Standing) → Left file a rest → OneCall file a rest
+    call a rest w = one-call file bytes (a .patterns) (a .instruments) (a .place) (a .heads) (a .head) (a .headSize) rest w
+
+    -- after n calls
+    record After (n : ℕ) : Type 0 where
+      at : Ahead
+      reached : readFor file n ≡ gives at
+      left : Left file at (drop n all)
+
+    after : (n : ℕ) → After n
+    unfolding started
+    after zero = record { at = aheadAtFirst file; reached = answer-gives _ reads; left = first-left }
+    after (suc n) =
+        let w = after n in
+        let c = call (w .at) (drop n all) (w .left) in
+        record {
+          at = c .next;
+          reached = ap (readOn file) (w .reached) ∙ ap (λ (h : Handed). gives (h .ahead)) (c .gives-it);
+          left = rw (drop-drop 1 n all, add-one n) at (c .left);
+        }
+
+    answers : (n : ℕ) → called file (readFor file n) ≡ gives (getD all n ended)
+    answers n =
+        let w = after n in
+        ap (called file) (w .reached)
+        ∙ ap (λ (h : Handed). gives (h .standing)) (call (w .at) (drop n all) (w .left) .gives-it)
+        ∙ ap gives (getD-drop n all 0 ended ∙ ap (λ (k : ℕ). getD all k ended) (add-zero n))
+
+    stays : (n : ℕ) → getD all n ended ≡ ended → readFor file (n + 1) ≡ readFor file n
+    stays n e =
+        let w = after n in
+        let none : handOver file (w .at) .standing ≡ ended = gives-same (sym (ap (called file) (w .reached)) ∙ answers n) ∙ e in
+        ap (readFor file) (add-one n) ∙ ap (readOn file) (w .reached) ∙ ap gives (hand-stays file (w .at) none) ∙ sym (w .reached)
+
+-- The list by its numbers
+handed-at : (rs : List Region) (n : ℕ) → n < length rs → getD (map handed rs) n ended ≡ handed (regionAt rs n)
+handed-at [] n l = absurd (omega arith)
+handed-at (r ∷ rs) zero l = refl
+handed-at (r ∷ rs) (suc n) l = handed-at rs n (omega arith)
+
+handed-none : (rs : List Region) (n : ℕ) → length rs ≤ n → getD (map handed rs) n ended ≡ ended
+handed-none [] n l = refl
+handed-none (r ∷ rs) zero l = absurd (omega arith)
+handed-none (r ∷ rs) (suc n) l = handed-none rs n (omega arith)
 
 -- On a refused file each call gives the check's refusal
-reading-refused : (file : List ℕ) (r : Refusal) (place : ℕ) → readFile file ≡ refused r → reading file place ≡ refuses r
+refused-for : (file : List ℕ) (r : Refusal) (n : ℕ) → readFile file ≡ refused r → readFor file n ≡ refuses r
+unfolding started
+refused-for file r zero e = answer-refuses _ e
+refused-for file r (suc n) e = ap (readOn file) (refused-for file r n e)
+
+by-number : (file : List ℕ) → Bytes file → (n : ℕ) → called file (readFor file n) ≡ reading file n
 unfolding reading
-reading-refused file r place e = answer-refuses _ e
+by-number file bytes n = go (readFile file) refl
+  where
+    go : (g : Got Found) → readFile file ≡ g → called file (readFor file n) ≡ answered (λ found end. getD (map handed (structures found)) n ended) g
+    go (got found end) e = answers file found end e bytes n
+    go (refused r) e = ap (called file) (refused-for file r n e)
 
 pub readers-tell : ReadersTell
-readers-tell = record { hands-over = hands-over; refuses-so = reading-refused }
+readers-tell = record {
+  by-number = by-number;
+  hands-over = λ file found end bytes e. record {
+    every-kind = λ kind h. none-left-out kind (moduleFormat .regions found) h;
+    three-kinds = (refl, refl, refl);
+    each-one = λ n l. answers file found end e bytes n ∙ ap gives (handed-at (structures found) n l);
+    end-then = λ n l. answers file found end e bytes n ∙ ap gives (handed-none (structures found) n l);
+    stays = λ n l. stays file found end e bytes n (handed-none (structures found) n l);
+  };
+  refuses-so = λ file r n e. ap (called file) (refused-for file r n e);
+}

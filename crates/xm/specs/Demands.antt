@@ -21,7 +21,7 @@ use Rattle.xm.specs.Module.{Found, Content, moduleFormat, fileMost, read
 use Rattle.xm.specs.Delta.{storedNumbers, decoding, coding, allFit, decodeNumbers, decodeAfter, codeNumbers, codeAfter, valuesOf}
 use Rattle.xm.specs.Table.{PatternRow, InstrumentRow, SampleRow, patternRows, instrumentRows, sampleRowsIn, sampleRows, Checked, checkedAs, checking, checkNumbers, checkLoader, Room, checkingInto, Tables, roomOf, tablesAfter, sampleNumbers}
 use Rattle.xm.specs.Asking.{Lies, asking, askingFlat, askingRows, noRow}
-use Rattle.xm.specs.Structure.{isStructure, kindNumber, structures, stands, ended, reading, placeAfter}
+use Rattle.xm.specs.Structure.{isStructure, kindNumber, structures, ended, handed, reading, called, readFor}
 use Rattle.xm.specs.Press.{contentOf, pressed, pressingAs, pressing, pressNumbersAs, pressAfterAs, pressLoader}
 
 -- DEMAND 1. "Bad input gets a refusal number and a place. A refused call changes nothing in the memory it was lent", and no call writes
@@ -283,18 +283,19 @@ pub record PlaysOrders (content : Content) : Type 0 where
   pub named : (position number : ℕ) (p : Pattern) → getD (content .0 .orders) position 0 ≡ number → number < length (content .1 .0) → plays content position ≡ getD (content .1 .0) number p
   pub nameless : (position : ℕ) → length (content .1 .0) ≤ getD (content .0 .orders) position 0 → plays content position ≡ standard (content .0 .channels)
 
--- The small reader: n calls from the start hand over the first n structures, in file order; after the last, each call says that the end is
--- reached, and the reader stays where it is.
+-- The small reader: a call after n others gives what `reading` says of n, which is the structure of that number, in file order; behind the
+-- last one it says that the end is reached, and the reader stays as it is.
 pub record ReaderHandsOver (file : List ℕ) (found : Found) : Type 0 where
   pub every-kind : (kind : Kind) → isStructure kind ≡ true → ofKind kind (structures found) ≡ ofKind kind (moduleFormat .regions found)
   pub three-kinds : (isStructure patternHeader ≡ true) × (isStructure instrument ≡ true) × (isStructure sampleHeader ≡ true)
-  pub each-one : (n : ℕ) → n < length (structures found) → reading file (placeAfter file n) ≡ gives (stands (regionAt (structures found) n))
-  pub end-then : (n : ℕ) → length (structures found) ≤ n → reading file (placeAfter file n) ≡ gives ended
-  pub stays : (n : ℕ) → length (structures found) ≤ n → placeAfter file (n + 1) ≡ placeAfter file n
+  pub each-one : (n : ℕ) → n < length (structures found) → called file (readFor file n) ≡ gives (handed (regionAt (structures found) n))
+  pub end-then : (n : ℕ) → length (structures found) ≤ n → called file (readFor file n) ≡ gives ended
+  pub stays : (n : ℕ) → length (structures found) ≤ n → readFor file (n + 1) ≡ readFor file n
 
 pub record ReadersTell : Type 0 where
+  pub by-number : (file : List ℕ) → Bytes file → (n : ℕ) → called file (readFor file n) ≡ reading file n
   pub hands-over : (file : List ℕ) (found : Found) (end : ℕ) → Bytes file → readFile file ≡ got found end → ReaderHandsOver file found
-  pub refuses-so : (file : List ℕ) (r : Refusal) (place : ℕ) → readFile file ≡ refused r → reading file place ≡ refuses r
+  pub refuses-so : (file : List ℕ) (r : Refusal) (n : ℕ) → readFile file ≡ refused r → called file (readFor file n) ≡ refuses r
 
 -- The loader's numbers: the value that the paper names, below 2^32; at least 2^32 when refused, and then number and place come back.
 pub record LoaderTells {A : Type 0} (f : A → ℕ) (answer : Answer A) (number : ℕ) : Type 0 where

@@ -107,6 +107,11 @@ pub record GoodData (head bytes : List ℕ) : Type 0 where
 abbrev pub dataFormat : Format (List ℕ) Stretch (List ℕ)
 dataFormat = record { read = readData; view = λ i. i .bytes; regions = stretchRegion sampleData; Good = GoodData; write = λ bytes. bytes }
 
+-- H, by the first header; 0 if there is none.
+abbrev pub sizeOfFirst : (heads : List Stretch) → ℕ
+sizeOfFirst [] = 0
+sizeOfFirst (h ∷ hs) = h .size
+
 -- All headers, and then the data of each.
 abbrev pub SamplesFound : Type 0
 SamplesFound = List Stretch × List Stretch

@@ -46,16 +46,17 @@ use denote.Triple.Walked.{says, Stays, stay-none-slice, walkOf, goes-none-slice,
 use denote.Exit.{yes}
 use Rattle.xm.specs.Format.{Region}
 use Rattle.xm.specs.Module.{readFile}
-use Rattle.xm.specs.Structure.{structures, placeAfter}
+use Rattle.xm.specs.Structure.{structures, started as startOf}
 use Rattle.tables.specs.Accepted.{listIn}
-use Rattle.tables.specs.declared.standing.Standing.{Standing}
-use Rattle.tables.proofs.standing.Standing as F
-use Rattle.tables.proofs.standing.Standing.Laws as F′
+use Rattle.structures.specs.Handing.{reachedOf}
+use Rattle.structures.specs.declared.Standing.{Standing}
+use Rattle.structures.proofs.Standing as F
+use Rattle.structures.proofs.Standing.Laws as F′
 use Rattle.reader.specs.declared.Reader.{Reader}
 use Rattle.reader.specs.declared.count.Counts.{Counts}
 use Rattle.reader.specs.declared.count.Counted.{Counted}
 use Rattle.reader.specs.Count.{countsOf, handsOver, oneMore, endsAs, counting, countedOf}
-use Rattle.reader.proofs.CountLaws.{standAfter, Running, running}
+use Rattle.reader.proofs.CountLaws.{placeAfter, standAfter, Running, running}
 use Rattle.reader.proofs.KnownBytes.{bytes-known}
 use Rattle.reader.proofs.CallNext.{Next, B, part-in, to-room, call-next, call-next-last}
 use Rattle.reader.proofs.Reader as T
@@ -169,8 +170,8 @@ module _ {M : Type 1} (𝓤 : URA M) (H : Heap 𝓤) (A : Atoms 𝓤) (W : Given
   asks-start : ent 𝓤 (sep 𝓤 (sem 𝓤 H A Own) (A .lft κ q)) (FromStart 𝓤 H A mem run .pre to-start)
   asks-start = qed W (‵ Own ∷ ‵ (flft κ q) ∷ []) ∵ nothing ! $ move ! (1 ∷ 0 ∷ []) $ fjoin ! $ nothing ! $ move ! (2 ∷ 0 ∷ []) $ join ! $ join ! $ frame ! $ done !
 
-  said-start : (r : Reader) → ent 𝓤 (ensured 𝓤 H A from-start.ended (from-start.clauses 𝓤 H A mem run) (κ, tt) (s, tt) tt r) (fact 𝓤 ((r .file ≡ s) × (r .place ≡ 0)))
-  said-start r = exE 𝓤 _ (λ ws. snd∗ 𝓤 (sem 𝓤 H A (lasts from-start.ended (κ, tt) (s, tt) ws)) (fact 𝓤 ((r .file ≡ s) × (r .place ≡ 0))))
+  said-start : (r : Reader) → ent 𝓤 (ensured 𝓤 H A from-start.ended (from-start.clauses 𝓤 H A mem run) (κ, tt) (s, tt) tt r) (fact 𝓤 ((r .file ≡ s) × (r .place ≡ reachedOf (startOf (now s)))))
+  said-start r = exE 𝓤 _ (λ ws. snd∗ 𝓤 (sem 𝓤 H A (lasts from-start.ended (κ, tt) (s, tt) ws)) (fact 𝓤 ((r .file ≡ s) × (r .place ≡ reachedOf (startOf (now s))))))
 
   -- the calls of the functions of plain parameters, of counts c and of g, which stands: the same
   abbrev to-none : NoneCounted 𝓤 H A mem run .Ghost
@@ -337,7 +338,7 @@ module _ {M : Type 1} (𝓤 : URA M) (H : Heap 𝓤) (A : Atoms 𝓤) (W : Given
         ∷ ‵ (fat fullShare fileTy l₁ 0 v) ∷ ‵ (fdies fileTy l₁) ∷ ‵ (froom D′.mir l₀ 0) ∷ ‵ (fdies D′.mir l₀) ∷ []
 
     -- after `from_start`: the reader goes to its local, which is memory; none is counted; and the first call
-    started : (r : Reader) (u : Val) → (r .file ≡ s) × (r .place ≡ 0) → Is (B κ) r (u ∷ [])
+    started : (r : Reader) (u : Val) → (r .file ≡ s) × (r .place ≡ reachedOf (startOf (now s))) → Is (B κ) r (u ∷ [])
         → ent 𝓤 (⋆ 𝓤 H A (‵ (B κ .own r (u ∷ [])) ∷ (‵ (flft κ q) ⊛ ‵ ftrue) ∷ ‵ Own ∷ Locals (‵ (fat fullShare readerTy l₅ 0 u)))) (Wp 𝓤 H C Λ En M′.t-2 (atReturn 𝓤 H En Post))
     started r u e is =
         qed W (‵ (B κ .own r (u ∷ [])) ∷ (‵ (flft κ q) ⊛ ‵ ftrue) ∷ ‵ Own ∷ Locals (‵ (fat fullShare readerTy l₅ 0 u))) ∵ exec ! C Λ En M′.t-2 (atRet En Post) $
@@ -368,7 +369,7 @@ module _ {M : Type 1} (𝓤 : URA M) (H : Heap 𝓤) (A : Atoms 𝓤) (W : Given
         -- [what `from_start` asks; file's; _8; …; _1; …; _0; …]
         calls-at ! fm (FromStart 𝓤 H A mem run) (known .from-start) to-start (and-then ! (load ! (from ! (stop !)) (look ! 16 refl)) (no-more !)) (λ u.
         use1 W (later (some (λ (r : Reader). ((‵ (flft κ q) ⊛ ‵ ftrue) ⊛ ‵ (B κ .own r (u ∷ []))) ⊛ raw (ensured 𝓤 H A from-start.ended (from-start.clauses 𝓤 H A mem run) (κ, tt) (s, tt) tt r)))) (id⊢ 𝓤 _) $ await ! tt $ pick ! (λ r.
-        split ! $ move ! (1 ∷ []) $ use1 W (raw (fact 𝓤 ((r .file ≡ s) × (r .place ≡ 0)))) (said-start r) $ heard ! ((r .file ≡ s) × (r .place ≡ 0)) (λ e. split ! $ move ! (1 ∷ []) $
+        split ! $ move ! (1 ∷ []) $ use1 W (raw (fact 𝓤 ((r .file ≡ s) × (r .place ≡ reachedOf (startOf (now s)))))) (said-start r) $ heard ! ((r .file ≡ s) × (r .place ≡ reachedOf (startOf (now s)))) (λ e. split ! $ move ! (1 ∷ []) $
         peeks ! (B κ) (Is (B κ)) (shows 𝓤 H A (B κ)) r (u ∷ []) (λ is.
         land ! (from ! (stop !)) (init ! 9 refl (LL.lawful (T.the-type αᵉ) (T′.the-laws αᵉ) 𝓤 H A W .typed r _ is .0)) $ by ! (started r u e is)))))
 

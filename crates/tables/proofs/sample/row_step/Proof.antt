@@ -32,10 +32,11 @@ add-t11 : tie.Need-add-t11 Inv-loop μ-loop
 add-t11 c = omega (arith, c .before .if1 .taken, (seeks-stands _ _ (c .before .before .before .before .before .before .pre .0) (record { below = λ i. omega (arith, c .before .before .before .before .before .shared-slice-known .given i) }) (c .before .before .before .before .loop .inv) (c .before .before .before .instrument-at .ensures)) .few)
 
 returns : tie.Need-returns Inv-loop μ-loop
-returns c =
-    (c .sample-row .ensures ∙ ap sampleRow (sym (seeks-found _ _ (c .before .before .before .before .before .before .pre .0) (record { below = λ i. omega (arith, c .before .before .before .before .before .shared-slice-known .given i) }) (c .before .before .before .before .loop .inv) (c .before .before .before .instrument-at .ensures) (c .before .if1 .taken))),
-    refl,
-    seeks-after _ _ (c .before .before .before .before .before .before .pre .0) (record { below = λ i. omega (arith, c .before .before .before .before .before .shared-slice-known .given i) }) (c .before .before .before .before .loop .inv))
+returns c = (
+  c .sample-row .ensures ∙ ap sampleRow (sym (seeks-found _ _ (c .before .before .before .before .before .before .pre .0) (record { below = λ i. omega (arith, c .before .before .before .before .before .shared-slice-known .given i) }) (c .before .before .before .before .loop .inv) (c .before .before .before .instrument-at .ensures) (c .before .if1 .taken))),
+  refl,
+  seeks-after _ _ (c .before .before .before .before .before .before .pre .0) (record { below = λ i. omega (arith, c .before .before .before .before .before .shared-slice-known .given i) }) (c .before .before .before .before .loop .inv),
+)
 
 data-place-requires : tie.Need-data-place-requires Inv-loop μ-loop
 data-place-requires c κs = (seeks-stands _ _ (c .before .before .before .before .before .before .pre .0) (record { below = λ i. omega (arith, c .before .before .before .before .before .shared-slice-known .given i) }) (c .before .before .before .before .loop .inv) (c .before .before .before .instrument-at .ensures), omega arith)

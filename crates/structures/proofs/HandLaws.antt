@@ -1,0 +1,142 @@
+-- What is handed over, by the tests that were made. Assumes nothing.
+use Prim.Native.Nat.{ℕ, _+_, _-_, _≤_, _<_, _^_}
+use mathlib.Core.Bool.{cond}
+use mathlib.Core.List.{List}
+use mathlib.Core.Path.{_≡_, refl, sym, ap, _∙_}
+use native.Mathlib.Omega.{arith}
+use lib.Dec.{leb}
+use borrow.Author.Tests.{le-leb, lt-leb, lt-ltb, le-ltb}
+use lib.ListN.{length, drop, length-drop}
+use Rattle.xm.specs.Number.{Bytes}
+use Rattle.xm.specs.Got.{Got, got, refused}
+use Rattle.xm.specs.PatternInFile.{leastPattern}
+use Rattle.xm.specs.Instrument.{InstrumentFound, readInstrument}
+use Rattle.xm.specs.Module.{Found, fileMost, readFile}
+use Rattle.xm.specs.Table.{checking}
+use Rattle.xm.specs.Structure as structure
+use Rattle.xm.specs.Structure.{endsAt, handHead, handPattern, handInstrument, handOver, aheadAtFirst, started}
+use Rattle.xm.proofs.Number.{bytes-drop, word-small, long-small}
+use Rattle.xm.proofs.Answer.{answer-gives, answer-refuses}
+use Rattle.xm.proofs.Instrument.{instrument-keeps}
+use Rattle.xm.proofs.Structure.{instrument-told}
+use Rattle.refusal.specs.declared.Fault.{Fault}
+use Rattle.steps.specs.Step.{instrumentStep}
+use Rattle.steps.specs.declared.instrument.InstrumentPart.{InstrumentPart}
+use Rattle.steps.specs.declared.instrument.InstrumentStep.{InstrumentStep}
+use Rattle.steps.specs.declared.instrument.InstrumentStep.the-variants as step
+use Rattle.walk.specs.File.{verdictOf}
+use Rattle.walk.specs.declared.Module.{Module}
+use Rattle.walk.specs.declared.Verdict.{Verdict}
+use Rattle.walk.specs.declared.Verdict.the-variants as verdict
+use Rattle.tables.specs.Accepted.{Accepted}
+use Rattle.tables.specs.Place.{countsOf, patternAt}
+use Rattle.tables.specs.declared.place.Counts.{Counts}
+use Rattle.tables.specs.declared.place.PatternAt.{PatternAt}
+use Rattle.tables.proofs.VerdictLaws.{verdict-got, verdict-refused}
+use Rattle.structures.specs.declared.Standing.the-variants as standing
+use Rattle.structures.specs.declared.Ahead.{Ahead}
+use Rattle.structures.specs.declared.Reached.the-variants as reached
+use Rattle.structures.specs.declared.Handed.{Handed}
+use Rattle.structures.specs.Handing.{aheadIn, handedWith, handedOf, reachedOf, refusedVerdict}
+
+-- What has to lie in the file, and does or does not
+module _ (a b : ℕ) (x : structure.Handed) (ahead : Ahead) where
+  pub not-there : b < a → handedWith standing.End ahead ≡ handedOf (cond (leb a b) x (endsAt (aheadIn ahead)))
+  not-there l = rw (lt-leb a b l) refl
+
+  pub is-there : a ≤ b → {h : Handed} → h ≡ handedOf x → h ≡ handedOf (cond (leb a b) x (endsAt (aheadIn ahead)))
+  is-there l e = rw (le-leb a b l) e
+
+-- A pattern, by what was read at its place
+pub pattern-handed : (s : List ℕ) (ahead : Ahead) {x : PatternAt} → x ≡ patternAt (ahead .place) s
+    → handedWith (standing.Pattern (ahead .place)) (record { patterns = ahead .patterns - 1; instruments = ahead .instruments; place = x .place + x .size; heads = 0; head = 0; «head_size» = 0 }) ≡ handedOf (handPattern s (aheadIn ahead))
+pattern-handed s ahead e =
+    ap (λ (x : PatternAt). handedWith (standing.Pattern (ahead .place)) (record { patterns = ahead .patterns - 1; instruments = ahead .instruments; place = x .place + x .size; heads = 0; head = 0; «head_size» = 0 })) e
+
+pub pattern-fits : (file : List ℕ) (place : ℕ) → Bytes file → length file ≤ fileMost → place + leastPattern ≤ length file → {x : PatternAt} → x ≡ patternAt place (drop place file) → x .place + x .size < 2 ^ 64
+pattern-fits file place bytes small there e =
+    omega (arith, ap PatternAt.place e, ap PatternAt.size e, long-small 0 (bytes-drop place bytes), word-small 7 (bytes-drop place bytes))
+
+-- An instrument, by the step
+abbrev partIn : InstrumentPart → InstrumentStep → InstrumentPart
+partIn other (step.Read part) = part
+partIn other (step.Refused fault) = other
+
+read-never : {A : Type 0} {part : InstrumentPart} {fault : Fault} → step.Read part ≡ step.Refused fault → A
+read-never e = absurd (let z : _≡_ {A = ℕ} 0 1 = cc in omega arith)
+
+abbrev partNext : Ahead → InstrumentPart → Ahead
+partNext ahead part = record {
+  patterns = ahead .patterns;
+  instruments = ahead .instruments - 1;
+  place = part .next;
+  heads = part .samples;
+  head = ahead .place + part .size;
+  «head_size» = part .«head_size»;
+}
+
+module _ (ahead : Ahead) where
+  pub instrument-handed : (g : Got InstrumentFound) {part : InstrumentPart} → step.Read part ≡ instrumentStep (ahead .place) g
+      → handedWith (standing.Instrument (ahead .place)) (partNext ahead part) ≡ handedOf (handInstrument g (aheadIn ahead))
+  instrument-handed (got i n) {part} e =
+      ap (λ (p : InstrumentPart). handedWith (standing.Instrument (ahead .place)) (partNext ahead p)) (ap (partIn part) e)
+  instrument-handed (refused r) e = read-never e
+
+  pub instrument-not : (g : Got InstrumentFound) {s : InstrumentStep} {fault : Fault} → s ≡ instrumentStep (ahead .place) g → s ≡ step.Refused fault
+      → handedWith standing.End ahead ≡ handedOf (handInstrument g (aheadIn ahead))
+  instrument-not (got i n) e told = read-never (sym e ∙ told)
+  instrument-not (refused r) e told = refl
+
+pub part-fits : (file : List ℕ) (place : ℕ) → Bytes file → {part : InstrumentPart} → step.Read part ≡ instrumentStep place (readInstrument place (drop place file)) → place + part .size ≤ length file
+part-fits file place bytes {part} e = go (readInstrument place (drop place file)) refl e
+  where
+    go : (g : Got InstrumentFound) → readInstrument place (drop place file) ≡ g → step.Read part ≡ instrumentStep place g → place + part .size ≤ length file
+    go (got i n) q e =
+        let t = instrument-told place (drop place file) i n q in
+        omega (arith, ap InstrumentPart.size (ap (partIn part) e), t .fits, t .some, length-drop place file, instrument-keeps .keeps place (drop place file) i n (bytes-drop place bytes) q .inside)
+    go (refused r) q e = read-never e
+
+-- One call, by the tests in their order
+module _ (file : List ℕ) (ahead : Ahead) where
+  pub over-long : fileMost < length file → handedWith standing.End ahead ≡ handedOf (handOver file (aheadIn ahead))
+  unfolding handOver
+  over-long l = rw (lt-leb (length file) fileMost l) refl
+
+  module _ (small : length file ≤ fileMost) where
+    pub over-head : 0 < ahead .heads → {h : Handed} → h ≡ handedOf (cond (leb (ahead .head + ahead .«head_size») (length file)) (handHead (aheadIn ahead)) (endsAt (aheadIn ahead)))
+        → h ≡ handedOf (handOver file (aheadIn ahead))
+    unfolding handOver
+    over-head l e = rw (le-leb (length file) fileMost small, lt-ltb 0 (ahead .heads) l) e
+
+    module _ (no-heads : ahead .heads ≤ 0) where
+      pub over-pattern : 0 < ahead .patterns → {h : Handed}
+          → h ≡ handedOf (cond (leb (ahead .place + leastPattern) (length file)) (handPattern (drop (ahead .place) file) (aheadIn ahead)) (endsAt (aheadIn ahead))) → h ≡ handedOf (handOver file (aheadIn ahead))
+      unfolding handOver
+      over-pattern l e = rw (le-leb (length file) fileMost small, le-ltb 0 (ahead .heads) no-heads, lt-ltb 0 (ahead .patterns) l) e
+
+      module _ (no-patterns : ahead .patterns ≤ 0) where
+        pub over-instrument : 0 < ahead .instruments → {h : Handed}
+            → h ≡ handedOf (cond (leb (ahead .place) (length file)) (handInstrument (readInstrument (ahead .place) (drop (ahead .place) file)) (aheadIn ahead)) (endsAt (aheadIn ahead))) → h ≡ handedOf (handOver file (aheadIn ahead))
+        unfolding handOver
+        over-instrument l e = rw (le-leb (length file) fileMost small, le-ltb 0 (ahead .heads) no-heads, le-ltb 0 (ahead .patterns) no-patterns, lt-ltb 0 (ahead .instruments) l) e
+
+        pub over-end : ahead .instruments ≤ 0 → handedWith standing.End ahead ≡ handedOf (handOver file (aheadIn ahead))
+        unfolding handOver
+        over-end l = rw (le-leb (length file) fileMost small, le-ltb 0 (ahead .heads) no-heads, le-ltb 0 (ahead .patterns) no-patterns, le-ltb 0 (ahead .instruments) l) refl
+
+-- The start
+module _ (file : List ℕ) where
+  pub start-refused : {v : Verdict} {f : Fault} → v ≡ verdictOf (checking file) → v ≡ verdict.Refused f → refusedVerdict v ≡ reachedOf (started file)
+  unfolding started
+  start-refused e told = verdict-refused file e told λ r q same. ap refusedVerdict same ∙ sym (ap reachedOf (answer-refuses (λ (found : Found) end. aheadAtFirst file) q))
+
+  module _ {x : Module} (e : verdict.Accepted x ≡ verdictOf (checking file)) where
+    pub start-accepted : Accepted (readFile file)
+    start-accepted = verdict-got file e λ found end q v. rw q tt
+
+    pub start-reached : {c : Counts} → c ≡ countsOf file
+        → reached.Within (record { patterns = c .patterns; instruments = c .instruments; place = c .start; heads = 0; head = 0; «head_size» = 0 }) ≡ reachedOf (started file)
+    unfolding started
+    start-reached same = verdict-got file e λ found end q v.
+        ap (λ (c : Counts). reached.Within (record { patterns = c .patterns; instruments = c .instruments; place = c .start; heads = 0; head = 0; «head_size» = 0 })) same
+        ∙ sym (ap reachedOf (answer-gives (λ (found : Found) end. aheadAtFirst file) q))

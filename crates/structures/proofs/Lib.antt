@@ -1,0 +1,3 @@
+pub mod HandLaws
+pub mod FewLaws
+pub mod Calls

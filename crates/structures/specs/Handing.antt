@@ -1,0 +1,83 @@
+-- What a reader hands over and how far it has read, as the code has them: by this paper's kinds, the end, and the refusal.
+use Prim.Native.Nat.{ℕ}
+use mathlib.Core.List.{List, [], _∷_}
+use Rattle.xm.specs.Format.{Kind, header, patternHeader, patternData, instrument, sampleHeader, sampleData}
+use Rattle.xm.specs.Answer.{Answer, gives, refuses, numbers}
+use Rattle.xm.specs.Structure as structure
+use Rattle.xm.specs.Structure.{kindNumber, called, readOn}
+use Rattle.refusal.specs.Fault.{faultOf, refusalIn}
+use Rattle.walk.specs.declared.Verdict.{Verdict}
+use Rattle.walk.specs.declared.Verdict.the-variants as verdict
+use Rattle.structures.specs.declared.Standing.{Standing}
+use Rattle.structures.specs.declared.Standing.the-variants as standing
+use Rattle.structures.specs.declared.Ahead.{Ahead}
+use Rattle.structures.specs.declared.Reached.{Reached}
+use Rattle.structures.specs.declared.Reached.the-variants as reached
+use Rattle.structures.specs.declared.Handed.{Handed}
+
+-- Of the regions only these three kinds are structures.
+abbrev pub kindAt : Kind → (place : ℕ) → Standing
+kindAt header place = standing.End
+kindAt patternHeader place = standing.Pattern place
+kindAt patternData place = standing.End
+kindAt instrument place = standing.Instrument place
+kindAt sampleHeader place = standing.SampleHeader place
+kindAt sampleData place = standing.End
+
+abbrev pub standingIn : structure.Standing → Standing
+standingIn (structure.stands kind place) = kindAt kind place
+standingIn structure.ended = standing.End
+
+abbrev pub standingOf : Answer structure.Standing → Standing
+standingOf (gives s) = standingIn s
+standingOf (refuses r) = standing.Refused (faultOf r)
+
+-- This paper's numbers for each case: number, place of the refusal, kind (0 at the end: the file's header is not handed over), place.
+abbrev pub standingNumbers : Standing → List ℕ
+standingNumbers (standing.Pattern place) = 0 ∷ 0 ∷ kindNumber patternHeader ∷ place ∷ []
+standingNumbers (standing.Instrument place) = 0 ∷ 0 ∷ kindNumber instrument ∷ place ∷ []
+standingNumbers (standing.SampleHeader place) = 0 ∷ 0 ∷ kindNumber sampleHeader ∷ place ∷ []
+standingNumbers standing.End = 0 ∷ 0 ∷ 0 ∷ 0 ∷ []
+standingNumbers (standing.Refused fault) = fault .number ∷ fault .place ∷ 0 ∷ 0 ∷ []
+
+-- and the same of the definition's answer.
+abbrev pub kindStanding : structure.Standing → ℕ
+kindStanding (structure.stands kind place) = kindNumber kind
+kindStanding structure.ended = 0
+
+abbrev pub placeStanding : structure.Standing → ℕ
+placeStanding (structure.stands kind place) = place
+placeStanding structure.ended = 0
+
+abbrev pub readingNumbers : Answer structure.Standing → List ℕ
+readingNumbers answer = numbers (kindStanding ∷ placeStanding ∷ []) answer
+
+-- How far has been read, there and back.
+abbrev pub aheadOf : structure.Ahead → Ahead
+aheadOf a = record { patterns = a .patterns; instruments = a .instruments; place = a .place; heads = a .heads; head = a .head; «head_size» = a .headSize }
+
+abbrev pub aheadIn : Ahead → structure.Ahead
+aheadIn a = record { patterns = a .patterns; instruments = a .instruments; place = a .place; heads = a .heads; head = a .head; headSize = a .«head_size» }
+
+abbrev pub reachedOf : Answer structure.Ahead → Reached
+reachedOf (gives a) = reached.Within (aheadOf a)
+reachedOf (refuses r) = reached.Refused (faultOf r)
+
+abbrev pub reachedIn : Reached → Answer structure.Ahead
+reachedIn (reached.Within a) = gives (aheadIn a)
+reachedIn (reached.Refused fault) = refuses (refusalIn fault)
+
+-- What a call gives of it, and how far has been read then.
+abbrev pub handing : (file : List ℕ) → Reached → Handed
+handing file x = record { standing = standingOf (called file (reachedIn x)); reached = reachedOf (readOn file (reachedIn x)) }
+
+abbrev pub handedWith : Standing → Ahead → Handed
+handedWith s a = record { standing = s; reached = reached.Within a }
+
+abbrev pub handedOf : structure.Handed → Handed
+handedOf h = handedWith (standingIn (h .standing)) (aheadOf (h .ahead))
+
+-- The check's refusal, passed on.
+abbrev pub refusedVerdict : Verdict → Reached
+refusedVerdict (verdict.Accepted found) = reached.Refused (record { number = 0; place = 0 })
+refusedVerdict (verdict.Refused fault) = reached.Refused fault
