@@ -1,8 +1,9 @@
 // The listing's one line: `ok END CHANNELS PATTERNS INSTRUMENTS SAMPLES`, or `refused NUMBER PLACE`.
 use reader::count::Counted;
 use reader::count::Counts;
-use reader::count::count_structures;
+use reader::count::count_from;
 use refusal::Fault;
+use structures::start_checked;
 use walk::Verdict;
 ghost use mathlib.Core.Path.{_≡_};
 ghost use Prim.Native.Nat.{_+_, _≤_};
@@ -115,7 +116,8 @@ fn put_counted(end: usize, channels: usize, counted: Counted, line: &mut [u8; 12
     }
 }
 
-// The line of a file, at the front of what is lent, and how many bytes it has.
+// The line of a file, at the front of what is lent, and how many bytes it has. The file is checked once: the small reader starts from the
+// verdict.
 pub fn fill_line(input: &[u8], line: &mut [u8; 128]) -> usize
     ensures size { λ r. ⌜ r ≡ length (lineOf (listing (now (input .entry)))) ⌝ }
     ensures memory { λ _. ⌜ now (line .exit) ≡ inFront (lineOf (listing (now (input .entry)))) (now (line .entry)) ⌝ }
@@ -131,7 +133,8 @@ pub fn fill_line(input: &[u8], line: &mut [u8; 128]) -> usize
     let verdict = walk::check(input);
     match verdict {
         Verdict::Accepted(found) => {
-            let counted = count_structures(input);
+            let place = start_checked(input, verdict);
+            let counted = count_from(input, place);
             put_counted(found.end, found.channels, counted, line)
         }
         Verdict::Refused(fault) => put_refused(fault, line),

@@ -1,11 +1,15 @@
 // The structures of a file counted by kind, with a reader that is run to the end.
-use crate::from_start;
+use crate::Reader;
 use crate::next;
 use refusal::Fault;
+use structures::Reached;
 use structures::Standing;
+use structures::start;
 ghost use mathlib.Core.Path.{_≡_};
 ghost use mathlib.Core.List.{[]};
 ghost use Prim.Native.Nat.{_+_, _<_, _^_};
+ghost use Rattle.xm.specs.Structure.{started};
+ghost use Rattle.structures.specs.Handing.{reachedOf};
 ghost use Rattle.reader.specs.Count.{countsOf, handsOver, oneMore, endsAs, counting, countedOf};
 
 // How many structures there are of each kind.
@@ -82,12 +86,13 @@ fn ends_as(counts: Counts, standing: Standing) -> Counted
     }
 }
 
-// The numbers of patterns, instruments and sample headers: a reader is made and run to the end, and counts what it hands over. On a
-// refused file the check's refusal.
-pub fn count_structures(file: &[u8]) -> Counted
+// The numbers of patterns, instruments and sample headers: a reader that has read nothing yet is run to the end, and what it hands over is
+// counted. On a refused file the check's refusal.
+pub fn count_from(file: &[u8], place: Reached) -> Counted
+    requires { ⌜ place ≡ reachedOf (started (now file)) ⌝ }
     ensures { λ r. ⌜ r ≡ countedOf (counting (now (file .entry))) ⌝ }
 {
-    let mut r = from_start(file);
+    let mut r = Reader { file, place };
     let mut counts = none_counted();
     let mut standing = next(&mut r);
     while is_structure(standing) {
@@ -95,4 +100,12 @@ pub fn count_structures(file: &[u8]) -> Counted
         standing = next(&mut r);
     }
     ends_as(counts, standing)
+}
+
+// The same, and the file is checked here, once.
+pub fn count_structures(file: &[u8]) -> Counted
+    ensures { λ r. ⌜ r ≡ countedOf (counting (now (file .entry))) ⌝ }
+{
+    let place = start(file);
+    count_from(file, place)
 }

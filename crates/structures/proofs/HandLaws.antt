@@ -26,7 +26,6 @@ use Rattle.steps.specs.declared.instrument.InstrumentStep.{InstrumentStep}
 use Rattle.steps.specs.declared.instrument.InstrumentStep.the-variants as step
 use Rattle.walk.specs.File.{verdictOf}
 use Rattle.walk.specs.declared.Module.{Module}
-use Rattle.walk.specs.declared.Verdict.{Verdict}
 use Rattle.walk.specs.declared.Verdict.the-variants as verdict
 use Rattle.tables.specs.Accepted.{Accepted}
 use Rattle.tables.specs.Place.{countsOf, patternAt}
@@ -37,7 +36,7 @@ use Rattle.structures.specs.declared.Standing.the-variants as standing
 use Rattle.structures.specs.declared.Ahead.{Ahead}
 use Rattle.structures.specs.declared.Reached.the-variants as reached
 use Rattle.structures.specs.declared.Handed.{Handed}
-use Rattle.structures.specs.Handing.{aheadIn, handedWith, handedOf, reachedOf, refusedVerdict}
+use Rattle.structures.specs.Handing.{aheadIn, handedWith, handedOf, reachedOf}
 
 -- What has to lie in the file, and does or does not
 module _ (a b : ℕ) (x : structure.Handed) (ahead : Ahead) where
@@ -126,9 +125,9 @@ module _ (file : List ℕ) (ahead : Ahead) where
 
 -- The start
 module _ (file : List ℕ) where
-  pub start-refused : {v : Verdict} {f : Fault} → v ≡ verdictOf (checking file) → v ≡ verdict.Refused f → refusedVerdict v ≡ reachedOf (started file)
+  pub start-refused : {f : Fault} → verdict.Refused f ≡ verdictOf (checking file) → reached.Refused f ≡ reachedOf (started file)
   unfolding started
-  start-refused e told = verdict-refused file e told λ r q same. ap refusedVerdict same ∙ sym (ap reachedOf (answer-refuses (λ (found : Found) end. aheadAtFirst file) q))
+  start-refused e = verdict-refused file e refl λ r q same. ap reached.Refused (cc) ∙ sym (ap reachedOf (answer-refuses (λ (found : Found) end. aheadAtFirst file) q))
 
   module _ {x : Module} (e : verdict.Accepted x ≡ verdictOf (checking file)) where
     pub start-accepted : Accepted (readFile file)

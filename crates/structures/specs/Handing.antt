@@ -6,8 +6,6 @@ use Rattle.xm.specs.Answer.{Answer, gives, refuses, numbers}
 use Rattle.xm.specs.Structure as structure
 use Rattle.xm.specs.Structure.{kindNumber, called, readOn}
 use Rattle.refusal.specs.Fault.{faultOf, refusalIn}
-use Rattle.walk.specs.declared.Verdict.{Verdict}
-use Rattle.walk.specs.declared.Verdict.the-variants as verdict
 use Rattle.structures.specs.declared.Standing.{Standing}
 use Rattle.structures.specs.declared.Standing.the-variants as standing
 use Rattle.structures.specs.declared.Ahead.{Ahead}
@@ -76,8 +74,3 @@ handedWith s a = record { standing = s; reached = reached.Within a }
 
 abbrev pub handedOf : structure.Handed → Handed
 handedOf h = handedWith (standingIn (h .standing)) (aheadOf (h .ahead))
-
--- The check's refusal, passed on.
-abbrev pub refusedVerdict : Verdict → Reached
-refusedVerdict (verdict.Accepted found) = reached.Refused (record { number = 0; place = 0 })
-refusedVerdict (verdict.Refused fault) = reached.Refused fault

@@ -15,8 +15,10 @@ ghost use lib.ListN.{length, drop};
 ghost use Rattle.xm.specs.PatternInFile.{leastPattern};
 ghost use Rattle.xm.specs.Instrument.{readInstrument};
 ghost use Rattle.xm.specs.Module.{fileMost};
+ghost use Rattle.xm.specs.Table.{checking};
 ghost use Rattle.xm.specs.Structure.{endsAt, handHead, handPattern, handInstrument, handOver, started};
-ghost use Rattle.structures.specs.Handing.{aheadIn, handedWith, handedOf, reachedOf, refusedVerdict, handing};
+ghost use Rattle.walk.specs.File.{verdictOf};
+ghost use Rattle.structures.specs.Handing.{aheadIn, handedWith, handedOf, reachedOf, handing};
 
 // A structure's kind and place; or that the end is reached; or the check's refusal.
 pub enum Standing {
@@ -152,36 +154,33 @@ fn hand_over(file: &[u8], ahead: Ahead) -> Handed
     with_ahead(Standing::End, ahead)
 }
 
-// The check's refusal, passed on.
-fn refused_verdict(verdict: Verdict) -> Reached
-    ensures { λ r. ⌜ r ≡ refusedVerdict verdict ⌝ }
+// Before the first call, by the check's verdict on the file.
+pub fn start_checked(file: &[u8], verdict: Verdict) -> Reached
+    requires { ⌜ verdict ≡ verdictOf (checking (now file)) ⌝ }
+    ensures { λ r. ⌜ r ≡ reachedOf (started (now (file .entry))) ⌝ }
 {
     match verdict {
-        Verdict::Accepted(found) => Reached::Refused(Fault {
-            number: 0,
-            place: 0,
-        }),
+        Verdict::Accepted(found) => {
+            let counts = header_counts(file);
+            Reached::Within(Ahead {
+                patterns: counts.patterns,
+                instruments: counts.instruments,
+                place: counts.start,
+                heads: 0,
+                head: 0,
+                head_size: 0,
+            })
+        }
         Verdict::Refused(fault) => Reached::Refused(fault),
     }
 }
 
-// Before the first call: the file is checked, once.
+// The same, and the file is checked here, once.
 pub fn start(file: &[u8]) -> Reached
     ensures { λ r. ⌜ r ≡ reachedOf (started (now (file .entry))) ⌝ }
 {
     let verdict = check(file);
-    let Verdict::Accepted(found) = verdict else {
-        return refused_verdict(verdict);
-    };
-    let counts = header_counts(file);
-    Reached::Within(Ahead {
-        patterns: counts.patterns,
-        instruments: counts.instruments,
-        place: counts.start,
-        heads: 0,
-        head: 0,
-        head_size: 0,
-    })
+    start_checked(file, verdict)
 }
 
 // A call: the next structure, or that the end is reached; of a refused file the check's refusal, again and again.

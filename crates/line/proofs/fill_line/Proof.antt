@@ -1,4 +1,5 @@
 -- `line::fill_line` meets its contract: the law of each exit. Assumes nothing.
+use mathlib.Core.Path.{sym, _∙_}
 use native.Mathlib.Omega.{arith}
 use Rattle.xm.specs.Number.{Bytes}
 use Rattle.line.proofs.Exits.{filled-as, over-line, refused-line, counted-line}
@@ -20,8 +21,11 @@ check-requires c κs = search needs
 enum-known-verdict : tie.Need-enum-known-verdict
 enum-known-verdict c = search needs
 
-count-structures-requires : tie.Need-count-structures-requires
-count-structures-requires c κs = search needs
+start-checked-requires : tie.Need-start-checked-requires
+start-checked-requires c κs = sym (c .before .verdict .given .1) ∙ c .before .before .before .check .ensures
+
+count-from-requires : tie.Need-count-from-requires
+count-from-requires c κs = search needs
 
 put-counted-requires : tie.Need-put-counted-requires
 put-counted-requires c κs = search needs
@@ -34,10 +38,10 @@ put-refused-requires-2 c κs = search needs
 
 returns-2 : tie.Need-returns-2
 returns-2 c =
-    let a = c .before .before .before .before .before .before .before .before .before .args in
-    let plain : Bytes (a .input .now) = record { below = λ i. omega (arith, c .before .before .before .before .before .before .before .before .shared-slice-known .given i) } in
+    let a = c .before .before .before .before .before .before .before .before .before .before .args in
+    let plain : Bytes (a .input .now) = record { below = λ i. omega (arith, c .before .before .before .before .before .before .before .before .before .shared-slice-known .given i) } in
     filled-as _ (a .line .now)
-    (counted-line (a .input .now) (omega arith) (c .before .before .before .before .before .before .check .ensures) plain (c .before .before .before .before .verdict .given .1) (c .before .before .count-structures .ensures))
+    (counted-line (a .input .now) (omega arith) (c .before .before .before .before .before .before .before .check .ensures) plain (c .before .before .before .before .before .verdict .given .1) (c .before .before .count-from .ensures))
     (c .put-counted .ensures)
 
 returns-3 : tie.Need-returns-3
@@ -53,7 +57,8 @@ fill-line-spec =
     returns
     check-requires
     enum-known-verdict
-    count-structures-requires
+    start-checked-requires
+    count-from-requires
     put-counted-requires
     enum-known-verdict-2
     put-refused-requires-2
