@@ -1,5 +1,6 @@
 // A pattern's stored cells: read one by one, checked and measured in one pass, and unpacked.
 use refusal::Fault;
+use slices::write::clear;
 
 mod quick; // two or more cells at a time, and a cell without a branch
 
@@ -420,18 +421,6 @@ fn fill_each(stored: &[u8], count: usize, out: &mut [u8])
     }
 }
 
-// Zeros at the front.
-fn clear(out: &mut [u8], count: usize)
-    requires { ⌜ count ≤ length (now out) ⌝ }
-    ensures { λ _. ⌜ now (out .exit) ≡ inFront (replicate count 0) (now (out .entry)) ⌝ }
-{
-    let mut i: usize = 0;
-    while i < count {
-        out[i] = 0;
-        i += 1;
-    }
-}
-
 // The first cell of a word at the front; of empty ones as many as there may be, for those that follow are written over.
 fn fill_first(stored: &[u8], place: usize, word: u64, out: &mut [u8])
     requires { ⌜ place + 6 ≤ length (now stored) ⌝ }
@@ -439,7 +428,7 @@ fn fill_first(stored: &[u8], place: usize, word: u64, out: &mut [u8])
     ensures { λ _. ⌜ now (out .exit) ≡ inFront (firstFields word (drop place (now (stored .entry)))) (now (out .entry)) ⌝ }
 {
     if word % 256 == 128 {
-        clear(out, 40);
+        clear(40, out);
     } else {
         store_cell(quick::take_at(stored, place), out);
     }
@@ -543,7 +532,7 @@ pub fn unpack(rows: usize, channels: usize, stored: &[u8], cells: &mut [u8]) -> 
         });
     }
     if stored.len() == 0 {
-        clear(cells, count * 5);
+        clear(count * 5, cells);
     } else {
         fill_cells(stored, count, cells);
     }

@@ -1,6 +1,7 @@
 // What the fast loops stand on: empty cells by the word, two cells ahead, and a cell's parts without a branch. A byte is loaded first
 // and chosen after, so that the choice needs no jump.
 use crate::Cell;
+use slices::read::wide;
 ghost use mathlib.Core.Path.{_≡_};
 ghost use Prim.Native.Nat.{_+_, _*_, _%_, _≤_};
 ghost use lib.ListN.{length, drop, getD};
@@ -13,13 +14,6 @@ pub struct Ahead {
     pub cells: usize,
     pub last: usize,
     pub next: usize,
-}
-
-fn wide(x: u8) -> u64
-    ensures { λ r. ⌜ r ≡ x ⌝ }
-    ensures { λ r. ⌜ r ≤ 255 ⌝ }
-{
-    x as u64
 }
 
 // Eight bytes as one number, low first. A loop keeps the number from turn to turn: so it stays one load.

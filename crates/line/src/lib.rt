@@ -3,6 +3,7 @@ use reader::count::Counted;
 use reader::count::Counts;
 use reader::count::count_from;
 use refusal::Fault;
+use slices::write::copy;
 use structures::start_checked;
 use walk::Verdict;
 ghost use mathlib.Core.Path.{_≡_};
@@ -39,19 +40,6 @@ fn put_decimal(number: usize, line: &mut [u8], at: usize) -> usize
     last + 1
 }
 
-fn put_word(word: &[u8], line: &mut [u8]) -> usize
-    requires { ⌜ length (now word) ≤ length (now line) ⌝ }
-    ensures place { λ r. ⌜ r ≡ length (now (word .entry)) ⌝ }
-    ensures memory { λ _. ⌜ now (line .exit) ≡ inFront (now (word .entry)) (now (line .entry)) ⌝ }
-{
-    let mut done: usize = 0;
-    while done < word.len() {
-        line[done] = word[done];
-        done += 1;
-    }
-    done
-}
-
 // Each number behind a space, and the line's end.
 fn put_numbers(numbers: &[usize], line: &mut [u8], at: usize) -> usize
     requires { ⌜ at + length (numbered (now numbers)) ≤ length (now line) ⌝ }
@@ -76,8 +64,8 @@ fn put_line(word: &[u8], numbers: &[usize], line: &mut [u8]) -> usize
     ensures memory { λ _. ⌜ now (line .exit) ≡ inFront (now (word .entry) ++ numbered (now (numbers .entry))) (now (line .entry)) ⌝ }
     ensures front { λ r. ⌜ Front r (now (line .exit)) ⌝ }
 {
-    let at = put_word(word, line);
-    put_numbers(numbers, line, at)
+    copy(word, line);
+    put_numbers(numbers, line, word.len())
 }
 
 fn put_accepted(end: usize, channels: usize, counts: Counts, line: &mut [u8; 128]) -> usize

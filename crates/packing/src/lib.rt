@@ -1,6 +1,7 @@
 // Packing: the cells of a pattern in their shortest stored form.
 use refusal::Fault;
 use shortest::cell;
+use slices::read::wide;
 ghost use mathlib.Core.Path.{_≡_};
 ghost use Prim.Native.Nat.{_+_, _*_, _≤_};
 ghost use mathlib.Core.Bool.{true};
@@ -90,14 +91,6 @@ fn stored_size(rows: usize, count: usize, shortest: usize) -> usize
         }
     }
     shortest
-}
-
-// A byte, wide enough for sums.
-fn wide(byte: u8) -> u64
-    ensures { λ r. ⌜ r ≡ byte ⌝ }
-    ensures { λ r. ⌜ r ≤ 255 ⌝ }
-{
-    byte as u64
 }
 
 // A number that is 0 only for an empty cell: four of its bytes are one load.

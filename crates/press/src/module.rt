@@ -1,8 +1,8 @@
 // The whole of a pressed file: the header, then each pattern and each instrument into what remains of the output.
+use slices::read::long;
+use slices::read::word;
 use steps::instrument::InstrumentStep;
 use steps::instrument::read_instrument;
-use steps::number::long;
-use steps::number::word;
 use writers::header::write_header;
 use writers::instrument::write_instrument;
 use writers::pattern::write_pattern;

@@ -16,25 +16,6 @@ use Rattle.xm.specs.Number.{signed}
 use Rattle.xm.specs.Delta.{residue, fits}
 use Rattle.xm.proofs.Delta.{residue-below}
 
--- A number of some bits, read as signed in a type that holds it
-module _ (w : Width) (width half x : ℕ) (whole : 2 ^ width ≡ half + half) (room : half ≤ 2 ^ hbits w) where
-  pub lower-half : x < half → toZ w x ≡ signed width x
-  unfolding signed
-  lower-half h = toZ-pos w {n = x} (omega arith) ∙ sym (rw (lt-ltb x (2 ^ width / 2) (omega arith)))
-
-  module _ (low : half ≤ x) (high : x < 2 ^ width) where
-    upper-sum : toZ w (x - half) +ℤ negsuc (half - 1) ≡ negsuc (2 ^ width - suc x)
-    upper-sum =
-        ap (λ (z : ℤ). z +ℤ negsuc (half - 1)) (toZ-pos w {n = x - half} (omega arith))
-        ∙ rw (lt-ltb (x - half) (suc (half - 1)) (omega arith)) (ap negsuc (omega arith))
-
-    pub upper-fits : SFits w (toZ w (x - half) +ℤ negsuc (half - 1))
-    upper-fits = subst (SFits w) (sym upper-sum) (record { sfits = omega arith })
-
-    pub upper-half : toZ w (ofZ w (toZ w (x - half) +ℤ negsuc (half - 1))) ≡ signed width x
-    unfolding signed
-    upper-half = toZ-ofZ upper-fits ∙ upper-sum ∙ sym (rw (le-ltb x (2 ^ width / 2) (omega arith)))
-
 -- A value of a signed type, cast to a wider one, is as it was
 module _ (w wider : Width) (z : ℤ) (narrower : T (leb (hbits w) (hbits wider))) (fit : SFits w z) where
   pub widened-fits : SFits wider (toZ w (ofZ w z))

@@ -9,6 +9,7 @@ ghost use Rattle.xm.specs.Delta.{residue, difference, decoded, coded, fits, all
 ghost use Rattle.refusal.specs.Fault.{faultOf};
 ghost use Rattle.samples.specs.Answers.{decodeAnswer, codeAnswer};
 use refusal::Fault;
+use slices::read::signed_byte;
 
 pub enum Decoded {
     // How many values were written.
@@ -41,21 +42,11 @@ fn no_room() -> Fault
     }
 }
 
-fn signed8(number: u8) -> i8
-    ensures { λ r. ⌜ r ≡ signed 8 number ⌝ }
-{
-    if number < 128 {
-        number as i8
-    } else {
-        (number - 128) as i8 + (-128)
-    }
-}
-
 // A widened `i8` is one instruction, and the same choice made in 16 bits is not.
 fn value8(number: u8) -> i16
     ensures { λ r. ⌜ r ≡ signed 8 number ⌝ }
 {
-    signed8(number) as i16
+    signed_byte(number) as i16
 }
 
 fn value16(number: u16) -> i16

@@ -4,5 +4,4 @@ pub mod Row
 pub mod Long
 pub mod Bits
 pub mod Read
-pub mod Copy
 pub mod Short

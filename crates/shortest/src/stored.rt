@@ -1,5 +1,6 @@
 // Stored cells that were accepted, pressed: written again, each in its shortest form.
 use crate::cell;
+use slices::write::copy;
 ghost use mathlib.Core.Path.{_≡_};
 ghost use Prim.Native.Nat.{_+_, _%_, _≤_, _<_};
 ghost use mathlib.Core.Bool.{true};
@@ -145,18 +146,6 @@ pub fn press_cells(stored: &[u8], count: usize, out: &mut [u8]) -> usize
         place += stored_length(lead);
     }
     to
-}
-
-// All of `from` at the front of out: a loop of one byte, which the compiler turns into wide moves.
-pub fn copy(from: &[u8], out: &mut [u8])
-    requires { ⌜ length (now from) ≤ length (now out) ⌝ }
-    ensures { λ _. ⌜ now (out .exit) ≡ inFront (now (from .entry)) (now (out .entry)) ⌝ }
-{
-    let mut done: usize = 0;
-    while done < from.len() {
-        out[done] = from[done];
-        done += 1;
-    }
 }
 
 // An accepted stored form of a pattern in its shortest form at the front of out; its length there. Of 64 empty rows, as `none` tells,

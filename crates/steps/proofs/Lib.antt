@@ -1,7 +1,5 @@
-pub mod NumberLaws
 pub mod Tests
 pub mod HeaderLaws
-pub mod Sign
 pub mod Walking
 pub mod Shift
 pub mod PatternLaws

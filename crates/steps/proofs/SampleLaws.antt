@@ -18,7 +18,7 @@ use Rattle.xm.proofs.Sample.{head-keeps}
 use Rattle.xm.proofs.Instrument.{heads-used}
 use Rattle.refusal.specs.Fault.{faultOf}
 use Rattle.refusal.specs.declared.Fault.{Fault}
-use Rattle.steps.specs.Number.{Byte, Long}
+use Rattle.slices.specs.Number.{Byte, Long}
 use Rattle.steps.specs.Test.{firstFault}
 use Rattle.steps.specs.Sample.{HeadAt, headTestsOf, headsFrom}
 use Rattle.steps.specs.Step.{placeStep}

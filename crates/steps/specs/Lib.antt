@@ -1,4 +1,3 @@
-pub mod Number
 pub mod Test
 pub mod Sample
 pub mod Step

@@ -1,8 +1,8 @@
 // The header step.
-use crate::number::byte;
-use crate::number::long;
-use crate::number::word;
 use refusal::Fault;
+use slices::read::byte;
+use slices::read::long;
+use slices::read::word;
 ghost use mathlib.Core.Path.{_≡_};
 ghost use Rattle.xm.specs.Header.{readHeader, countTests, headerTests};
 ghost use Rattle.xm.specs.Got.{allPass};

@@ -1,9 +1,9 @@
 // The instrument step: the tests in front, and behind its fields the samples.
-use crate::number::long;
-use crate::number::word;
 use crate::sample::PlaceStep;
 use crate::sample::read_samples;
 use refusal::Fault;
+use slices::read::long;
+use slices::read::word;
 ghost use mathlib.Core.Path.{_≡_};
 ghost use Prim.Native.Nat.{_+_, _*_, _≤_};
 ghost use lib.ListN.{length, drop, replicate};

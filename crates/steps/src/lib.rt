@@ -1,6 +1,5 @@
 // The steps of the walk over a file: header, pattern, instrument and samples, each either a value with the next place or a refusal.
 pub mod header;
 pub mod instrument;
-pub mod number;
 pub mod pattern;
 pub mod sample;

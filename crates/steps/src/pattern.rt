@@ -1,10 +1,10 @@
 // The pattern step.
-use crate::number::long;
-use crate::number::word;
 use crate::sample::PlaceStep;
 use cells::StoredStep;
 use cells::Unpacked;
 use refusal::Fault;
+use slices::read::long;
+use slices::read::word;
 ghost use mathlib.Core.Path.{_≡_};
 ghost use Prim.Native.Nat.{_≤_};
 ghost use lib.ListN.{length, drop};

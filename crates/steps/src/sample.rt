@@ -1,11 +1,11 @@
 // Sample headers and sample data. Data are never read, only stepped over.
-use crate::number::byte;
-use crate::number::long;
 use refusal::Fault;
+use slices::read::byte;
+use slices::read::long;
+use slices::read::signed_byte;
 ghost use mathlib.Core.Path.{_≡_};
 ghost use Prim.Native.Nat.{_+_, _*_, _≤_, _<_};
 ghost use lib.ListN.{length, drop, replicate};
-ghost use Rattle.xm.specs.Number.{signed};
 ghost use Rattle.xm.specs.Got.{passes};
 ghost use Rattle.xm.specs.Format.{each};
 ghost use Rattle.xm.specs.Sample.{leastHead, headBytes, readHead, readData, headFormat, dataFormat, samplesFormat};
@@ -27,17 +27,6 @@ pub struct SampleHead {
 pub enum PlaceStep {
     Next(usize),
     Refused(Fault),
-}
-
-// A byte read as signed: 80 hex is -128.
-fn signed_byte(number: u8) -> i8
-    ensures { λ r. ⌜ r ≡ signed 8 number ⌝ }
-{
-    if number < 128 {
-        number as i8
-    } else {
-        (number - 128) as i8 + (-128)
-    }
 }
 
 pub fn sample_head(file: &[u8], at: usize, size: usize) -> SampleHead

@@ -1,6 +1,6 @@
 // What stands at a place of an accepted file: a second pass, which makes no test again and reads no cell.
-use steps::number::long;
-use steps::number::word;
+use slices::read::long;
+use slices::read::word;
 use steps::pattern::rows_read;
 use steps::sample::sample_head;
 ghost use mathlib.Core.Path.{_≡_};

@@ -9,10 +9,6 @@ use borrow.Rule.Slice.PartMut.{putMid}
 use Rattle.xm.specs.Answer.{inFront}
 use Rattle.xm.proofs.Lay.{part-back, part-all, Laid, laid-none, laid-more, laid-done}
 
--- One zero of those that are left
-pub zeros-next : (count done : ℕ) → done < count → replicate {A = ℕ} (count - done) 0 ≡ 0 ∷ replicate (count - (done + 1)) 0
-zeros-next count done h = let n : count - done ≡ suc (count - (done + 1)) = omega arith in ap (λ (n : ℕ). replicate {A = ℕ} n 0) n
-
 -- The first piece is written
 pub laid-first : (lent goal piece later : List ℕ) {out : List ℕ} {next : ℕ} → goal ≡ piece ++ later → length goal ≤ length lent → next ≡ length piece → out ≡ inFront piece lent
     → Laid lent goal out next later

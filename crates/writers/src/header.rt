@@ -1,10 +1,10 @@
 // The header of a pressed file: 336 bytes.
-use crate::bytes::clear;
-use crate::bytes::put_byte;
-use crate::bytes::put_long;
-use crate::bytes::put_word;
-use shortest::stored::copy;
-use steps::number::word;
+use slices::read::word;
+use slices::write::clear;
+use slices::write::copy;
+use slices::write::put_byte;
+use slices::write::put_long;
+use slices::write::put_word;
 ghost use mathlib.Core.Path.{_≡_};
 ghost use Prim.Native.Nat.{_≤_, _<_};
 ghost use lib.ListN.{length};

@@ -1,7 +1,7 @@
 // An instrument of a pressed file, with its sample headers and its samples' data.
-use crate::bytes::clear;
-use crate::bytes::put_long;
-use shortest::stored::copy;
+use slices::write::clear;
+use slices::write::copy;
+use slices::write::put_long;
 use steps::instrument::InstrumentPart;
 ghost use mathlib.Core.Path.{_≡_};
 ghost use Prim.Native.Nat.{_+_, _*_, _≤_, _<_};

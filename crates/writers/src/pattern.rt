@@ -1,10 +1,10 @@
 // A pattern of a pressed file.
-use crate::bytes::put_byte;
-use crate::bytes::put_long;
-use crate::bytes::put_word;
 use shortest::stored::write_stored;
-use steps::number::long;
-use steps::number::word;
+use slices::read::long;
+use slices::read::word;
+use slices::write::put_byte;
+use slices::write::put_long;
+use slices::write::put_word;
 use steps::pattern::COPIED;
 use steps::pattern::NOTHING;
 use steps::pattern::rows_read;

@@ -3,7 +3,7 @@ use mathlib.Core.Path.{refl}
 use native.Mathlib.Omega.{arith}
 use borrow.Author.Needs.{needs}
 use mir.Syntax.{w16}
-use Rattle.samples.proofs.Sign.{lower-half, upper-fits, upper-half}
+use Rattle.slices.proofs.Sign.{lower-half, upper-fits, upper-half}
 use Rattle.samples.proofs.value16.Statement.{statement}
 use Rattle.samples.proofs.value16.Tie as tie
 

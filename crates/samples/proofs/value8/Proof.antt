@@ -6,14 +6,14 @@ use Rattle.samples.proofs.Sign.{widened-fits, widened}
 use Rattle.samples.proofs.value8.Statement.{statement}
 use Rattle.samples.proofs.value8.Tie as tie
 
-signed8-requires : tie.Need-signed8-requires
-signed8-requires c κs = search needs
+signed-byte-requires : tie.Need-signed-byte-requires
+signed-byte-requires c κs = search needs
 
 cast-result : tie.Need-cast-result
-cast-result c = widened-fits w8 w16 (c .signed8 .result) tt (record { sfits = c .signed8 .ok })
+cast-result c = widened-fits w8 w16 (c .signed-byte .result) tt (record { sfits = c .signed-byte .ok })
 
 returns : tie.Need-returns
-returns c = widened w8 w16 (c .signed8 .result) tt (record { sfits = c .signed8 .ok }) ∙ c .signed8 .ensures
+returns c = widened w8 w16 (c .signed-byte .result) tt (record { sfits = c .signed-byte .ok }) ∙ c .signed-byte .ensures
 
 pub value8-spec : {M : Type 1} → statement M
-value8-spec = tie.close (tie.spec signed8-requires cast-result returns)
+value8-spec = tie.close (tie.spec signed-byte-requires cast-result returns)

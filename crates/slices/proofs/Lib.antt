@@ -1,0 +1,3 @@
+pub mod NumberLaws
+pub mod Sign
+pub mod Zeros

@@ -1,0 +1,46 @@
+// The numbers of one, two and four bytes at an offset from a place, and a byte read as signed.
+ghost use mathlib.Core.Path.{_≡_};
+ghost use Prim.Native.Nat.{_+_, _≤_, _<_};
+ghost use lib.ListN.{length, drop};
+ghost use Rattle.xm.specs.Number.{signed};
+ghost use Rattle.slices.specs.Number.{Byte, Word, Long};
+
+pub fn byte(file: &[u8], place: usize, offset: usize) -> usize
+    requires { ⌜ place + offset < length (now file) ⌝ }
+    ensures { λ r. ⌜ Byte offset (drop place (now (file .entry))) r ⌝ }
+{
+    file[place + offset] as usize
+}
+
+pub fn word(file: &[u8], place: usize, offset: usize) -> usize
+    requires { ⌜ place + offset + 2 ≤ length (now file) ⌝ }
+    ensures { λ r. ⌜ Word offset (drop place (now (file .entry))) r ⌝ }
+{
+    byte(file, place, offset) + 256 * byte(file, place, offset + 1)
+}
+
+pub fn long(file: &[u8], place: usize, offset: usize) -> usize
+    requires { ⌜ place + offset + 4 ≤ length (now file) ⌝ }
+    ensures { λ r. ⌜ Long offset (drop place (now (file .entry))) r ⌝ }
+{
+    word(file, place, offset) + 65536 * word(file, place, offset + 2)
+}
+
+// A byte wide enough for sums of eight.
+pub fn wide(number: u8) -> u64
+    ensures { λ r. ⌜ r ≡ number ⌝ }
+    ensures { λ r. ⌜ r ≤ 255 ⌝ }
+{
+    number as u64
+}
+
+// A byte read as signed: 80 hex is -128. The sum is one instruction, and a choice in a wider type is not.
+pub fn signed_byte(number: u8) -> i8
+    ensures { λ r. ⌜ r ≡ signed 8 number ⌝ }
+{
+    if number < 128 {
+        number as i8
+    } else {
+        (number - 128) as i8 + (-128)
+    }
+}
