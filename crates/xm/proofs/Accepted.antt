@@ -9,10 +9,8 @@ use lib.Dec.{eqb}
 use lib.ListN.{length, getD, take, drop, replicate, length-append, length-take, length-map, length-replicate, List·getD-append}
 use lib.Seq.{drop-at, take-at, getD-append-add}
 use Rattle.xm.specs.Number.{Bytes, byteAt, longAt, part, signed}
-use Rattle.xm.specs.Got.{got, Holds}
-use Rattle.xm.specs.Format.{Format, each, sampleData, joined, EachGood, All}
-use Rattle.xm.specs.Cell.{cellFormat, readCell}
-use Rattle.xm.specs.Stored.{Pattern, readCells, readStored}
+use Rattle.xm.specs.Got.{Holds}
+use Rattle.xm.specs.Format.{Format, sampleData, joined, EachGood, All}
 use Rattle.xm.specs.PatternInFile.{PatternFound, GoodStored, patternFormat}
 use Rattle.xm.specs.Sample.{leastHead, Stretch, isWide, widthOf, lengthOf}
 use Rattle.xm.specs.Instrument.{InstrumentFound, instrumentView}
@@ -22,10 +20,11 @@ use Rattle.xm.specs.Table.{SampleRow, patternRow, sampleCount, instrumen
 use Rattle.xm.specs.Asking.{Lies, asking, noRow}
 use Rattle.xm.specs.Demands.{RowUnpacks, RowsUnpack, FindsRows, RowReads, RowDecodes, RowsDecode, liesAt, Asked, AsksExactly, LoopInside, AcceptedFiles}
 use Rattle.xm.proofs.Number.{byte-part, long-part}
-use Rattle.xm.proofs.Got.{no-true, pass, step, passed, bind-got, got-carry}
+use Rattle.xm.proofs.Got.{no-true, pass}
 use Rattle.xm.proofs.Answer.{answer-gives, answer-refuses, tests-fail}
 use Rattle.xm.proofs.Format.{joined-length, all-append, each-length}
 use Rattle.xm.proofs.Packing.{unpack-gives}
+use Rattle.xm.proofs.Row.{stored-again}
 use Rattle.xm.proofs.PatternInFile.{PatternTold}
 use Rattle.xm.proofs.Sample.{HeadTold, DataTold, Sized, SamplesTold}
 use Rattle.xm.proofs.Module.{module-keeps, module-adjoins, module-tells, whole-read}
@@ -176,25 +175,7 @@ module _ (file : List ℕ) (rows : List SampleRow) (inside : All (λ (row : Samp
         ∙ asks-exactly file (length (rows ++ stale)) number (liesAt rows number) .0 (omega (arith, length-append rows stale), row-inside number h);
   }
 
--- An accepted reading of cells does not depend on the place, nor on the row number that no data have
-cells-anywhere : (n place other : ℕ) (s : List ℕ) (cells : List (List ℕ)) (used : ℕ) → each cellFormat .read (replicate n tt) place s ≡ got cells used
-    → each cellFormat .read (replicate n tt) other s ≡ got cells used
-unfolding readCell
-cells-anywhere zero place other s cells used e = e
-cells-anywhere (suc n) place other s cells used e =
-    bind-got _ _ e λ i k ei e₁. bind-got _ _ e₁ λ js m ej e₂.
-    passed _ _ ei λ h ei.
-    step _ (pass _ h ei) (step _ (cells-anywhere n (place + k) (other + k) (drop k s) js m ej) e₂)
-
-stored-anywhere : (channels rows place : ℕ) (d : List ℕ) (p : Pattern) (used : ℕ) → readStored channels rows place d ≡ got p used → readStored channels (p .rows) 0 d ≡ got p used
-unfolding readStored readCells
-stored-anywhere channels rows place [] p used e = e
-stored-anywhere channels rows place (b ∷ d) p used e =
-    bind-got _ _ e λ cells k ec e₁.
-    passed _ _ e₁ λ h e₂.
-    got-carry (λ (q : Pattern) (u : ℕ). readCells channels (q .rows) 0 (b ∷ d) ≡ got q u) e₂
-    (step _ (cells-anywhere (rows * channels) place 0 (b ∷ d) cells k ec) (pass _ h refl))
-
+-- A pattern's row and its data
 row-unpacks : (file : List ℕ) (channels : ℕ) (i : PatternFound) → 1 ≤ channels → channels ≤ 64 → PatternTold channels file i → GoodStored channels (i .content)
     → RowUnpacks file channels (patternRow i) (i .content)
 row-unpacks file channels i low high t g = (
@@ -203,7 +184,7 @@ row-unpacks file channels i low high t g = (
       let d = part (i .dataPlace) (i .dataSize) file in
       unpack-gives (i .content .rows) channels d room
       ((g .pattern .low, g .pattern .high), ((low, high), (omega (arith, length-take (i .dataSize) (drop (i .dataPlace) file), t .small), tt)))
-      (stored-anywhere channels (t .rows) (i .dataPlace) d (i .content) (t .used) (t .reads)) h,
+      (stored-again channels (t .rows) (i .dataPlace) d (i .content) (t .used) (t .reads)) h,
 )
 
 rows-unpack : (file : List ℕ) (channels : ℕ) (ps : List PatternFound) → 1 ≤ channels → channels ≤ 64 → All (PatternTold channels file) ps

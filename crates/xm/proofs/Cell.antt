@@ -14,9 +14,9 @@ use lib.Seq.{drop-drop}
 use Rattle.xm.specs.Number.{Bytes}
 use Rattle.xm.specs.Got.{got, refused, present, atMost, _at_}
 use Rattle.xm.specs.Format.{All}
-use Rattle.xm.specs.Cell.{noteMost, five, lengthBy, fieldBy, fieldsBy, needed, cellAt, readCell, bit, kept, marks, kepts, marked, goesPlain, writeCell, cellMost, GoodCell, cellFormat}
+use Rattle.xm.specs.Cell.{noteMost, five, lengthBy, fieldBy, fieldsBy, needed, cellAt, readCell, bit, kept, marks, kepts, marked, plainBy, goesPlain, writeCell, cellMost, GoodCell, cellFormat}
 use Rattle.xm.proofs.Number.{bytes-drop, bytes-nil, bytes-cons, bytes-tail, bytes-append}
-use Rattle.xm.proofs.Got.{test-holds, test-fails, pass, passed, got-both, got-carry}
+use Rattle.xm.proofs.Got.{test-holds, test-fails, pass, passed, got-value, got-used, got-both, got-carry}
 use Rattle.xm.proofs.Format.{Back, Keeps, Held}
 
 -- Lists of five
@@ -76,11 +76,6 @@ pub marks-sum : (a b c d e : ℕ) → marks (a ∷ b ∷ c ∷ d ∷ e ∷ []) �
 unfolding marks
 marks-sum a b c d e = omega arith
 
-pub lead-sum : (s : List ℕ) → getD (marked (five s)) 0 0
-    ≡ 128 + bit (getD s 0 0) + 2 * bit (getD s 1 0) + 4 * bit (getD s 2 0) + 8 * bit (getD s 3 0) + 16 * bit (getD s 4 0)
-unfolding marked
-lead-sum s = omega (arith, marks-sum (getD s 0 0) (getD s 1 0) (getD s 2 0) (getD s 3 0) (getD s 4 0))
-
 pub kepts-sum : (a b c d e : ℕ) → length (kepts (a ∷ b ∷ c ∷ d ∷ e ∷ [])) ≡ bit a + (bit b + (bit c + (bit d + bit e)))
 unfolding kepts
 kepts-sum a b c d e = simp (length-append, append-nil, kept-length)
@@ -89,7 +84,7 @@ pub marked-length : (cell : List ℕ) → length (marked cell) ≡ 1 + length (k
 unfolding marked
 marked-length cell = omega arith
 
-marks-small : (s : List ℕ) → marks (five s) < 32
+pub marks-small : (s : List ℕ) → marks (five s) < 32
 marks-small s =
     omega (
       arith,
@@ -221,6 +216,16 @@ module _ (place : ℕ) (s : List ℕ) where
   unfolding readCell
   read-got h n = pass _ (h, (n, tt)) refl
 
+-- What one cell that was read says
+pub record CellRead (s cell : List ℕ) (used : ℕ) : Type 0 where
+  pub fits : needed s ≤ length s
+  pub same : cell ≡ cellAt s
+  pub long : used ≡ needed s
+
+pub cell-read : (place : ℕ) (s cell : List ℕ) (used : ℕ) → readCell place s ≡ got cell used → CellRead s cell used
+unfolding readCell
+cell-read place s cell used e = passed _ _ e λ h e. record { fits = h .0; same = sym (got-value e); long = sym (got-used e) }
+
 -- Plain where no field is 0, else marked
 pub write-plain : (cell : List ℕ) → goesPlain cell ≡ true → writeCell cell ≡ cell
 unfolding writeCell
@@ -230,7 +235,7 @@ pub write-marked : (cell : List ℕ) → goesPlain cell ≡ false → writeCell 
 unfolding writeCell
 write-marked cell e = rw e
 
-kepts-most : (cell : List ℕ) → length (kepts cell) ≤ length cell
+pub kepts-most : (cell : List ℕ) → length (kepts cell) ≤ length cell
 unfolding kepts
 kepts-most [] = omega arith
 kepts-most (x ∷ xs) = rw length-append (omega (arith, kepts-most xs, kept-length x, bit-most x))
@@ -248,45 +253,47 @@ all-kept (x ∷ xs) h =
     let k = kept-length x in
     (λ e. omega (arith, kepts-most xs, bit-none x e), all-kept xs (omega (arith, bit-most x)))
 
--- It is plain if that is shorter, and else marked
-plain-shorter : (cell : List ℕ) → goesPlain cell ≡ true → length cell < length (marked cell)
-unfolding goesPlain
-plain-shorter cell e = omega (arith, ltb-true)
+-- By the fields kept: plain if that is shorter
+pub plain-many : (note fields : ℕ) → plainBy note fields ≡ true → 5 ≤ fields
+unfolding plainBy
+plain-many note fields e = omega (arith, ltb-true)
 
-marked-shorter : (cell : List ℕ) → goesPlain cell ≡ false → length (marked cell) ≤ length cell
-unfolding goesPlain
-marked-shorter cell e = omega (arith, ltb-false)
+pub marked-few : (note fields : ℕ) → plainBy note fields ≡ false → fields ≤ 4
+unfolding plainBy
+marked-few note fields e = omega (arith, ltb-false)
 
-goes-plain : (cell : List ℕ) → length cell < length (marked cell) → goesPlain cell ≡ true
-unfolding goesPlain
-goes-plain cell h = omega (arith, lt-ltb)
+pub many-plain : (note fields : ℕ) → 5 ≤ fields → plainBy note fields ≡ true
+unfolding plainBy
+many-plain note fields h = omega (arith, lt-ltb)
 
-pub plain-full : (cell : List ℕ) → (goesPlain cell ≡ true) ↔ All (λ (x : ℕ). x ≡ 0 → ⊥) cell
-plain-full cell =
-    let l = marked-length cell in (λ e. all-kept cell (omega (arith, plain-shorter cell e)), λ h. goes-plain cell (omega (arith, kepts-all cell h)))
+pub plain-full : (cell : List ℕ) → length cell ≡ 5 → (goesPlain cell ≡ true) ↔ All (λ (x : ℕ). x ≡ 0 → ⊥) cell
+unfolding goesPlain
+plain-full cell h = (λ e. all-kept cell (omega (arith, plain-many (getD cell 0 0) (length (kepts cell)) e)), λ f. many-plain (getD cell 0 0) (length (kepts cell)) (omega (arith, kepts-all cell f)))
 
 -- A cell of five fields takes 1 to 5 bytes, and one of full fields takes 5
-write-case : (P : List ℕ → Type 0) (cell : List ℕ) → (length cell < length (marked cell) → P cell) → (length (marked cell) ≤ length cell → P (marked cell)) → P (writeCell cell)
+write-case : (P : List ℕ → Type 0) (cell : List ℕ) → (goesPlain cell ≡ true → P cell) → (goesPlain cell ≡ false → P (marked cell)) → P (writeCell cell)
 unfolding writeCell
 write-case P cell plain mark = go (goesPlain cell) refl
   where
     go : (t : Bool) → goesPlain cell ≡ t → P (cond t cell (marked cell))
-    go true e = plain (plain-shorter cell e)
-    go false e = mark (marked-shorter cell e)
+    go true e = plain e
+    go false e = mark e
 
 pub write-some : (cell : List ℕ) → length cell ≡ 5 → 1 ≤ length (writeCell cell)
 write-some cell h = write-case (λ (w : List ℕ). 1 ≤ length w) cell (λ p. omega arith) (λ p. omega (arith, marked-length cell))
 
 pub write-most : (cell : List ℕ) → length cell ≡ 5 → length (writeCell cell) ≤ cellMost
-write-most cell h = write-case (λ (w : List ℕ). length w ≤ cellMost) cell (λ p. omega arith) (λ p. omega arith)
+unfolding goesPlain
+write-most cell h =
+    write-case (λ (w : List ℕ). length w ≤ cellMost) cell (λ p. omega arith) (λ p. omega (arith, marked-length cell, marked-few (getD cell 0 0) (length (kepts cell)) p))
 
-pub write-full : (cell : List ℕ) → All (λ (x : ℕ). x ≡ 0 → ⊥) cell → writeCell cell ≡ cell
-write-full cell h = write-plain cell (plain-full cell .1 h)
+pub write-full : (cell : List ℕ) → length cell ≡ 5 → All (λ (x : ℕ). x ≡ 0 → ⊥) cell → writeCell cell ≡ cell
+write-full cell h f = write-plain cell (plain-full cell h .1 f)
 
-write-least : (cell : List ℕ) → length (writeCell cell) ≤ 1 + length (kepts cell)
-write-least cell =
-    let l = marked-length cell in
-    write-case (λ (w : List ℕ). length w ≤ 1 + length (kepts cell)) cell (λ p. omega arith) (λ p. omega arith)
+write-least : (cell : List ℕ) → length cell ≡ 5 → length (writeCell cell) ≤ 1 + length (kepts cell)
+unfolding goesPlain
+write-least cell h =
+    write-case (λ (w : List ℕ). length w ≤ 1 + length (kepts cell)) cell (λ p. omega (arith, plain-many (getD cell 0 0) (length (kepts cell)) p)) (λ p. omega (arith, marked-length cell))
 
 -- Marks with a number t above their bits: their ones are the fields kept, and these read back
 on : ℕ → List ℕ → ℕ
@@ -397,7 +404,7 @@ write-short s = go (ltb (getD s 0 0) 128) refl
         let h = ltb-false (getD s 0 0) 128 e in
         omega (
           arith,
-          write-least (cellAt s),
+          write-least (cellAt s) (cell-length s),
           length-marked (getD s 0 0) h,
           ones-in (getD s 0 0),
           ap (λ (c : List ℕ). length (kepts c)) (cell-marked s h),

@@ -7,27 +7,22 @@ use mathlib.Core.Path.{_≡_, refl, sym, ap, _∙_, subst}
 use native.Mathlib.Nat.{mod-lt, mod-eq-of-lt, mod-add-mod, add-mod-mod, add-mod-right, pow-suc}
 use native.Mathlib.Numerals.{add-one}
 use native.Mathlib.Omega.{arith}
-use lib.Dec.{leb, ltb, eqb}
+use lib.Dec.{ltb, eqb}
 use lib.IntN.{ℤ, pos, negsuc}
 use lib.ListN.{length, getD, drop, length-map, drop-of-length-le}
 use lib.Seq.{drop-cons}
 use lib.Pow.{pow-pos}
-use borrow.Author.Tests.{leb-true, leb-false, ltb-true, ltb-false, lt-ltb, le-ltb, eqb-true}
+use borrow.Author.Tests.{ltb-true, ltb-false, lt-ltb, le-ltb, eqb-true}
 use Rattle.xm.specs.Number.{Bytes, word, signed}
 use Rattle.xm.specs.Got.{Got, got, refused, _>>_, Test, checked, even, holds, when, present, _at_, refusalOf, Holds}
 use Rattle.xm.specs.Format.{joined, All}
-use Rattle.xm.specs.Answer.{Answer, gives, refuses, answered, numberOf}
+use Rattle.xm.specs.Answer.{Answer, gives, refuses, answered}
 use Rattle.xm.specs.Delta.{pairs, storedNumbers, storedBytes, sums, decoded, residue, difference, differences, coded, fits, allFit, widthTest, decoding, coding}
-use Rattle.xm.proofs.Number.{bytes-nil, bytes-cons, bytes-tail}
+use Rattle.xm.proofs.Number.{bytes-tail}
 use Rattle.xm.proofs.Got.{test-holds, test-fails, pass, passed, got-value}
 use Rattle.xm.proofs.Format.{cons-path}
 
--- The one modular law, over the width. A difference is a number of the width
-pub difference-below : (width before value : ℕ) → difference width before value < 2 ^ width
-unfolding difference
-difference-below width before value = mod-lt _ (pow-pos width)
-
--- What was taken away and is added back gives the value
+-- The one modular law, over the width: what was taken away and is added back gives the value
 pub difference-added : (width before value : ℕ) → before < 2 ^ width → value < 2 ^ width → (before + difference width before value) % 2 ^ width ≡ value
 unfolding difference
 difference-added width before value b v =
@@ -290,26 +285,6 @@ module _ (width : ℕ) (known : Holds (widthTest width)) where
       (differences width 0 (map (residue width) values))
       ∙ ap (λ (n : ℕ). width / 8 * n) (differences-length width 0 (map (residue width) values) ∙ length-map values (residue width))
 
--- What is coded is bytes
-words-bytes : (stored : List ℕ) → All (λ n. n < 2 ^ 16) stored → Bytes (joined word stored)
-words-bytes [] s = bytes-nil
-words-bytes (n ∷ ns) s = bytes-cons (omega arith) (bytes-cons (omega (arith, s .0)) (words-bytes ns (s .1)))
-
-below-bytes : (stored : List ℕ) → All (λ n. n < 2 ^ 8) stored → Bytes stored
-below-bytes [] s = bytes-nil
-below-bytes (n ∷ ns) s = bytes-cons (s .0) (below-bytes ns (s .1))
-
-differences-below : (width before : ℕ) (values : List ℕ) → All (λ n. n < 2 ^ width) (differences width before values)
-unfolding differences
-differences-below width before [] = tt
-differences-below width before (v ∷ vs) = (difference-below width before v, differences-below width v vs)
-
-pub coded-bytes : (width : ℕ) (values : List ℤ) → Holds (widthTest width) → Bytes (coded width values)
-unfolding coded storedBytes
-coded-bytes width values h =
-    by-width (λ w. (stored : List ℕ) → All (λ n. n < 2 ^ w) stored → Bytes (storedBytes w stored)) below-bytes words-bytes width h
-    (differences width 0 (map (residue width) values)) (differences-below width 0 (map (residue width) values))
-
 -- Values that are read at a width fit it
 values-fit : (half before : ℕ) (stored : List ℕ) → allFit (suc half) (valuesFrom (suc half) before stored) ≡ true
 unfolding sums
@@ -434,11 +409,3 @@ decoding-coding width bytes values room enough p e l =
   where
     covered : Holds (widthTest width) → decoded width bytes ≡ values → width ≡ 8 → allFit 8 values ≡ true
     covered h d q = ap (λ (w : ℕ). allFit w values) (sym q) ∙ ap (allFit width) (sym d) ∙ decoded-fit width bytes h
-
--- "When reading", number 16 says that the width or the count of bytes is wrong, and nothing else
-pub decoding-never-sixteen : (width : ℕ) (bytes : List ℕ) (room : ℕ) → Holds (widthTest width) → Paired width bytes → numberOf (decoding width bytes room) ≡ 16 → ⊥
-decoding-never-sixteen width bytes room h paired e = go (leb (length (decoded width bytes)) room) refl
-  where
-    go : (b : Bool) → leb (length (decoded width bytes)) room ≡ b → ⊥
-    go true q = let z : _≡_ {A = ℕ} 0 16 = sym (ap numberOf (decoding-given width bytes room h paired (leb-true _ _ q))) ∙ e in omega arith
-    go false q = let z : _≡_ {A = ℕ} 14 16 = sym (ap numberOf (decoding-room width bytes room h paired (leb-false _ _ q))) ∙ e in omega arith

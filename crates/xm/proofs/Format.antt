@@ -11,7 +11,7 @@ use Rattle.xm.specs.Number.{Bytes}
 use Rattle.xm.specs.Got.{Got, got, _>>=_}
 use Rattle.xm.specs.Format.{Region, Format, joined, flat, over, then, each, eachRead, EachGood, All}
 use Rattle.xm.specs.Structure.{isStructure}
-use Rattle.xm.specs.Demands.{Adjoin}
+use Rattle.xm.specs.Region.{Adjoin}
 use Rattle.xm.proofs.Number.{bytes-drop, bytes-nil, bytes-append, Agree, agree-fewer, agree-drop}
 use Rattle.xm.proofs.Got.{step, bind-got, got-carry}
 

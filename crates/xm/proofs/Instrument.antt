@@ -14,7 +14,7 @@ use Rattle.xm.specs.Got.{got, Test, AllHold, present, atLeast, atMost, w
 use Rattle.xm.specs.Format.{Format, each, joined, flat, EachGood}
 use Rattle.xm.specs.Sample.{leastHead, Samples, SamplesFound, samplesFormat, Stretch, readHead, headFormat, dataFormat}
 use Rattle.xm.specs.Instrument.{leastInstrument, samplesMost, instrumentTests, Instrument, InstrumentFound, voiceSize, voiceOf, readInstrument, writeVoice, countOf, writeInstrument, GoodVoice, GoodInstrument, instrumentView, instrumentFormat}
-use Rattle.xm.specs.Demands.{Adjoin}
+use Rattle.xm.specs.Region.{Adjoin}
 use Rattle.xm.proofs.Number.{bytes-drop, bytes-take, bytes-append, bytes-nil, bytes-cons, bytes-zeros, word-small, long-small, Agree, agree-byte, agree-word, agree-long, agree-part, agree-drop, agree-fewer}
 use Rattle.xm.proofs.Got.{no-true, pass, step, passed, bind-got, got-used, got-both, got-carry}
 use Rattle.xm.proofs.Format.{Back, ReadsBack, Keeps, Held, Adjoins, Firm, Tells, each-length, flat-append}

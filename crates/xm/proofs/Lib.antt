@@ -5,6 +5,8 @@ pub mod Format
 pub mod Field
 pub mod Cell
 pub mod Stored
+pub mod Short
+pub mod Row
 pub mod Packing
 pub mod Delta
 pub mod Bench

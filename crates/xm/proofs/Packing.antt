@@ -80,24 +80,6 @@ pub notes-done : (n place : ℕ) (cells : List ℕ) → n ≡ 0 → checked (not
 unfolding checked
 notes-done n place cells h = rw h
 
--- The first note above 97 is that of the cell numbered i
-notes-from : (i n place : ℕ) (cells : List ℕ) → i < n → ((j : ℕ) → j < i → getD cells (place + j * 5) 0 ≤ noteMost) → noteMost < getD cells (place + i * 5) 0
-    → checked (noteTests n place (drop place cells)) ≡ refused (9 at (place + i * 5))
-notes-from zero n place cells h low high =
-    let z : place + 0 ≡ place = omega arith in
-    rw z (notes-stop n place cells (omega arith) (rw z at high))
-notes-from (suc i) n place cells h low high =
-    let z : place + 0 ≡ place = omega arith in
-    let next : (j : ℕ) → place + suc j * 5 ≡ place + 5 + j * 5 = λ j. omega arith in
-    notes-more n place cells (omega arith) (rw z at (low 0 (omega arith)))
-    ∙ rw (next i) (notes-from i (n - 1) (place + 5) cells (omega arith) (λ j l. rw (next j) at (low (suc j) (omega arith))) (rw (next i) at high))
-
-pub notes-first : (i n : ℕ) (cells : List ℕ) → i < n → ((j : ℕ) → j < i → getD cells (j * 5) 0 ≤ noteMost) → noteMost < getD cells (i * 5) 0
-    → checked (noteTests n 0 cells) ≡ refused (9 at (i * 5))
-notes-first i n cells h low high =
-    let z : (j : ℕ) → 0 + j * 5 ≡ j * 5 = λ j. omega arith in
-    rw (z i) at (notes-from i n 0 cells h (λ j l. rw (z j) (low j l)) (rw (z i) high))
-
 -- Each exit of packing
 module _ (rows channels : ℕ) (cells : List ℕ) (room : ℕ) where
   pub pack-argument : (PackRange rows channels cells → ⊥) → packing rows channels cells room ≡ refuses (16 at 0)

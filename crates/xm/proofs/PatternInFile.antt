@@ -11,7 +11,7 @@ use Rattle.xm.specs.Got.{got, AllHold, present, atLeast, within, _at_}
 use Rattle.xm.specs.Format.{flat}
 use Rattle.xm.specs.Stored.{Pattern, GoodPattern, readStored, writeStored}
 use Rattle.xm.specs.PatternInFile.{leastPattern, dataMost, patternTests, PatternFound, GoodStored, readPattern, writePattern, patternFormat}
-use Rattle.xm.specs.Demands.{Adjoin}
+use Rattle.xm.specs.Region.{Adjoin}
 use Rattle.xm.proofs.Number.{bytes-drop, bytes-take, bytes-append, bytes-nil, word-small, part-drop, Agree, agree-word, agree-long, agree-part}
 use Rattle.xm.proofs.Got.{no-true, pass, step, passed, bind-got, got-both, got-carry}
 use Rattle.xm.proofs.Format.{Back, ReadsBack, Keeps, Held, Adjoins, Firm, Tells}

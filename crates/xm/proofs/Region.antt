@@ -8,7 +8,8 @@ use lib.Dec.{eqb}
 use lib.ListN.{length}
 use Rattle.xm.specs.Format.{Kind, Region, joined, All}
 use Rattle.xm.specs.Asking.{Lies}
-use Rattle.xm.specs.Demands.{Adjoin, regionAt, RegionsApart, ofKind}
+use Rattle.xm.specs.Region.{Adjoin, regionAt, ofKind}
+use Rattle.xm.specs.Demands.{RegionsApart}
 use Rattle.xm.specs.Structure.{kindNumber}
 use Rattle.xm.proofs.Format.{cons-path}
 

@@ -9,7 +9,7 @@ use Rattle.xm.specs.Number.{Bytes, part}
 use Rattle.xm.specs.Got.{got, AllHold}
 use Rattle.xm.specs.Format.{Format, each, All}
 use Rattle.xm.specs.Sample.{leastHead, headBytes, dataSize, headTests, Stretch, readHead, headFormat, readData, dataFormat, SamplesFound, samplesFormat}
-use Rattle.xm.specs.Demands.{Adjoin}
+use Rattle.xm.specs.Region.{Adjoin}
 use Rattle.xm.proofs.Number.{bytes-take, agree-take}
 use Rattle.xm.proofs.Got.{no-true, pass, passed, bind-got, got-by, got-value, got-carry}
 use Rattle.xm.proofs.Format.{Back, Keeps, Held, Adjoins, Firm, Tells, then-back, then-keeps, then-adjoins, then-firm, then-tells, each-back, each-keeps, each-adjoins, each-firm, each-tells, many-back, many-keeps, many-adjoins, many-firm, many-tells, all}

@@ -83,7 +83,7 @@ cells-most (c ∷ cells) h = rw length-append (omega (arith, write-most c (h .0)
 
 pub cells-full : (cells : List (List ℕ)) → Fives cells → All (All (λ (x : ℕ). x ≡ 0 → ⊥)) cells → length (joined writeCell cells) ≡ 5 * length cells
 cells-full [] h f = refl
-cells-full (c ∷ cells) h f = rw (length-append, write-full c (f .0)) (omega (arith, h .0, cells-full cells (h .1) (f .1)))
+cells-full (c ∷ cells) h f = rw (length-append, write-full c (h .0) (f .0)) (omega (arith, h .0, cells-full cells (h .1) (f .1)))
 
 cells-some : (n : ℕ) (cells : List (List ℕ)) → 1 ≤ n → EachGood cellFormat (replicate n tt) cells → 1 ≤ length (joined writeCell cells)
 cells-some zero cells h g = absurd (omega arith)

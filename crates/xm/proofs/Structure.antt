@@ -21,7 +21,8 @@ use Rattle.xm.specs.Instrument.{instrumentSizeAt, countAt, headerSizeAt,
 use Rattle.xm.specs.Module.{Found, patternsFor, instrumentsFor, moduleFormat, fileMost, readFile}
 use Rattle.xm.specs.Structure.{isStructure, kindNumber, structuresOf, structures, Standing, stands, ended, handed, reading, Ahead, Handed, endsAt, handHead, handPattern, handInstrument, handOver, aheadAtFirst, started, called, readOn, readFor}
 use Rattle.xm.specs.Asking.{Lies}
-use Rattle.xm.specs.Demands.{ofKind, regionAt, ReadersTell}
+use Rattle.xm.specs.Region.{ofKind, regionAt}
+use Rattle.xm.specs.Demands.{ReadersTell}
 use Rattle.xm.proofs.Number.{bytes-drop}
 use Rattle.xm.proofs.Got.{no-true, passed, bind-got, got-value, got-used, got-carry}
 use Rattle.xm.proofs.Answer.{answer-gives, answer-refuses, gives-same}

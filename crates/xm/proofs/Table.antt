@@ -17,7 +17,8 @@ use Rattle.xm.specs.Module.{Found, moduleFormat}
 use Rattle.xm.specs.Table.{PatternRow, InstrumentRow, SampleRow, patternRow, patternRows, sampleCount, instrumentRowsFrom, instrumentRows, sampleRow, sampleRowsOf, sampleRowsIn, sampleRows}
 use Rattle.xm.specs.Asking.{Lies}
 use Rattle.xm.specs.Structure.{kindNumber}
-use Rattle.xm.specs.Demands.{ofKind, TablesStand}
+use Rattle.xm.specs.Region.{ofKind}
+use Rattle.xm.specs.Demands.{TablesStand}
 use Rattle.xm.proofs.Format.{cons-path}
 use Rattle.xm.proofs.Sample.{Sized, SamplesTold}
 use Rattle.xm.proofs.Region.{kind-append, kind-joined}

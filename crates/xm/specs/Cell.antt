@@ -72,9 +72,13 @@ kepts (x ∷ xs) = kept x ++ kepts xs
 unfoldable pub marked : List ℕ → List ℕ
 marked cell = (markedFrom + marks cell) ∷ kepts cell
 
--- "each cell in its shortest form; where plain and marked tie at five bytes, marked"
+-- "each cell in its shortest form; where plain and marked tie at five bytes, marked": by the note, and by how many fields are kept
+-- behind a marked cell's lead byte.
+unfoldable pub plainBy : (note fields : ℕ) → Bool
+plainBy note fields = ltb cellSize (1 + fields)
+
 unfoldable pub goesPlain : List ℕ → Bool
-goesPlain cell = ltb (length cell) (length (marked cell))
+goesPlain cell = plainBy (getD cell 0 0) (length (kepts cell))
 
 unfoldable pub writeCell : List ℕ → List ℕ
 writeCell cell = cond (goesPlain cell) cell (marked cell)

@@ -1,5 +1,7 @@
 -- The three demands, and the paper's further claims, as statements over these definitions. docs/PROMISES.md says where each is proved.
-use Prim.Native.Nat.{ℕ, _+_, _-_, _*_, _/_, _%_, _^_, _≤_, _<_}
+-- `Demand₁`, `Demand₂`, `Demand₃`; then of packing `Fifteen`; of pressing `PressesOnce`; of the check's tables `TablesTell`; of accepted
+-- files `AcceptedFiles`, `AsksExactly`, `RestIgnored`, `PlaysOrders`; of the small reader `ReadersTell`; of the loader `LoadersTell`.
+use Prim.Native.Nat.{ℕ, _+_, _*_, _/_, _%_, _^_, _≤_, _<_}
 use mathlib.Core.Bool.{true, cond}
 use mathlib.Core.List.{List, [], _∷_, _++_, map}
 use mathlib.Core.Logic.{_↔_}
@@ -9,7 +11,7 @@ use lib.IntN.{ℤ}
 use lib.ListN.{length, getD, take, drop}
 use Rattle.xm.specs.Number.{Bytes, byteAt, longAt, part, signed}
 use Rattle.xm.specs.Got.{Refusal, got, refused, _at_, AllHold}
-use Rattle.xm.specs.Format.{Format, Kind, Region, header, patternHeader, patternData, instrument, sampleHeader, sampleData, joined, All}
+use Rattle.xm.specs.Format.{Format, Kind, Region, patternHeader, patternData, instrument, sampleHeader, sampleData, joined, All}
 use Rattle.xm.specs.Answer.{Answer, gives, refuses, inFront, after}
 use Rattle.xm.specs.Cell.{cellSize, cellMost}
 use Rattle.xm.specs.Stored.{rowsMost, Pattern, standard, readStored, writeStored}
@@ -21,7 +23,8 @@ use Rattle.xm.specs.Module.{Found, Content, moduleFormat, fileMost, read
 use Rattle.xm.specs.Delta.{storedNumbers, decoding, coding, allFit, decodeNumbers, decodeAfter, codeNumbers, codeAfter, valuesOf}
 use Rattle.xm.specs.Table.{PatternRow, InstrumentRow, SampleRow, patternRows, instrumentRows, sampleRowsIn, sampleRows, Checked, checkedAs, checking, checkNumbers, checkLoader, Room, checkingInto, Tables, roomOf, tablesAfter, sampleNumbers}
 use Rattle.xm.specs.Asking.{Lies, asking, askingFlat, askingRows, noRow}
-use Rattle.xm.specs.Structure.{isStructure, kindNumber, structures, ended, handed, reading, called, readFor}
+use Rattle.xm.specs.Structure.{isStructure, structures, ended, handed, reading, called, readFor}
+use Rattle.xm.specs.Region.{Adjoin, regionAt, ofKind}
 use Rattle.xm.specs.Press.{contentOf, pressed, pressingAs, pressing, pressNumbersAs, pressAfterAs, pressLoader}
 
 -- DEMAND 1. "Bad input gets a refusal number and a place. A refused call changes nothing in the memory it was lent", and no call writes
@@ -178,23 +181,12 @@ pub record TablesTell (file : List ℕ) (room : Room) : Type 0 where
 
 -- "The regions of an accepted file (header, patterns, instruments, sample headers, sample data) lie inside it and never overlap"; each
 -- begins where the one before ends, from 0 to the end.
-abbrev pub Adjoin : (from : ℕ) → List Region → (end : ℕ) → Type 0
-Adjoin from [] end = from ≡ end
-Adjoin from (r ∷ rs) end = (r .place ≡ from) × Adjoin (r .place + r .size) rs end
-
-abbrev pub regionAt : List Region → ℕ → Region
-regionAt rs k = getD rs k (record { kind = header; place = 0; size = 0 })
-
 pub record RegionsApart (file : List ℕ) (rs : List Region) (end : ℕ) : Type 0 where
   pub adjoin : Adjoin 0 rs end
   pub inside : (k : ℕ) → k < length rs → regionAt rs k .place + regionAt rs k .size ≤ length file
   pub apart : (j k : ℕ) → j < k → k < length rs → regionAt rs j .place + regionAt rs j .size ≤ regionAt rs k .place
 
 -- Every place in a table is the start of its region, and every size the size: the regions of a kind, in file order, are the rows'.
-abbrev pub ofKind : Kind → List Region → List Lies
-ofKind kind [] = []
-ofKind kind (r ∷ rs) = cond (eqb (kindNumber kind) (kindNumber (r .kind))) (record { place = r .place; size = r .size } ∷ ofKind kind rs) (ofKind kind rs)
-
 pub record TablesStand (found : Found) : Type 0 where
   pub patterns : ofKind patternData (moduleFormat .regions found) ≡ map (λ (row : PatternRow). record { place = row .dataPlace; size = row .size }) (patternRows found)
   pub instruments : map Lies.place (ofKind instrument (moduleFormat .regions found)) ≡ map InstrumentRow.place (instrumentRows found)

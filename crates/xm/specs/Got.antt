@@ -21,6 +21,10 @@ pub data Got (A : Type 0) : Type 0 where
   got : A → ℕ → Got A
   refused : Refusal → Got A
 
+abbrev pub accepted : {A : Type 0} → Got A → Bool
+accepted (got a n) = true
+accepted (refused r) = false
+
 -- A reading of the bytes that are left; the place where they begin is carried along, for refusals and tables.
 abbrev pub Reader : Type 0 → Type 0
 Reader A = (place : ℕ) → List ℕ → Got A

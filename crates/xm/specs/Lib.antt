@@ -9,11 +9,14 @@ pub mod Instrument
 pub mod Module
 pub mod Cell
 pub mod Stored
+pub mod Short
+pub mod Row
 pub mod Packing
 pub mod Delta
 pub mod Table
 pub mod Asking
 pub mod Structure
+pub mod Region
 pub mod Press
 pub mod Demands
 pub mod Lay

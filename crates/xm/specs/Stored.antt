@@ -34,10 +34,14 @@ standard channels = emptyRows channels standardRows
 abbrev pub whenNoData : (channels rows : ℕ) → Pattern
 whenNoData channels rows = standard channels
 
+-- So many cells, one after the other.
+abbrev pub readRow : (count : ℕ) → Reader (List (List ℕ))
+readRow count place d = each cellFormat .read (replicate count tt) place d
+
 -- "With S above 0 the cells must fill S exactly": 8 at "the first byte left over".
 unfoldable pub readCells : (channels rows : ℕ) → Reader Pattern
 readCells channels rows place d = do
-  (cells, used) ← each cellFormat .read (replicate (rows * channels) tt) place d
+  (cells, used) ← readRow (rows * channels) place d
   checked (atMost 0 (length d - used) (8 at (place + used)) ∷ [])
   got (record { rows = rows; cells = cells }) used
 

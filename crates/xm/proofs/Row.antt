@@ -1,0 +1,224 @@
+-- Laws of stored cells in a row: what an accepted row says, that its place does not matter, and that cells are all empty exactly if
+-- they take a byte each. Assumes nothing.
+use Prim.Native.Nat.{ℕ, zero, suc, _+_, _-_, _*_, _≤_}
+use mathlib.Core.Bool.{Bool, true, false, cond, _&&_}
+use mathlib.Core.List.{List, [], _∷_}
+use mathlib.Core.Path.{_≡_, refl, sym, ap, ap₂, _∙_}
+use native.Mathlib.Nat.{add-assoc, add-zero, zero-add}
+use native.Mathlib.Omega.{arith}
+use borrow.Author.Tests.{eq-eqb, ne-eqb, eqb-true, eqb-false}
+use lib.Dec.{leb, eqb}
+use lib.ListN.{length, getD, drop, length-append, length-drop}
+use Rattle.xm.specs.Got.{Got, got, refused, _>>=_, _>>_, ensure, checked, atMost, accepted, _at_}
+use Rattle.xm.specs.Format.{joined, flat}
+use Rattle.xm.specs.Cell.{noteMost, needed, cellAt, readCell, bit, kepts, marked, goesPlain, writeCell}
+use Rattle.xm.specs.Stored.{Pattern, readRow, readCells, readStored, allZero, needsNoData, writeStored}
+use Rattle.xm.specs.Row.{cellsIn, noDataBy, sizeBy}
+use Rattle.xm.proofs.Got.{not-both, no-true, bind-got, got-value, got-used}
+use Rattle.xm.proofs.Format.{cons-path}
+use Rattle.xm.proofs.Cell.{bit-none, bit-some, kept-length, marked-length, length-some, cell-length, cell-read, write-plain, write-marked, write-some, write-short, plain-many}
+use Rattle.xm.proofs.Stored.{Fives, zero-append, write-none, write-cells, stored-rows}
+
+-- An accepted reading found something
+pub accepted-got : {A R : Type 0} (g : Got A) → accepted g ≡ true → ((a : A) (n : ℕ) → g ≡ got a n → R) → R
+accepted-got (got a n) e k = k a n refl
+accepted-got (refused r) e k = absurd (no-true e)
+
+pub got-accepted : {A : Type 0} {g : Got A} {a : A} {n : ℕ} → g ≡ got a n → accepted g ≡ true
+got-accepted e = rw e
+
+-- What an accepted row says: which cells it has, that each takes a byte or more, and that they are written in no more bytes
+pub record RowRead (count : ℕ) (s : List ℕ) (cells : List (List ℕ)) (used : ℕ) : Type 0 where
+  pub same : cells ≡ cellsIn count s
+  pub least : count ≤ used
+  pub inside : used ≤ length s
+  pub short : length (joined writeCell cells) ≤ used
+
+pub row-read : (count place : ℕ) (s : List ℕ) (cells : List (List ℕ)) (used : ℕ) → readRow count place s ≡ got cells used → RowRead count s cells used
+unfolding cellsIn
+row-read zero place s cells used e = record {
+  same = sym (got-value e);
+  least = omega arith;
+  inside = omega (arith, got-used e);
+  short = rw (← got-value e) (omega arith);
+}
+row-read (suc count) place s cells used e =
+    bind-got (readCell place s) _ e λ c k ec e. bind-got (readRow count (place + k) (drop k s)) _ e λ cs m es e.
+    let c = cell-read place s c k ec in
+    let r = row-read count (place + k) (drop k s) cs m es in
+    let same : cells ≡ cellAt s ∷ cs = sym (got-value e) ∙ cons-path (c .same) refl in
+    record {
+      same = same ∙ cons-path refl (r .same ∙ ap (λ (n : ℕ). cellsIn count (drop n s)) (c .long));
+      least = omega (arith, got-used e, r .least, c .long, length-some (getD s 0 0));
+      inside = omega (arith, got-used e, r .inside, length-drop k s, c .fits, c .long);
+      short = rw (same, length-append) (omega (arith, got-used e, r .short, c .long, write-short s));
+    }
+
+pub in-length : (count : ℕ) (s : List ℕ) → length (cellsIn count s) ≡ count
+unfolding cellsIn
+in-length zero s = refl
+in-length (suc count) s = ap suc (in-length count (drop (needed s) s))
+
+pub in-fives : (count : ℕ) (s : List ℕ) → Fives (cellsIn count s)
+unfolding cellsIn
+in-fives zero s = tt
+in-fives (suc count) s = (cell-length s, in-fives count (drop (needed s) s))
+
+-- A reading that begins so much later: a refusal stands so much later, and what is found is the same
+unfoldable pub shifted : {A : Type 0} → (base : ℕ) → Got A → Got A
+shifted base (got a n) = got a n
+shifted base (refused r) = refused (r .number at (base + r .place))
+
+pub shifted-got : {A : Type 0} (base : ℕ) (g : Got A) {a : A} {n : ℕ} → shifted base g ≡ got a n → g ≡ got a n
+unfolding shifted
+shifted-got base (got b m) e = e
+shifted-got base (refused r) e = absurd (not-both e)
+
+module _ (base : ℕ) where
+  shifted-bind : {A B : Type 0} (g : Got A) (k later : A × ℕ → Got B) → ((a : A) (n : ℕ) → later (a, n) ≡ shifted base (k (a, n))) → (shifted base g >>= later) ≡ shifted base (g >>= k)
+  unfolding shifted _>>=_
+  shifted-bind (got a n) k later h = h a n
+  shifted-bind (refused r) k later h = refl
+
+  pub cell-shifted : (place : ℕ) (s : List ℕ) → readCell (base + place) s ≡ shifted base (readCell place s)
+  unfolding shifted readCell checked ensure _>>_
+  cell-shifted place s = go (leb (needed s) (length s)) (leb (getD (cellAt s) 0 0) noteMost)
+    where
+      tried : (place : ℕ) → Bool → Bool → Got (List ℕ)
+      tried place a b = (ensure a (7 at place) >> (ensure b (9 at place) >> got (tt {0}) 0)) >> got (cellAt s) (needed s)
+
+      go : (a b : Bool) → tried (base + place) a b ≡ shifted base (tried place a b)
+      go true true = refl
+      go true false = refl
+      go false b = refl
+
+  pub row-shifted : (count place : ℕ) (s : List ℕ) → readRow count (base + place) s ≡ shifted base (readRow count place s)
+  unfolding shifted
+  row-shifted zero place s = refl
+  row-shifted (suc count) place s =
+      ap (λ (g : Got (List ℕ)). g >>= (λ (i, n). readRow count (base + place + n) (drop n s) >>= (λ (is, m). got (i ∷ is) (n + m)))) (cell-shifted place s)
+      ∙ shifted-bind (readCell place s) _ _ λ i n.
+      ap (λ (p : ℕ). readRow count p (drop n s) >>= (λ (is, m). got (i ∷ is) (n + m))) (add-assoc base place n)
+      ∙ ap (λ (g : Got (List (List ℕ))). g >>= (λ (is, m). got (i ∷ is) (n + m))) (row-shifted count (place + n) (drop n s))
+      ∙ shifted-bind (readRow count (place + n) (drop n s)) _ _ (λ is m. refl)
+
+  module _ (rows : ℕ) (d : List ℕ) where
+    rest : (place : ℕ) → List (List ℕ) × ℕ → Got Pattern
+    rest place (cells, used) = checked (atMost 0 (length d - used) (8 at (place + used)) ∷ []) >> got (record { rows = rows; cells = cells }) used
+
+    rest-shifted : (cells : List (List ℕ)) (used : ℕ) → rest base (cells, used) ≡ shifted base (rest 0 (cells, used))
+    unfolding rest shifted checked ensure _>>_
+    rest-shifted cells used = go (leb (length d - used) 0)
+      where
+        tried : (place : ℕ) → Bool → Got Pattern
+        tried place fits = (ensure fits (8 at (place + used)) >> got (tt {0}) 0) >> got (record { rows = rows; cells = cells }) used
+
+        go : (b : Bool) → tried base b ≡ shifted base (tried 0 b)
+        go true = refl
+        go false = ap {B = Got Pattern} (λ (n : ℕ). refused (8 at (base + n))) (sym (zero-add used))
+
+    cells-shifted : (channels : ℕ) → readCells channels rows base d ≡ shifted base (readCells channels rows 0 d)
+    unfolding readCells rest
+    cells-shifted channels =
+        ap (λ (p : ℕ). readRow (rows * channels) p d >>= rest base) (sym (add-zero base))
+        ∙ ap (λ (g : Got (List (List ℕ))). g >>= rest base) (row-shifted (rows * channels) 0 d)
+        ∙ shifted-bind (readRow (rows * channels) 0 d) (rest 0) (rest base) (λ cells used. rest-shifted cells used)
+
+  pub stored-shifted : (channels rows : ℕ) (d : List ℕ) → readStored channels rows base d ≡ shifted base (readStored channels rows 0 d)
+  unfolding readStored shifted
+  stored-shifted channels rows [] = refl
+  stored-shifted channels rows (b ∷ d) = cells-shifted rows (b ∷ d) channels
+
+-- So an accepted reading is accepted anywhere, and for the rows that it reads as
+pub row-anywhere : (count place other : ℕ) (s : List ℕ) (cells : List (List ℕ)) (used : ℕ) → readRow count place s ≡ got cells used → readRow count other s ≡ got cells used
+unfolding shifted
+row-anywhere count place other s cells used e =
+    from other ∙ ap (shifted other) (shifted-got place (readRow count 0 s) (sym (from place) ∙ e))
+  where
+    from : (base : ℕ) → readRow count base s ≡ shifted base (readRow count 0 s)
+    from base = ap (λ (p : ℕ). readRow count p s) (sym (add-zero base)) ∙ row-shifted base count 0 s
+
+pub stored-anywhere : (channels rows place other : ℕ) (d : List ℕ) (p : Pattern) (used : ℕ) → readStored channels rows place d ≡ got p used → readStored channels rows other d ≡ got p used
+unfolding shifted
+stored-anywhere channels rows place other d p used e =
+    stored-shifted other channels rows d ∙ ap (shifted other) (shifted-got place (readStored channels rows 0 d) (sym (stored-shifted place channels rows d) ∙ e))
+
+pub stored-again : (channels rows place : ℕ) (d : List ℕ) (p : Pattern) (used : ℕ) → readStored channels rows place d ≡ got p used → readStored channels (p .rows) 0 d ≡ got p used
+unfolding readStored
+stored-again channels rows place [] p used e = e
+stored-again channels rows place (b ∷ d) p used e =
+    ap (λ (n : ℕ). readStored channels n 0 (b ∷ d)) (stored-rows channels rows place (b ∷ d) p used (omega arith) e) ∙ stored-anywhere channels rows place 0 (b ∷ d) p used e
+
+-- Two numbers that are no less than two others: their sums are equal exactly if both are
+sum-least : (i j a b : ℕ) → i ≤ a → j ≤ b → eqb (a + b) (i + j) ≡ (eqb a i && eqb b j)
+sum-least i j a b h k = go (eqb a i) refl (eqb b j) refl
+  where
+    go : (t : Bool) → eqb a i ≡ t → (u : Bool) → eqb b j ≡ u → eqb (a + b) (i + j) ≡ (t && u)
+    go true e true f = eq-eqb (a + b) (i + j) (omega (arith, eqb-true a i e, eqb-true b j f))
+    go true e false f = ne-eqb (a + b) (i + j) (λ z. eqb-false b j f (omega (arith, eqb-true a i e)))
+    go false e u f = ne-eqb (a + b) (i + j) (λ z. eqb-false a i e (omega arith))
+
+-- Nothing is kept exactly of an empty cell, which takes one byte, and no other does
+bit-zero : (x : ℕ) → eqb (bit x) 0 ≡ eqb x 0
+bit-zero x = go (eqb x 0) refl
+  where
+    go : (t : Bool) → eqb x 0 ≡ t → eqb (bit x) 0 ≡ t
+    go true e = eq-eqb (bit x) 0 (bit-none x (eqb-true x 0 e))
+    go false e = ne-eqb (bit x) 0 (λ z. omega (arith, bit-some x (eqb-false x 0 e)))
+
+kepts-zero : (cell : List ℕ) → eqb (length (kepts cell)) 0 ≡ allZero cell
+unfolding kepts allZero
+kepts-zero [] = refl
+kepts-zero (x ∷ xs) =
+    rw (length-append, kept-length) (sum-least 0 0 (bit x) (length (kepts xs)) (omega arith) (omega arith) ∙ ap₂ _&&_ (bit-zero x) (kepts-zero xs))
+
+cell-zero : (cell : List ℕ) → length cell ≡ 5 → eqb (length (writeCell cell)) 1 ≡ allZero cell
+unfolding goesPlain
+cell-zero cell h = go (goesPlain cell) refl
+  where
+    go : (t : Bool) → goesPlain cell ≡ t → eqb (length (writeCell cell)) 1 ≡ allZero cell
+    go true e =
+        rw (write-plain cell e, h) (sym (ne-eqb (length (kepts cell)) 0 (λ z. omega (arith, plain-many (getD cell 0 0) (length (kepts cell)) e))) ∙ kepts-zero cell)
+    go false e = rw (write-marked cell e, marked-length cell) (sum-least 1 0 1 (length (kepts cell)) (omega arith) (omega arith) ∙ kepts-zero cell)
+
+-- Cells take a byte each at least, and are all empty exactly if they take no more
+pub cells-least : (cells : List (List ℕ)) → Fives cells → length cells ≤ length (joined writeCell cells)
+cells-least [] h = omega arith
+cells-least (c ∷ cells) h = rw length-append (omega (arith, write-some c (h .0), cells-least cells (h .1)))
+
+pub cells-zero : (cells : List (List ℕ)) → Fives cells → eqb (length (joined writeCell cells)) (length cells) ≡ allZero (flat cells)
+unfolding allZero
+cells-zero [] h = refl
+cells-zero (c ∷ cells) h =
+    let one : suc (length cells) ≡ 1 + length cells = omega arith in
+    rw (length-append, one, zero-append)
+    (sum-least 1 (length cells) (length (writeCell c)) (length (joined writeCell cells)) (write-some c (h .0)) (cells-least cells (h .1))
+    ∙ ap₂ _&&_ (cell-zero c (h .0)) (cells-zero cells (h .1)))
+
+-- So the length of the cells tells the length of the stored form, and what it is
+pub stored-nothing : (p : Pattern) → length (writeStored p) ≡ 0 → writeStored p ≡ []
+stored-nothing p = go (writeStored p)
+  where
+    go : (l : List ℕ) → length l ≡ 0 → l ≡ []
+    go [] h = refl
+    go (x ∷ l) h = absurd (omega arith)
+
+pub stored-cells : (p : Pattern) → 1 ≤ length (writeStored p) → writeStored p ≡ joined writeCell (p .cells)
+stored-cells p h = go (needsNoData p) refl
+  where
+    go : (t : Bool) → needsNoData p ≡ t → writeStored p ≡ joined writeCell (p .cells)
+    go true e = absurd (omega (arith, ap length (write-none p e)))
+    go false e = write-cells p e
+
+module _ (p : Pattern) (fives : Fives (p .cells)) where
+  pub no-data-by : noDataBy (p .rows) (length (p .cells)) (length (joined writeCell (p .cells))) ≡ needsNoData p
+  unfolding noDataBy needsNoData
+  no-data-by = ap (λ (t : Bool). eqb (p .rows) 64 && t) (cells-zero (p .cells) fives)
+
+  pub size-by : sizeBy (p .rows) (length (p .cells)) (length (joined writeCell (p .cells))) ≡ length (writeStored p)
+  unfolding sizeBy
+  size-by = rw no-data-by (go (needsNoData p) refl)
+    where
+      go : (t : Bool) → needsNoData p ≡ t → cond t 0 (length (joined writeCell (p .cells))) ≡ length (writeStored p)
+      go true e = sym (ap length (write-none p e))
+      go false e = sym (ap length (write-cells p e))
