@@ -6,15 +6,17 @@ use mathlib.Core.Path.{_≡_, refl, sym, ap, _∙_}
 use native.Mathlib.Omega.{arith}
 use lib.ListN.{length, take, drop, set, length-append, length-drop}
 use lib.Seq.{drop-drop}
-use Rattle.xm.specs.Got.{Got, got, refused}
+use Rattle.xm.specs.Got.{accepted}
 use Rattle.xm.specs.Format.{flat}
 use Rattle.xm.specs.Answer.{inFront}
 use Rattle.xm.specs.Cell.{needed, cellAt}
 use Rattle.xm.proofs.Cell.{cell-length}
+use Rattle.xm.specs.Stored.{readRow}
+use Rattle.xm.specs.Row.{cellsIn}
+use Rattle.xm.proofs.Row.{accepted-got}
 use Rattle.xm.proofs.Lay.{Laid, laid-none, laid-more, laid-done}
-use Rattle.cells.specs.Row.{readRow, accepted, cellsIn}
 use Rattle.cells.specs.Inside.{Whole}
-use Rattle.cells.proofs.Row.{row-of}
+use Rattle.cells.proofs.Row.{row-whole}
 
 pub store-five : (out : List ℕ) (a b c d e : ℕ) → 5 ≤ length out
     → set (set (set (set (set out 0 a) 1 b) 2 c) 3 d) 4 e ≡ inFront (a ∷ b ∷ c ∷ d ∷ e ∷ []) out
@@ -27,11 +29,7 @@ store-five (x ∷ x₁ ∷ x₂ ∷ x₃ ∷ x₄ ∷ out) a b c d e h = refl
 
 -- Cells that were accepted all stand whole
 pub accepted-whole : (count place : ℕ) (s : List ℕ) → accepted (readRow count place s) ≡ true → Whole count s
-accepted-whole count place s e = go (readRow count place s) refl e
-  where
-    go : (g : Got (List (List ℕ))) → readRow count place s ≡ g → accepted g ≡ true → Whole count s
-    go (got cells used) e t = row-of count place s cells used e .whole
-    go (refused r) e t = absurd (let z : _≡_ {A = ℕ} 0 1 = cc in omega arith)
+accepted-whole count place s e = accepted-got (readRow count place s) e λ cells used e. row-whole count place s cells used e
 
 pub cells-length : (count : ℕ) (s : List ℕ) → length (flat (cellsIn count s)) ≡ count * 5
 unfolding cellsIn

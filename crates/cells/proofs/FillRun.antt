@@ -11,10 +11,10 @@ use lib.Seq.{getD-drop, drop-drop, take-at, drop-append-add, length-take-le}
 use Rattle.xm.specs.Format.{flat}
 use Rattle.xm.specs.Answer.{inFront}
 use Rattle.xm.specs.Cell.{needed, lengthBy, cellAt}
+use Rattle.xm.specs.Row.{cellsIn}
 use Rattle.xm.specs.Lay.{lay}
 use borrow.Rule.Slice.PartMut.{putMid}
 use Rattle.xm.proofs.Lay.{part-back, part-all, head-at, lay-front, lay-more, length-lay, Laid, laid-more}
-use Rattle.cells.specs.Row.{cellsIn}
 use Rattle.cells.specs.declared.quick.Ahead.{Ahead}
 use Rattle.cells.specs.Inside.{Whole, firstFields}
 use Rattle.cells.specs.Quick.{EmptyRun, AheadOf}

@@ -1,5 +1,4 @@
 pub mod Step
-pub mod Short
 pub mod Row
 pub mod Fill
 pub mod Stored

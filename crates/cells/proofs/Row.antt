@@ -1,6 +1,6 @@
--- Laws of cells in a row: what an accepted reading says of them, and measuring cell by cell against reading them all. Assumes nothing.
+-- Laws of cells in a row: that accepted ones stand whole, and measuring cell by cell against reading them all. Assumes nothing.
 use Prim.Native.Nat.{ℕ, zero, suc, _+_, _-_, _≤_, _<_}
-use mathlib.Core.Bool.{Bool, true, _&&_, and-eq-true-iff, and-assoc, and-true}
+use mathlib.Core.Bool.{Bool, true, false, _&&_, and-eq-true-iff, and-assoc, and-true}
 use mathlib.Core.List.{List, [], _∷_, _++_}
 use mathlib.Core.Path.{_≡_, refl, sym, ap, _∙_}
 use native.Mathlib.Nat.{add-assoc}
@@ -9,19 +9,27 @@ use borrow.Author.Tests.{eqb-true, eq-eqb}
 use lib.Dec.{eqb}
 use lib.ListN.{length, getD, take, drop, length-append, length-drop}
 use lib.Seq.{drop-drop, take-at, drop-at, take-add, length-take-le}
-use Rattle.xm.specs.Got.{Refusal, Got, got, refused, _>>=_, _at_}
+use Rattle.xm.specs.Got.{Refusal, Got, got, refused, _>>=_}
 use Rattle.xm.specs.Format.{joined}
 use Rattle.xm.specs.Cell.{noteMost, needed, cellAt, readCell, writeCell}
-use Rattle.xm.proofs.Got.{not-both, got-value, got-used}
+use Rattle.xm.specs.Short.{isShort}
+use Rattle.xm.specs.Stored.{readRow}
+use Rattle.xm.proofs.Got.{bind-got}
 use Rattle.xm.proofs.Format.{cons-path}
-use Rattle.xm.proofs.Cell.{read-got, write-short}
+use Rattle.xm.proofs.Cell.{read-got, cell-read, write-short}
+use Rattle.xm.proofs.Short.{short-exact}
+use Rattle.xm.proofs.Row.{RowRead, row-read}
 use Rattle.refusal.specs.Fault.{faultOf}
 use Rattle.cells.specs.declared.Measured.{Measured}
 use Rattle.cells.specs.declared.Measured.the-variants.{Cells, Refused}
-use Rattle.cells.specs.Row.{readRow, sameBytes, measuredOf, cellsIn}
-use Rattle.cells.specs.Inside.{Whole, isShort, goesOn, measureFrom}
-use Rattle.cells.proofs.Short.{bool-same, short-exact}
+use Rattle.cells.specs.Row.{sameBytes, measuredOf}
+use Rattle.cells.specs.Inside.{Whole, goesOn, measureFrom}
 use Rattle.cells.proofs.Step.{read-case}
+
+bool-same : (a b : Bool) → (a ≡ true → b ≡ true) → (b ≡ true → a ≡ true) → a ≡ b
+bool-same true b f g = sym (f refl)
+bool-same false true f g = g refl
+bool-same false false f g = refl
 
 -- Two rows of bytes are the same
 same-equal : (xs ys : List ℕ) → sameBytes xs ys ≡ true → xs ≡ ys
@@ -56,23 +64,6 @@ same-append x y w r b h k to from =
     let t = and-eq-true-iff b (sameBytes y r) .0 e in
     rw (to (t .0), same-equal y r (t .1)) (same-refl (x ++ r)))
 
--- What an accepted row says
-pub record RowOf (count : ℕ) (s : List ℕ) (cells : List (List ℕ)) (used : ℕ) : Type 0 where
-  pub inside : used ≤ length s
-  pub short : length (joined writeCell cells) ≤ used
-  pub same : cells ≡ cellsIn count s
-  pub whole : Whole count s
-
-row-cons : (count : ℕ) (s : List ℕ) (cells : List (List ℕ)) (used : ℕ) → needed s ≤ length s → RowOf count (drop (needed s) s) cells used
-    → RowOf (suc count) s (cellAt s ∷ cells) (needed s + used)
-unfolding cellsIn
-row-cons count s cells used fits r = record {
-  inside = omega (arith, r .inside, length-drop (needed s) s);
-  short = rw length-append (omega (arith, r .short, write-short s));
-  same = cons-path refl (r .same);
-  whole = (fits, r .whole);
-}
-
 -- A reading of a cell, and then of the rest of its row
 unfoldable pub next : (count place : ℕ) (s : List ℕ) → Got (List ℕ) → Got (List (List ℕ))
 next count place s g = do
@@ -84,25 +75,13 @@ pub row-next : (count place : ℕ) (s : List ℕ) → readRow (suc count) place 
 unfolding next
 row-next count place s = refl
 
-pub row-of : (count place : ℕ) (s : List ℕ) (cells : List (List ℕ)) (used : ℕ) → readRow count place s ≡ got cells used → RowOf count s cells used
-unfolding cellsIn next _>>=_
-row-of zero place s cells used e = record {
-  inside = omega (arith, got-used e);
-  short = rw (← got-value e) (omega arith);
-  same = sym (got-value e);
-  whole = tt;
-}
-row-of (suc count) place s cells used e =
-    read-case (λ (g : Got (List ℕ)). next count place s g ≡ got cells used → RowOf (suc count) s cells used) place s (λ h. none) (λ h n. none)
-    (λ h n. rest h (readRow count (place + needed s) (drop (needed s) s)) (λ js m ej. row-of count (place + needed s) (drop (needed s) s) js m ej)) (sym (row-next count place s) ∙ e)
-  where
-    none : {number : ℕ} → next count place s (refused (number at place)) ≡ got cells used → RowOf (suc count) s cells used
-    none e = absurd (not-both e)
-
-    rest : needed s ≤ length s → (g : Got (List (List ℕ))) → ((js : List (List ℕ)) (m : ℕ) → g ≡ got js m → RowOf count (drop (needed s) s) js m)
-        → (g >>= λ q. got (cellAt s ∷ q .0) (needed s + q .1)) ≡ got cells used → RowOf (suc count) s cells used
-    rest h (got js m) ih e = rw (← got-value e, ← got-used e) (row-cons count s js m h (ih js m refl))
-    rest h (refused r) ih e = absurd (not-both e)
+-- An accepted row stands whole
+pub row-whole : (count place : ℕ) (s : List ℕ) (cells : List (List ℕ)) (used : ℕ) → readRow count place s ≡ got cells used → Whole count s
+row-whole zero place s cells used e = tt
+row-whole (suc count) place s cells used e =
+    bind-got (readCell place s) _ e λ c k ec e. bind-got (readRow count (place + k) (drop k s)) _ e λ cs m es e.
+    let c = cell-read place s c k ec in
+    (c .fits, rw (c .long) at (row-whole count (place + k) (drop k s) cs m es))
 
 -- What measuring comes to over what was found before
 onTop : (used shortest : ℕ) (same : Bool) → List ℕ → Got (List (List ℕ)) → Measured
@@ -124,19 +103,19 @@ measure-row (suc count) used shortest same s =
     read-case (λ (g : Got (List ℕ)). goesOn g rest ≡ onTop used shortest same s (next count used s g)) used s (λ h. refl) (λ h n. refl)
     (λ h n.
     measure-row count (used + needed s) (shortest + length (writeCell (cellAt s))) (same && isShort s) (drop (needed s) s)
-    ∙ over h n (readRow count (used + needed s) (drop (needed s) s)) (λ js m ej. row-of count (used + needed s) (drop (needed s) s) js m ej))
+    ∙ over h n (readRow count (used + needed s) (drop (needed s) s)) (λ js m ej. row-read count (used + needed s) (drop (needed s) s) js m ej))
   where
     rest : Measured
     rest = measureFrom count (used + needed s) (shortest + length (writeCell (cellAt s))) (same && isShort s) (drop (needed s) s)
 
     over : needed s ≤ length s → getD (cellAt s) 0 0 ≤ noteMost → (g : Got (List (List ℕ)))
-        → ((js : List (List ℕ)) (m : ℕ) → g ≡ got js m → RowOf count (drop (needed s) s) js m)
+        → ((js : List (List ℕ)) (m : ℕ) → g ≡ got js m → RowRead count (drop (needed s) s) js m)
         → onTop (used + needed s) (shortest + length (writeCell (cellAt s))) (same && isShort s) (drop (needed s) s) g
         ≡ onTop used shortest same s (g >>= λ q. got (cellAt s ∷ q .0) (needed s + q .1))
     over fits note (refused r) of = refl
     over fits note (got js m) of =
         let r = of js m refl in
-        let x = short-exact s fits note in
+        let x = short-exact s fits in
         let front : length (take (needed s) s) ≡ needed s = length-take-le (needed s) s fits in
         let back : length (take m (drop (needed s) s)) ≡ m = length-take-le m (drop (needed s) s) (r .inside) in
         size-path (add-assoc used (needed s) m)

@@ -10,13 +10,13 @@ use lib.Count.{ones, onesIn, under, trailingZeros}
 use lib.Dec.{ltb, eqb}
 use lib.ListN.{length, getD, drop, replicate, length-drop}
 use lib.Seq.{getD-drop}
-use Rattle.xm.specs.Cell.{noteMost, lengthBy, fieldsBy, needed, cellAt, kept, marks, kepts, marked, goesPlain, writeCell}
+use Rattle.xm.specs.Cell.{noteMost, lengthBy, fieldsBy, needed, cellAt, kept, marks, kepts, marked, plainBy, goesPlain, writeCell}
+use Rattle.xm.specs.Short.{isShort}
 use Rattle.xm.proofs.Cell.{cell-marked, read-note}
 use Rattle.xm.proofs.Lay.{head-at}
 use Rattle.cells.specs.declared.Measured.{Measured}
 use Rattle.cells.specs.declared.Measured.the-variants.{Refused}
 use Rattle.cells.specs.declared.quick.Ahead.{Ahead}
-use Rattle.cells.specs.Inside.{isShort}
 use Rattle.cells.specs.Quick.{eightAt, byteIn, Empties, EmptyRun, behind, AheadOf, noteBy}
 use Rattle.cells.proofs.Row.{Measuring, measuring-more, measuring-stop}
 use Rattle.cells.proofs.Wide.{length-six, note-at}
@@ -149,12 +149,12 @@ module _ (s : List ℕ) (e : getD s 0 0 ≡ 128) where
   empty-note = rw empty-cell (omega arith)
 
   empty-written : 1 ≡ length (writeCell (cellAt s))
-  unfolding writeCell goesPlain marked marks kepts kept
+  unfolding writeCell goesPlain plainBy marked marks kepts kept
   empty-written = rw empty-cell
 
   empty-short : isShort s ≡ true
   unfolding isShort kepts kept
-  empty-short = rw (empty-length, empty-cell, e)
+  empty-short = rw (← empty-written, empty-length, empty-cell, e)
 
 -- They are passed at once
 module _ {s : List ℕ} {answer : Measured} where

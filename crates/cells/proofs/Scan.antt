@@ -11,13 +11,14 @@ use lib.ListN.{length, getD, drop, length-drop}
 use lib.Seq.{getD-drop, drop-drop}
 use Rattle.xm.specs.Got.{Refusal, Got, got, refused, _>>=_}
 use Rattle.xm.specs.Cell.{noteMost, needed, cellAt, readCell, lengthBy}
+use Rattle.xm.specs.Stored.{readRow}
 use Rattle.xm.proofs.Cell.{read-got}
 use Rattle.xm.proofs.Lay.{head-at}
 use Rattle.refusal.specs.Fault.{faultOf}
 use Rattle.cells.specs.declared.Scanned.{Scanned}
 use Rattle.cells.specs.declared.Scanned.the-variants.{End, Refused}
 use Rattle.cells.specs.declared.quick.Ahead.{Ahead}
-use Rattle.cells.specs.Row.{readRow, endOf}
+use Rattle.cells.specs.Row.{endOf}
 use Rattle.cells.specs.Quick.{noteBy, AheadOf}
 use Rattle.cells.proofs.Row.{next, row-next}
 use Rattle.cells.proofs.Wide.{length-six, note-at}

@@ -1,21 +1,20 @@
 -- Laws of a stored pattern as the code reads it: each answer from what measuring its cells found. Assumes nothing.
-use Prim.Native.Nat.{ℕ, zero, suc, _+_, _*_, _≤_, _<_}
-use mathlib.Core.Bool.{Bool, true, false, cond, _&&_, and-eq-true-iff}
+use Prim.Native.Nat.{ℕ, _+_, _*_, _≤_, _<_}
+use mathlib.Core.Bool.{Bool, true, false, cond}
 use mathlib.Core.List.{List, [], _∷_}
 use mathlib.Core.Path.{_≡_, refl, sym, ap, ap₂, _∙_}
 use native.Mathlib.Nat.{zero-add}
 use native.Mathlib.Omega.{arith}
-use borrow.Author.Tests.{ltb-true, eqb-true, eq-eqb, ne-eqb}
-use lib.Dec.{ltb, eqb}
-use lib.ListN.{length, take, drop, length-append}
+use lib.ListN.{length, take}
 use lib.Seq.{take-all}
 use Rattle.xm.specs.Got.{Got, got, refused, _at_}
-use Rattle.xm.specs.Format.{joined, flat}
-use Rattle.xm.specs.Cell.{needed, cellAt, kept, kepts, writeCell}
-use Rattle.xm.specs.Stored.{Pattern, standard, readCells, readStored, allZero, needsNoData}
+use Rattle.xm.specs.Format.{joined}
+use Rattle.xm.specs.Cell.{writeCell}
+use Rattle.xm.specs.Stored.{Pattern, standard, readRow, readCells, readStored, needsNoData}
+use Rattle.xm.specs.Row.{cellsIn, noDataBy}
 use Rattle.xm.proofs.Got.{pass, test-fails, step, step-refused}
-use Rattle.xm.proofs.Cell.{cell-length, write-some}
-use Rattle.xm.proofs.Stored.{zero-append, stored-none, stored-some, standard-none, write-none, write-cells}
+use Rattle.xm.proofs.Stored.{stored-none, stored-some, standard-none, write-none, write-cells}
+use Rattle.xm.proofs.Row.{row-read, in-length, in-fives, no-data-by}
 use Rattle.refusal.specs.declared.Fault.{Fault}
 use Rattle.refusal.specs.Fault.{faultOf}
 use Rattle.cells.specs.declared.Size.{Size}
@@ -23,56 +22,9 @@ use Rattle.cells.specs.declared.Measured.the-variants.{Cells, Refused}
 use Rattle.cells.specs.declared.StoredStep.the-variants.{Read, Refused as RefusedStored}
 use Rattle.cells.specs.declared.Scanned.the-variants.{End, Refused as RefusedScan}
 use Rattle.cells.specs.declared.Unpacked.the-variants.{Rows, Refused as RefusedRows}
-use Rattle.cells.specs.Row.{readRow, endOf, sameBytes, measuredOf, cellsIn}
+use Rattle.cells.specs.Row.{endOf, sameBytes, measuredOf}
 use Rattle.cells.specs.Unpacked.{rowsOf, storedOf}
-use Rattle.cells.specs.Inside.{shortestBy, storedSize}
-use Rattle.cells.proofs.Short.{bool-same, shortest-by}
-use Rattle.cells.proofs.Row.{row-of}
-
--- Two numbers at least as large as two others: their sums are equal exactly if both are
-sum-same : (a b m n : ℕ) → m ≤ a → n ≤ b → (eqb a m && eqb b n) ≡ eqb (a + b) (m + n)
-sum-same a b m n h k =
-    bool-same (eqb a m && eqb b n) (eqb (a + b) (m + n))
-    (λ e.
-    let t = and-eq-true-iff (eqb a m) (eqb b n) .0 e in
-    eq-eqb (a + b) (m + n) (omega (arith, eqb-true a m (t .0), eqb-true b n (t .1))))
-    (λ e.
-    let s = eqb-true (a + b) (m + n) e in
-    and-eq-true-iff (eqb a m) (eqb b n) .1 (eq-eqb a m (omega arith), eq-eqb b n (omega arith)))
-
--- No field is kept exactly if all are 0, and then the shortest form has one byte
-kepts-none : (fields : List ℕ) → allZero fields ≡ eqb (length (kepts fields)) 0
-unfolding allZero kepts kept
-kepts-none [] = refl
-kepts-none (zero ∷ fields) = kepts-none fields
-kepts-none (suc x ∷ fields) = rw (ne-eqb (suc x) 0 (λ e. omega arith), ne-eqb (suc (length (kepts fields))) 0 (λ e. omega arith))
-
-shortest-one : (kept : ℕ) → eqb kept 0 ≡ eqb (shortestBy kept) 1
-shortest-one kept = go (ltb 4 kept) refl
-  where
-    go : (t : Bool) → ltb 4 kept ≡ t → eqb kept 0 ≡ eqb (cond t 5 (1 + kept)) 1
-    go true e = ne-eqb kept 0 (λ z. omega (arith, ltb-true 4 kept e))
-    go false e = bool-same (eqb kept 0) (eqb (1 + kept) 1) (λ t. eq-eqb (1 + kept) 1 (omega (arith, eqb-true kept 0 t))) (λ t. eq-eqb kept 0 (omega (arith, eqb-true (1 + kept) 1 t)))
-
-cell-none : (s : List ℕ) → allZero (cellAt s) ≡ eqb (length (writeCell (cellAt s))) 1
-cell-none s =
-    kepts-none (cellAt s) ∙ shortest-one (length (kepts (cellAt s))) ∙ ap (λ (k : ℕ). eqb k 1) (shortest-by (cellAt s) (cell-length s))
-
--- Cells are all empty exactly if their shortest form has one byte a cell
-row-least : (count : ℕ) (s : List ℕ) → count ≤ length (joined writeCell (cellsIn count s))
-unfolding cellsIn
-row-least zero s = omega arith
-row-least (suc count) s = rw length-append (omega (arith, write-some (cellAt s) (cell-length s), row-least count (drop (needed s) s)))
-
-row-none : (count : ℕ) (s : List ℕ) → allZero (flat (cellsIn count s)) ≡ eqb (length (joined writeCell (cellsIn count s))) count
-unfolding cellsIn allZero
-row-none zero s = refl
-row-none (suc count) s =
-    let d = drop (needed s) s in
-    let one : 1 + count ≡ suc count = omega arith in
-    zero-append (cellAt s) (flat (cellsIn count d)) ∙ ap₂ (λ (a b : Bool). a && b) (cell-none s) (row-none count d)
-    ∙ sum-same (length (writeCell (cellAt s))) (length (joined writeCell (cellsIn count d))) 1 count (write-some (cellAt s) (cell-length s)) (row-least count d)
-    ∙ ap₂ (λ (a b : ℕ). eqb a b) (sym (length-append (writeCell (cellAt s)) (joined writeCell (cellsIn count d)))) one
+use Rattle.cells.specs.Inside.{storedSize}
 
 -- What measuring found of accepted cells
 pub record RowSize (count : ℕ) (d : List ℕ) (size : Size) : Type 0 where
@@ -85,7 +37,7 @@ row-size count d size e = go (readRow count 0 d) refl e
   where
     go : (g : Got (List (List ℕ))) → readRow count 0 d ≡ g → Cells size ≡ measuredOf d g → RowSize count d size
     go (got cells used) q e =
-        let same = row-of count 0 d cells used q .same in
+        let same = row-read count 0 d cells used q .same in
         let u : used ≡ size .used = cc in
         let l : size .shortest ≡ length (joined writeCell cells) = cc in
         let b : size .same ≡ sameBytes (take used d) (joined writeCell cells) = cc in
@@ -99,7 +51,7 @@ row-end count d used e = go (readRow count 0 d) refl e
     go : (g : Got (List (List ℕ))) → readRow count 0 d ≡ g → End used ≡ endOf 0 g → readRow count 0 d ≡ got (cellsIn count d) used
     go (got cells n) q e =
         let u : 0 + n ≡ used = cc in
-        q ∙ ap₂ got (row-of count 0 d cells n q .same) (sym (zero-add n) ∙ u)
+        q ∙ ap₂ got (row-read count 0 d cells n q .same) (sym (zero-add n) ∙ u)
     go (refused r) q e = absurd (let z : _≡_ {A = ℕ} 0 1 = cc in omega arith)
 
 -- No data: the standard empty pattern
@@ -107,11 +59,11 @@ pub rows-standard : (channels rows : ℕ) (d : List ℕ) → length d ≡ 0 → 
 rows-standard channels rows d h = sym (ap rowsOf (stored-none channels rows 0 d h))
 
 pub stored-standard : (channels rows : ℕ) (d : List ℕ) → length d ≡ 0
-    → Read (record { rows = 64; shortest = 0; same = true }) ≡ storedOf d (readStored channels rows 0 d)
+    → Read (record { shortest = 0; same = true }) ≡ storedOf d (readStored channels rows 0 d)
 unfolding sameBytes
 stored-standard channels rows [] h =
     sym (ap (storedOf []) (stored-none channels rows 0 [] refl)
-    ∙ ap (λ (w : List ℕ). Read (record { rows = 64; shortest = length w; same = sameBytes [] w })) (write-none (standard channels) (standard-none channels)))
+    ∙ ap (λ (w : List ℕ). Read (record { shortest = length w; same = sameBytes [] w })) (write-none (standard channels) (standard-none channels)))
 stored-standard channels rows (x ∷ d) h = absurd (omega arith)
 
 -- Some data: the exits in their order
@@ -163,35 +115,35 @@ module _ (channels rows : ℕ) (d : List ℕ) (some : 1 ≤ length d) where
       unfolding readCells whole
       reads = stored-some channels rows 0 d some ∙ step _ (m .reads) (pass _ (omega arith, tt) refl)
 
-      no-data : needsNoData whole ≡ (eqb rows 64 && eqb (size .shortest) (rows * channels))
-      unfolding needsNoData whole
-      no-data = rw (m .shortest) (ap (λ (b : Bool). eqb rows 64 && b) (row-none (rows * channels) d))
+      no-data : noDataBy rows (rows * channels) (size .shortest) ≡ needsNoData whole
+      unfolding whole
+      no-data =
+          ap₂ (λ (n k : ℕ). noDataBy rows n k) (sym (in-length (rows * channels) d)) (m .shortest) ∙ no-data-by whole (in-fives (rows * channels) d)
 
-      as-empty : (eqb rows 64 && eqb (size .shortest) (rows * channels)) ≡ true
-          → Read (record { rows = 64; shortest = 0; same = false }) ≡ storedOf d (readStored channels rows 0 d)
+      as-empty : noDataBy rows (rows * channels) (size .shortest) ≡ true
+          → Read (record { shortest = 0; same = false }) ≡ storedOf d (readStored channels rows 0 d)
       unfolding sameBytes whole
       as-empty e =
-          let sixty : rows ≡ 64 = eqb-true rows 64 (and-eq-true-iff (eqb rows 64) (eqb (size .shortest) (rows * channels)) .0 e .0) in
-          sym (ap (storedOf d) reads ∙ ap (λ (w : List ℕ). Read (record { rows = rows; shortest = length w; same = sameBytes d w })) (write-none whole (no-data ∙ e))
-          ∙ ap₂ (λ (n : ℕ) (b : Bool). Read (record { rows = n; shortest = 0; same = b })) sixty (none d some))
+          sym (ap (storedOf d) reads ∙ ap (λ (w : List ℕ). Read (record { shortest = length w; same = sameBytes d w })) (write-none whole (sym no-data ∙ e))
+          ∙ ap (λ (b : Bool). Read (record { shortest = 0; same = b })) (none d some))
         where
           none : (d : List ℕ) → 1 ≤ length d → sameBytes d [] ≡ false
           none [] h = absurd (omega arith)
           none (x ∷ d) h = refl
 
-      as-cells : (eqb rows 64 && eqb (size .shortest) (rows * channels)) ≡ false
-          → Read (record { rows = rows; shortest = size .shortest; same = size .same }) ≡ storedOf d (readStored channels rows 0 d)
+      as-cells : noDataBy rows (rows * channels) (size .shortest) ≡ false
+          → Read (record { shortest = size .shortest; same = size .same }) ≡ storedOf d (readStored channels rows 0 d)
       unfolding whole
       as-cells e =
-          sym (ap (storedOf d) reads ∙ ap (λ (w : List ℕ). Read (record { rows = rows; shortest = length w; same = sameBytes d w })) (write-cells whole (no-data ∙ e))
-          ∙ ap₂ (λ (n : ℕ) (b : Bool). Read (record { rows = rows; shortest = n; same = b })) (sym (m .shortest))
+          sym (ap (storedOf d) reads ∙ ap (λ (w : List ℕ). Read (record { shortest = length w; same = sameBytes d w })) (write-cells whole (sym no-data ∙ e))
+          ∙ ap₂ (λ (n : ℕ) (b : Bool). Read (record { shortest = n; same = b })) (sym (m .shortest))
           (sym (m .same ∙ ap (λ (l : List ℕ). sameBytes l (joined writeCell (cellsIn (rows * channels) d))) (take-all (size .used) d all))))
 
       pub stored-measured : storedSize rows (rows * channels) size ≡ storedOf d (readStored channels rows 0 d)
-      stored-measured = go (eqb rows 64 && eqb (size .shortest) (rows * channels)) refl
+      stored-measured = go (noDataBy rows (rows * channels) (size .shortest)) refl
         where
-          go : (t : Bool) → (eqb rows 64 && eqb (size .shortest) (rows * channels)) ≡ t
-              → cond t (Read (record { rows = 64; shortest = 0; same = false })) (Read (record { rows = rows; shortest = size .shortest; same = size .same }))
+          go : (t : Bool) → noDataBy rows (rows * channels) (size .shortest) ≡ t
+              → cond t (Read (record { shortest = 0; same = false })) (Read (record { shortest = size .shortest; same = size .same }))
               ≡ storedOf d (readStored channels rows 0 d)
           go true e = as-empty e
           go false e = as-cells e

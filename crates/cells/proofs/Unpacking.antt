@@ -7,20 +7,20 @@ use mathlib.Core.Path.{_≡_, refl, sym, ap, _∙_}
 use native.Mathlib.Nat.{mul-le-mul}
 use native.Mathlib.Omega.{arith}
 use lib.ListN.{length, replicate, length-replicate, replicate-append-replicate}
-use Rattle.xm.specs.Got.{Refusal, Got, got, refused, AllHold}
+use Rattle.xm.specs.Got.{Refusal, Got, got, refused, accepted, AllHold}
 use Rattle.xm.specs.Format.{flat}
 use Rattle.xm.specs.Answer.{Answer, gives, refuses, numbers, inFront, after}
-use Rattle.xm.specs.Stored.{Pattern, readCells, readStored}
+use Rattle.xm.specs.Stored.{Pattern, readRow, readCells, readStored}
+use Rattle.xm.specs.Row.{cellsIn}
 use Rattle.xm.specs.Packing.{argumentTests, cellBytes, rowsRead, unpacking, unpackAfter}
 use Rattle.xm.proofs.Got.{passed, bind-got, got-carry}
 use Rattle.xm.proofs.Stored.{stored-empty, stored-some}
+use Rattle.xm.proofs.Row.{row-read}
 use Rattle.refusal.specs.Fault.{faultOf}
 use Rattle.cells.specs.declared.Unpacked.{Unpacked}
 use Rattle.cells.specs.declared.Unpacked.the-variants.{Rows, Refused as RefusedUnpacked}
 use Rattle.refusal.specs.declared.Fault.{Fault}
-use Rattle.cells.specs.Row.{readRow, accepted, cellsIn}
 use Rattle.cells.specs.Unpacked.{rowsOf, unpackedOf, unpackedNumbers}
-use Rattle.cells.proofs.Row.{row-of}
 use Rattle.cells.proofs.Fill.{cells-length}
 
 pub count-most : (rows channels : ℕ) → AllHold (argumentTests rows channels) → rows * channels ≤ 256 * 64
@@ -67,7 +67,7 @@ unfolding readCells
 from-cells channels rows d p n some e =
     bind-got _ _ (sym (stored-some channels rows 0 d some) ∙ e) λ cells m ec e. passed _ _ e λ h e.
     got-carry (λ (q : Pattern) (u : ℕ). FromCells channels rows d q) e
-    (record { rows-same = refl; cells = row-of (rows * channels) 0 d cells m ec .same; fine = ap accepted ec })
+    (record { rows-same = refl; cells = row-read (rows * channels) 0 d cells m ec .same; fine = ap accepted ec })
 
 -- What is to be filled: zeros, or the cells in a row; five bytes a cell
 module _ {channels rows : ℕ} {d : List ℕ} {reported : ℕ} (f : Found channels rows d reported) where

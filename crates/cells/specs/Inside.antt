@@ -1,11 +1,13 @@
 -- For contracts inside the library: what the loops and helpers come to.
-use Prim.Native.Nat.{ℕ, zero, suc, _+_, _/_, _%_, _≤_}
+use Prim.Native.Nat.{ℕ, zero, suc, _+_, _%_, _≤_}
 use mathlib.Core.Bool.{Bool, true, false, cond, _&&_}
 use mathlib.Core.List.{List, [], _∷_, _++_}
-use lib.Dec.{ltb, eqb}
-use lib.ListN.{length, getD, drop, replicate}
+use lib.Dec.{eqb}
+use lib.ListN.{length, drop, replicate}
 use Rattle.xm.specs.Got.{Got, got, refused, Test, atMost, _at_}
-use Rattle.xm.specs.Cell.{markedFrom, needed, cellAt, readCell, kepts, writeCell}
+use Rattle.xm.specs.Cell.{needed, cellAt, readCell, writeCell}
+use Rattle.xm.specs.Short.{isShort}
+use Rattle.xm.specs.Row.{noDataBy}
 use Rattle.xm.specs.PatternInFile.{dataMost}
 use Rattle.xm.specs.Packing.{argumentTests}
 use Rattle.refusal.specs.Fault.{faultOf}
@@ -30,21 +32,6 @@ Whole (suc count) s = (needed s ≤ length s) × Whole count (drop (needed s) s)
 abbrev pub firstFields : (word : ℕ) → List ℕ → List ℕ
 firstFields word s = cond (eqb (word % 256) 128) (replicate 40 0) (cellAt s)
 
--- The length of a cell's shortest form, by how many of its fields are kept, those that aren't 0.
-abbrev pub shortestBy : (kept : ℕ) → ℕ
-shortestBy kept = cond (ltb 4 kept) 5 (1 + kept)
-
--- Whether the cell at the head of s stands in its shortest form: every field that is stored is kept, and a marked cell has bits 5 and 6
--- zero and not all five fields.
-abbrev pub fullMark : ℕ
-fullMark = 159
-
-abbrev pub shortBy : (lead used kept : ℕ) → Bool
-shortBy lead used kept = ltb lead fullMark && eqb (lead / markedFrom + kept) used
-
-unfoldable pub isShort : List ℕ → Bool
-isShort s = shortBy (getD s 0 0) (needed s) (length (kepts (cellAt s)))
-
 -- What measuring comes to from what was used and found so far, and `count` cells still to come at the head of s.
 abbrev pub goesOn : Got (List ℕ) → Measured → Measured
 goesOn (got cell used) rest = rest
@@ -65,15 +52,15 @@ abbrev pub refusedAt : CellStep → (place : ℕ) → Measured
 refusedAt (ReadStep cell used) place = Cells (record { used = place; shortest = place; same = true })
 refusedAt (RefusedStep number) place = RefusedRow (record { number = number; place = place })
 
--- A pattern of measured cells: "64 empty rows" are written as no bytes, and theirs is the only shortest form of one byte a cell.
+-- A pattern of measured cells: one that needs no data is written as no bytes.
 abbrev pub storedSize : (rows count : ℕ) → Size → StoredStep
 storedSize rows count size =
-    cond (eqb rows 64 && eqb (size .shortest) count) (ReadStored (record { rows = 64; shortest = 0; same = false }))
-    (ReadStored (record { rows = rows; shortest = size .shortest; same = size .same }))
+    cond (noDataBy rows count (size .shortest)) (ReadStored (record { shortest = 0; same = false }))
+    (ReadStored (record { shortest = size .shortest; same = size .same }))
 
 -- A refusal, passed on from one answer to the next.
 abbrev pub refusedRow : Measured → StoredStep
-refusedRow (Cells size) = ReadStored (record { rows = 0; shortest = size .shortest; same = size .same })
+refusedRow (Cells size) = ReadStored (record { shortest = size .shortest; same = size .same })
 refusedRow (RefusedRow fault) = RefusedStored fault
 
 abbrev pub refusedScan : Scanned → Unpacked

@@ -17,10 +17,10 @@ abbrev pub rowsOf : Got Pattern → Unpacked
 rowsOf (got p used) = Rows (p .rows)
 rowsOf (refused r) = RefusedUnpacked (faultOf r)
 
--- The rows that it reads as, the length of its shortest form, and whether its bytes are that form already.
+-- The length of its shortest form, and whether its bytes are that form already.
 abbrev pub storedOf : (stored : List ℕ) → Got Pattern → StoredStep
 storedOf stored (got p used) =
-    Read (record { rows = p .rows; shortest = length (writeStored p); same = sameBytes stored (writeStored p) })
+    Read (record { shortest = length (writeStored p); same = sameBytes stored (writeStored p) })
 storedOf stored (refused r) = RefusedStored (faultOf r)
 
 -- "It reports the rows"

@@ -5,20 +5,21 @@ use slices::write::clear;
 mod quick; // two or more cells at a time, and a cell without a branch
 
 ghost use mathlib.Core.Path.{_≡_};
-ghost use Prim.Native.Nat.{_+_, _*_, _%_, _<_, _≤_};
-ghost use mathlib.Core.Bool.{true, false, _&&_};
-ghost use lib.Dec.{eqb};
+ghost use Prim.Native.Nat.{ℕ, _+_, _*_, _%_, _≤_};
+ghost use mathlib.Core.Bool.{true, _&&_};
 ghost use lib.ListN.{replicate, length, drop};
-ghost use Rattle.xm.specs.Got.{AllHold, allPass};
+ghost use Rattle.xm.specs.Got.{AllHold, accepted, allPass};
 ghost use Rattle.xm.specs.Format.{flat};
 ghost use Rattle.xm.specs.Answer.{inFront};
 ghost use Rattle.xm.specs.Cell.{lengthBy, fieldBy, needed, cellAt, readCell, bit, kepts};
-ghost use Rattle.xm.specs.Stored.{readStored};
+ghost use Rattle.xm.specs.Short.{shortestBy, shortBy};
+ghost use Rattle.xm.specs.Stored.{readRow, readStored};
+ghost use Rattle.xm.specs.Row.{cellsIn, noDataBy};
 ghost use Rattle.xm.specs.Packing.{argumentTests, unpacking, unpackAfter};
 ghost use Rattle.cells.specs.Step.{cellOf, fieldsOf, stepOf};
-ghost use Rattle.cells.specs.Row.{readRow, accepted, endOf, measuredOf, cellsIn};
+ghost use Rattle.cells.specs.Row.{endOf, measuredOf};
 ghost use Rattle.cells.specs.Unpacked.{rowsOf, storedOf, unpackedOf};
-ghost use Rattle.cells.specs.Inside.{Whole, measureFrom, shortestBy, shortBy, refusedEnd, refusedAt, storedSize, refusedRow, refusedScan, firstFields, unpackTests};
+ghost use Rattle.cells.specs.Inside.{Whole, measureFrom, refusedEnd, refusedAt, storedSize, refusedRow, refusedScan, firstFields, unpackTests};
 
 // "Only the note is limited (0..97)"
 const NOTE_MOST: u8 = 97;
@@ -55,9 +56,8 @@ pub enum Measured {
     Refused(Fault),
 }
 
-// Of a stored pattern: the rows that it reads as, the bytes of its shortest form, and whether it stands in that form already.
+// Of a stored pattern: the bytes of its shortest form, and whether it stands in that form already.
 pub struct StoredSize {
-    pub rows: usize,
     pub shortest: usize,
     pub same: bool,
 }
@@ -223,9 +223,9 @@ fn kept_count(cell: Cell) -> usize
     note + (instrument + (volume + (effect + parameter)))
 }
 
-// The length of a cell's shortest form.
+// The length of a cell's shortest form, whatever its note.
 fn shortest_by(kept: usize) -> usize
-    ensures { λ r. ⌜ r ≡ shortestBy kept ⌝ }
+    ensures { λ r. ⌜ ((note : ℕ) → r ≡ shortestBy note kept) ⌝ }
 {
     if 4 < kept {
         return 5;
@@ -234,16 +234,12 @@ fn shortest_by(kept: usize) -> usize
 }
 
 // Whether a cell that takes `used` bytes stands in its shortest form, and all before it did.
-fn still_same(same: bool, lead: u8, used: usize, kept: usize) -> bool
+fn still_same(same: bool, lead: u8, used: usize, kept: usize, shortest: usize) -> bool
     requires { ⌜ kept ≤ 5 ⌝ }
-    ensures { λ r. ⌜ r ≡ (same && shortBy lead used kept) ⌝ }
+    ensures { λ r. ⌜ r ≡ (same && shortBy lead used kept shortest) ⌝ }
 {
-    let full = (lead / 128) as usize + kept == used;
-    if same {
-        if lead < 159 { full } else { false }
-    } else {
-        false
-    }
+    let full = (lead / 128) as usize + kept;
+    same && (lead < 160 && (full == used && shortest == used))
 }
 
 // A step's refusal, at its place.
@@ -279,8 +275,9 @@ fn measure_from(stored: &[u8], from: usize, count: usize, before: usize, alike: 
             return refused_at(step, used);
         };
         let kept = kept_count(cell);
-        same = still_same(same, stored[used], length, kept);
-        shortest += shortest_by(kept);
+        let least = shortest_by(kept);
+        same = still_same(same, stored[used], length, kept, least);
+        shortest += least;
         used += length;
         left -= 1;
     }
@@ -316,8 +313,9 @@ fn measure_cells(stored: &[u8], count: usize) -> Measured
         }
         let length = quick::length_by(lead);
         let kept = quick::kept_at(stored, used, length);
-        same = still_same(same, lead, length, kept);
-        shortest += shortest_by(kept);
+        let least = shortest_by(kept);
+        same = still_same(same, lead, length, kept, least);
+        shortest += least;
         used += length;
         left -= 1;
     }
@@ -330,7 +328,6 @@ fn refused_row(measured: Measured) -> StoredStep
 {
     match measured {
         Measured::Cells(size) => StoredStep::Read(StoredSize {
-            rows: 0,
             shortest: size.shortest,
             same: size.same,
         }),
@@ -340,9 +337,9 @@ fn refused_row(measured: Measured) -> StoredStep
 
 // 64 empty rows: their shortest form has one byte a cell, and no other cells' has.
 fn needs_no_data(rows: usize, count: usize, shortest: usize) -> bool
-    ensures { λ r. ⌜ r ≡ (eqb rows 64 && eqb shortest count) ⌝ }
+    ensures { λ r. ⌜ r ≡ noDataBy rows count shortest ⌝ }
 {
-    if rows == 64 { shortest == count } else { false }
+    rows == 64 && shortest == count
 }
 
 // What measured cells are as a pattern: 64 empty rows are written as no bytes.
@@ -352,13 +349,11 @@ fn stored_size(rows: usize, count: usize, size: Size) -> StoredStep
     let empty = needs_no_data(rows, count, size.shortest);
     if empty {
         return StoredStep::Read(StoredSize {
-            rows: 64,
             shortest: 0,
             same: false,
         });
     }
     StoredStep::Read(StoredSize {
-        rows: rows,
         shortest: size.shortest,
         same: size.same,
     })
@@ -371,7 +366,6 @@ pub fn read_stored(stored: &[u8], rows: usize, channels: usize) -> StoredStep
 {
     if stored.len() == 0 {
         return StoredStep::Read(StoredSize {
-            rows: 64,
             shortest: 0,
             same: true,
         });

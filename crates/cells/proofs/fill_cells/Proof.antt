@@ -14,7 +14,7 @@ use Rattle.xm.specs.Cell.{cellAt}
 use Rattle.xm.proofs.Cell.{cell-length}
 use Rattle.xm.proofs.Lay.{part-back, part-all}
 use Rattle.cells.specs.Step.{fieldsOf}
-use Rattle.cells.specs.Row.{cellsIn}
+use Rattle.xm.specs.Row.{cellsIn}
 use Rattle.cells.specs.Inside.{firstFields}
 use Rattle.cells.specs.Quick.{WordAt}
 use Rattle.cells.proofs.Step.{fields-of}

@@ -6,14 +6,15 @@ use mathlib.Core.Logic.{⊎-elim}
 use mathlib.Core.Path.{sym, ap, _∙_}
 use native.Mathlib.Omega.{arith}
 use borrow.Author.Tests.{leb-true}
-use lib.ListN.{length, drop}
+use lib.ListN.{length, getD, drop}
 use denote.Ref.{now}
 use Rattle.xm.specs.Cell.{lengthBy, cellAt}
-use Rattle.xm.proofs.Cell.{cell-length}
+use Rattle.xm.specs.Short.{shortestBy}
+use Rattle.xm.specs.Stored.{readRow}
+use Rattle.xm.proofs.Cell.{cell-length, kepts-most}
 use Rattle.xm.proofs.Lay.{head-at}
-use Rattle.cells.specs.Row.{readRow, measuredOf}
-use Rattle.cells.specs.Inside.{shortestBy}
-use Rattle.cells.proofs.Short.{shortest-by, short-by, kept-most}
+use Rattle.xm.proofs.Short.{shortest-by, short-by}
+use Rattle.cells.specs.Row.{measuredOf}
 use Rattle.cells.proofs.Row.{measure-all, Measuring}
 use Rattle.cells.proofs.Run.{run-at, Ready, ready-stay, ready-run, ready-cell, ready-note}
 use borrow.Author.Needs.{needs}
@@ -38,16 +39,17 @@ ready j =
     (w .4) (w .5)) (λ w. ready-stay (l .inv) many wide (w .1) (w .2) (w .3)) (j .if2 .came)
 
 turn : (c : tie.After-row-known2 Inv-loop μ-loop) → Measuring (now (c .before .before .before .before .before .before .before .before .before .before .before .before .before .before .before .before .args .stored)) (measuredOf (now (c .before .before .before .before .before .before .before .before .before .before .before .before .before .before .before .before .args .stored)) (readRow (c .before .before .before .before .before .before .before .before .before .before .before .before .before .before .before .before .args .count) 0 (now (c .before .before .before .before .before .before .before .before .before .before .before .before .before .before .before .before .args .stored))))
-    (c .before .before .before .before .before .before .before .before .before .before .if2 .used + c .before .before .before .before .length-by .result) (c .before .before .before .before .before .before .before .before .before .before .if2 .shortest + c .before .shortest-by .result) (c .before .before .still-same .result) (c .before .before .before .before .before .before .before .before .before .before .if2 .left - 1)
+    (c .before .before .before .before .before .before .before .before .before .before .if2 .used + c .before .before .before .before .length-by .result) (c .before .before .before .before .before .before .before .before .before .before .if2 .shortest + c .before .before .shortest-by .result) (c .before .still-same .result) (c .before .before .before .before .before .before .before .before .before .before .if2 .left - 1)
 turn c =
     let j = c .before .before .before .before .before .before .before .before .before .before in
     let used = j .if2 .used in
     let s = now (j .before .before .before .before .before .before .args .stored) in
     let length = c .before .before .before .before .length-by .ensures in
     let kept = c .before .before .before .kept-at .ensures in
-    ready-cell (ready j) (omega (arith, c .before .before .before .before .before .before .note-by .ensures)) length
-    (c .before .shortest-by .ensures ∙ ap shortestBy kept ∙ shortest-by (cellAt (drop used s)) (cell-length (drop used s)))
-    (c .before .before .still-same .ensures ∙ ap (λ (b : Bool). j .before .before .before .before .loop .same && b) (short-by (drop used s) _ _ _ (sym (head-at used s 0)) (length ∙ ap lengthBy (sym (head-at used s 0))) kept))
+    let note = getD (cellAt (drop used s)) 0 0 in
+    let least = c .before .before .shortest-by .ensures note ∙ ap (shortestBy note) kept ∙ shortest-by (cellAt (drop used s)) (cell-length (drop used s)) in
+    ready-cell (ready j) (omega (arith, c .before .before .before .before .before .before .note-by .ensures)) length least
+    (c .before .still-same .ensures ∙ ap (λ (b : Bool). j .before .before .before .before .loop .same && b) (short-by (drop used s) _ _ _ _ (sym (head-at used s 0)) (length ∙ ap lengthBy (sym (head-at used s 0))) kept least))
 
 loop-holds : tie.Need-loop-holds Inv-loop μ-loop
 loop-holds c = record { inside = omega arith; small = omega arith; rest = measure-all _ _ }
@@ -94,13 +96,14 @@ length-by-requires c κs = search needs
 kept-at-requires : tie.Need-kept-at-requires Inv-loop μ-loop
 kept-at-requires c κs = (omega (arith, ready (c .before .before .before .before .before .before) .wide), c .length-by .ensures)
 
-still-same-requires : tie.Need-still-same-requires Inv-loop μ-loop
-still-same-requires c κs =
-    let j = c .before .before .before .before .before .before .before in
-    omega (arith, c .kept-at .ensures, kept-most (drop (j .if2 .used) (now (j .before .before .before .before .before .before .args .stored))))
-
 shortest-by-requires : tie.Need-shortest-by-requires Inv-loop μ-loop
 shortest-by-requires c κs = search needs
+
+still-same-requires : tie.Need-still-same-requires Inv-loop μ-loop
+still-same-requires c κs =
+    let j = c .before .before .before .before .before .before .before .before in
+    let d = drop (j .if2 .used) (now (j .before .before .before .before .before .before .args .stored)) in
+    omega (arith, c .before .kept-at .ensures, kepts-most (cellAt d), cell-length d)
 
 add-shortest-2 : tie.Need-add-shortest-2 Inv-loop μ-loop
 add-shortest-2 c = let m = turn c in omega (arith, m .small, m .inside)
@@ -144,8 +147,8 @@ measure-cells-spec =
     returns
     length-by-requires
     kept-at-requires
-    still-same-requires
     shortest-by-requires
+    still-same-requires
     add-shortest-2
     add-used-2
     sub-left-2

@@ -8,14 +8,15 @@ use lib.ListN.{length, getD, drop, length-drop}
 use denote.Ref.{now}
 use Prim.Native.Nat.{ℕ}
 use Rattle.xm.specs.Cell.{cellAt, kepts, readCell, writeCell}
-use Rattle.xm.proofs.Cell.{cell-length, length-some, write-short}
+use Rattle.xm.specs.Short.{shortestBy}
+use Rattle.xm.proofs.Cell.{cell-length, length-some, kepts-most, write-short}
+use Rattle.xm.proofs.Short.{shortest-by, short-by}
 use Rattle.xm.proofs.Lay.{part-all, head-at}
 use Rattle.cells.specs.declared.Cell.{Cell}
 use Rattle.cells.specs.declared.CellStep.{CellStep}
 use Rattle.cells.specs.Step.{fieldsOf, stepOf}
-use Rattle.cells.specs.Inside.{shortestBy, refusedAt, measureFrom}
+use Rattle.cells.specs.Inside.{refusedAt, measureFrom}
 use Rattle.cells.proofs.Step.{ReadOf, kept-of, read-of, refused-of}
-use Rattle.cells.proofs.Short.{shortest-by, short-by, kept-most}
 use Rattle.cells.proofs.Row.{Measuring, measuring-more, measuring-stop, measuring-done}
 use borrow.Author.Needs.{needs}
 use Rattle.cells.proofs.measure_from.Statement.{statement}
@@ -34,9 +35,9 @@ read c =
     c .read-cell .ensures
     ∙ ap (λ (l : List ℕ). stepOf (readCell 0 l)) (part-all (c .before .before .before .loop .used) (now (c .before .before .before .before .before .args .stored)))
 
-cost : {s : List ℕ} {cell : Cell} {used kept shortest : ℕ} → ReadOf s cell used → kept ≡ length (kepts (fieldsOf cell)) → shortest ≡ shortestBy kept
+cost : {s : List ℕ} {cell : Cell} {used kept shortest : ℕ} → ReadOf s cell used → kept ≡ length (kepts (fieldsOf cell)) → ((note : ℕ) → shortest ≡ shortestBy note kept)
     → shortest ≡ length (writeCell (cellAt s))
-cost {s} g k e = e ∙ ap shortestBy (k ∙ kept-of g) ∙ shortest-by (cellAt s) (cell-length s)
+cost {s} g k e = e (getD (cellAt s) 0 0) ∙ ap (shortestBy (getD (cellAt s) 0 0)) (k ∙ kept-of g) ∙ shortest-by (cellAt s) (cell-length s)
 
 loop-holds : tie.Need-loop-holds Inv-loop μ-loop
 loop-holds c = record { inside = c .before .pre .0; small = c .before .pre .1; rest = refl }
@@ -73,26 +74,26 @@ returns c =
 kept-count-requires : tie.Need-kept-count-requires Inv-loop μ-loop
 kept-count-requires c κs = search needs
 
+shortest-by-requires : tie.Need-shortest-by-requires Inv-loop μ-loop
+shortest-by-requires c κs = search needs
+
 shared-slice-read-still-same : tie.Need-shared-slice-read-still-same Inv-loop μ-loop
 shared-slice-read-still-same c =
-    let d = c .before .before .before .before .before in
+    let d = c .before .before .before .before .before .before in
     let l = d .before .before .before .loop in
     let used = l .used in
     let s = now (d .before .before .before .before .before .args .stored) in
-    let g = read-of (drop used s) _ _ (sym (read d) ∙ c .before .before .before .step .given .1) in
+    let g = read-of (drop used s) _ _ (sym (read d) ∙ c .before .before .before .before .step .given .1) in
     omega (arith, g .fits, length-some (getD (drop used s) 0 0), length-drop used s)
 
 still-same-requires : tie.Need-still-same-requires Inv-loop μ-loop
 still-same-requires c κs =
-    let d = c .before .before .before .before .before in
+    let d = c .before .before .before .before .before .before in
     let l = d .before .before .before .loop in
     let used = l .used in
     let s = now (d .before .before .before .before .before .args .stored) in
-    let g = read-of (drop used s) _ _ (sym (read d) ∙ c .before .before .before .step .given .1) in
-    omega (arith, c .before .kept-count .ensures, kept-of g, kept-most (drop used s))
-
-shortest-by-requires : tie.Need-shortest-by-requires Inv-loop μ-loop
-shortest-by-requires c κs = search needs
+    let g = read-of (drop used s) _ _ (sym (read d) ∙ c .before .before .before .before .step .given .1) in
+    omega (arith, c .before .before .kept-count .ensures, kept-of g, kepts-most (cellAt (drop used s)), cell-length (drop used s))
 
 add-shortest : tie.Need-add-shortest Inv-loop μ-loop
 add-shortest c =
@@ -101,7 +102,7 @@ add-shortest c =
     let used = l .used in
     let s = now (d .before .before .before .before .before .args .stored) in
     let g = read-of (drop used s) _ _ (sym (read d) ∙ c .before .before .before .before .before .step .given .1) in
-    omega (arith, cost g (c .before .before .before .kept-count .ensures) (c .shortest-by .ensures), g .fits, length-drop used s, write-short (drop used s))
+    omega (arith, cost g (c .before .before .before .kept-count .ensures) (c .before .before .shortest-by .ensures), g .fits, length-drop used s, write-short (drop used s))
 
 add-used : tie.Need-add-used Inv-loop μ-loop
 add-used c =
@@ -126,8 +127,9 @@ loop-again c =
     let s = now (d .before .before .before .before .before .args .stored) in
     let g = read-of (drop used s) _ _ (sym (read d) ∙ c .before .before .before .before .before .step .given .1) in
     let kept = c .before .before .before .kept-count .ensures in
-    measuring-more (l .inv) (omega arith) (g .fits) (g .note) (g .long) (cost g kept (c .shortest-by .ensures))
-    (c .before .still-same .ensures ∙ ap (λ (b : Bool). l .same && b) (short-by (drop used s) _ _ _ (sym (head-at used s 0)) (g .long) (kept ∙ kept-of g)))
+    let least = cost g kept (c .before .before .shortest-by .ensures) in
+    measuring-more (l .inv) (omega arith) (g .fits) (g .note) (g .long) least
+    (c .still-same .ensures ∙ ap (λ (b : Bool). l .same && b) (short-by (drop used s) _ _ _ _ (sym (head-at used s 0)) (g .long) (kept ∙ kept-of g) least))
 
 returns-2 : tie.Need-returns-2 Inv-loop μ-loop
 returns-2 c = measuring-done (c .before .loop .inv) (omega arith)
@@ -148,9 +150,9 @@ measure-from-spec =
     refused-at-requires
     returns
     kept-count-requires
+    shortest-by-requires
     shared-slice-read-still-same
     still-same-requires
-    shortest-by-requires
     add-shortest
     add-used
     sub-left

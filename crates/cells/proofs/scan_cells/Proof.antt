@@ -6,7 +6,8 @@ use native.Mathlib.Omega.{arith}
 use borrow.Author.Tests.{leb-true}
 use lib.ListN.{length, getD}
 use denote.Ref.{now}
-use Rattle.cells.specs.Row.{readRow, endOf}
+use Rattle.xm.specs.Stored.{readRow}
+use Rattle.cells.specs.Row.{endOf}
 use Rattle.cells.specs.Quick.{WordAt, noteBy}
 use Rattle.cells.proofs.Wide.{length-six}
 use Rattle.cells.proofs.Run.{lead-at, second-at, ahead-few}

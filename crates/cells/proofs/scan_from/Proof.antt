@@ -9,7 +9,8 @@ use Rattle.xm.specs.Cell.{readCell}
 use Rattle.xm.proofs.Lay.{part-all}
 use Rattle.cells.specs.declared.CellStep.{CellStep}
 use Rattle.cells.specs.Step.{stepOf}
-use Rattle.cells.specs.Row.{readRow, endOf}
+use Rattle.xm.specs.Stored.{readRow}
+use Rattle.cells.specs.Row.{endOf}
 use Rattle.cells.specs.Inside.{refusedEnd}
 use Rattle.cells.proofs.Step.{read-of, refused-of}
 use Rattle.cells.proofs.Scan.{Scanning, scanning-more, scanning-stop, scanning-done}
