@@ -1,6 +1,6 @@
 -- The exits of `pack`, from what its first pass found; and that its contract leaves one answer. Assumes nothing.
 use Prim.Native.Nat.{ℕ, _*_, _≤_, _<_}
-use mathlib.Core.Path.{_≡_, refl, sym, ap, _∙_}
+use mathlib.Core.Path.{_≡_, refl, sym, ap, ap₂, _∙_}
 use mathlib.Core.List.{List}
 use native.Mathlib.Omega.{arith}
 use lib.ListN.{length}
@@ -12,17 +12,17 @@ use Rattle.xm.specs.Answer.{refuses, inFront}
 use Rattle.xm.specs.Cell.{writeCell}
 use Rattle.xm.specs.Stored.{writeStored, cellsOf}
 use Rattle.xm.specs.PatternInFile.{dataMost}
+use Rattle.xm.specs.Row.{sizeBy}
 use Rattle.xm.specs.Packing.{noteTests, patternOf, packing, packAfter}
 use Rattle.xm.proofs.Answer.{checked-holds}
 use Rattle.xm.proofs.Stored.{cells-length, cells-fives}
+use Rattle.xm.proofs.Row.{stored-nothing, stored-cells, size-by}
 use Rattle.xm.proofs.Packing.{PackRange, NotesHold, pack-argument, pack-note, pack-size, pack-room, pack-gives}
 use Rattle.packing.specs.declared.Packed.{Packed}
 use Rattle.packing.specs.declared.Packed.the-variants.{Stored, Refused}
 use Rattle.packing.specs.declared.Measured.the-variants.{Shortest, Faulty}
-use Rattle.packing.specs.Packed.{packedOf, measuredOf, sizeBy}
+use Rattle.packing.specs.Packed.{packedOf, measuredOf}
 use Rattle.packing.proofs.Measure.{measured-shortest}
-use Rattle.shortest.proofs.Long.{stored-nothing, stored-cells}
-use Rattle.packing.proofs.Empty.{stored-by}
 
 pub form-path : {size size′ rows rows′ : ℕ} → size ≡ size′ → rows ≡ rows′ → Stored (record { length = size; rows = rows }) ≡ Stored (record { length = size′; rows = rows′ })
 form-path p q = cc
@@ -40,7 +40,7 @@ sized rows channels cells range shortest size e l =
     measured-shortest (checked (noteTests (rows * channels) 0 cells)) _ shortest e λ n c k. record {
       range = range;
       notes = checked-holds (noteTests (rows * channels) 0 cells) c;
-      long = l ∙ stored-by (patternOf rows channels cells) (rows * channels) shortest (cells-fives (rows * channels) cells) (sym (cells-length (rows * channels) cells)) k;
+      long = l ∙ ap₂ (sizeBy rows) (sym (cells-length (rows * channels) cells)) k ∙ size-by (patternOf rows channels cells) (cells-fives (rows * channels) cells);
     }
 
 pub sized-cells : {rows channels : ℕ} {cells : List ℕ} {size : ℕ} → Sized rows channels cells size → 0 < size → size ≡ length (joined writeCell (cellsOf (rows * channels) cells))

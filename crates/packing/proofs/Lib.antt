@@ -1,4 +1,3 @@
 pub mod Measure
-pub mod Empty
 pub mod Exit
 pub mod Calls

@@ -1,8 +1,6 @@
 -- The code's answers as the definitions' ones.
 use Prim.Native.Nat.{ℕ, _*_}
-use mathlib.Core.Bool.{cond, _&&_}
 use mathlib.Core.List.{List, [], _∷_, _++_}
-use lib.Dec.{eqb}
 use lib.ListN.{length}
 use Rattle.refusal.specs.Fault.{faultOf}
 use Rattle.xm.specs.Got.{Got, got, refused, AllHold, exactly, _at_}
@@ -24,14 +22,10 @@ abbrev pub packedNumbers : Packed → List ℕ
 packedNumbers (Stored form) = 0 ∷ 0 ∷ form .length ∷ form .rows ∷ []
 packedNumbers (Refused fault) = fault .number ∷ fault .place ∷ 0 ∷ 0 ∷ []
 
--- For contracts inside the crate: the tests for 16, over the count of cell bytes; the notes' tests with the length of the cells; and
--- the length of a stored form by that of its cells, which is their count if all are empty.
+-- For contracts inside the crate: the tests for 16, over the count of cell bytes; and the notes' tests with the length of the cells.
 abbrev pub ArgumentsHold : (rows channels bytes : ℕ) → Type 0
 ArgumentsHold rows channels bytes = AllHold (argumentTests rows channels ++ (exactly (rows * channels * 5) bytes (16 at 0) ∷ []))
 
 abbrev pub measuredOf : Got (Unit {0}) → (shortest : ℕ) → Measured
 measuredOf (got u n) shortest = Shortest shortest
 measuredOf (refused r) shortest = Faulty (faultOf r)
-
-unfoldable pub sizeBy : (rows count shortest : ℕ) → ℕ
-sizeBy rows count shortest = cond (eqb rows 64 && eqb shortest count) 0 shortest

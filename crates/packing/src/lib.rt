@@ -11,9 +11,10 @@ ghost use Rattle.xm.specs.Format.{joined};
 ghost use Rattle.xm.specs.Answer.{refuses, inFront};
 ghost use Rattle.xm.specs.Cell.{five, writeCell};
 ghost use Rattle.xm.specs.Stored.{cellsOf};
+ghost use Rattle.xm.specs.Row.{sizeBy};
 ghost use Rattle.xm.specs.Packing.{packing, packAfter, noteTests};
 ghost use Rattle.shortest.specs.Fields.{fields};
-ghost use Rattle.packing.specs.Packed.{packedOf, ArgumentsHold, measuredOf, sizeBy};
+ghost use Rattle.packing.specs.Packed.{packedOf, ArgumentsHold, measuredOf};
 
 // A stored form that was written: how many data bytes, and its row number.
 pub struct Form {

@@ -2,14 +2,15 @@
 -- Assumes nothing.
 use Prim.Native.Nat.{ℕ, _+_, _*_, _≤_, _<_}
 use mathlib.Core.Path.{_≡_, refl, sym, ap, ap₂, _∙_}
+use mathlib.Core.Bool.{false}
 use mathlib.Core.List.{List, [], _∷_, _++_, append-assoc, append-nil}
 use native.Mathlib.Omega.{arith}
-use borrow.Author.Tests.{lt-ltb, le-ltb}
+use borrow.Author.Tests.{le-ltb}
 use lib.ListN.{length, set, length-append}
 use Rattle.xm.specs.Answer.{inFront}
 use Rattle.xm.specs.Lay.{lay}
-use Rattle.xm.specs.Cell.{bit, kept, marks, kepts, marked, goesPlain, writeCell}
-use Rattle.xm.proofs.Cell.{bit-most, bit-none, kept-some, kept-length, kepts-sum, marked-length, write-plain, write-marked}
+use Rattle.xm.specs.Cell.{bit, kept, marks, kepts, marked, plainBy, goesPlain, writeCell}
+use Rattle.xm.proofs.Cell.{bit-most, bit-none, kept-some, kept-length, kepts-sum, marked-length, write-plain, write-marked, many-plain}
 use Rattle.xm.proofs.Lay.{lay-front, lay-none, lay-one, lay-lay}
 use Rattle.shortest.specs.Fields.{fields, keptCount}
 
@@ -17,15 +18,17 @@ use Rattle.shortest.specs.Fields.{fields, keptCount}
 marked-count : (a b c d e : ℕ) → length (marked (fields a b c d e)) ≡ 1 + keptCount a b c d e
 marked-count a b c d e = omega (arith, marked-length (fields a b c d e), kepts-sum a b c d e)
 
+few-marked : (note fields : ℕ) → fields < 5 → plainBy note fields ≡ false
+unfolding plainBy
+few-marked note fields h = omega (arith, le-ltb)
+
 pub count-plain : (a b c d e : ℕ) → 5 ≤ keptCount a b c d e → writeCell (fields a b c d e) ≡ fields a b c d e
 unfolding goesPlain
-count-plain a b c d e h =
-    write-plain (fields a b c d e) (lt-ltb 5 (length (marked (fields a b c d e))) (omega (arith, marked-count a b c d e)))
+count-plain a b c d e h = write-plain (fields a b c d e) (many-plain a (length (kepts (fields a b c d e))) (omega (arith, kepts-sum a b c d e)))
 
 pub count-marked : (a b c d e : ℕ) → keptCount a b c d e < 5 → writeCell (fields a b c d e) ≡ marked (fields a b c d e)
 unfolding goesPlain
-count-marked a b c d e h =
-    write-marked (fields a b c d e) (le-ltb 5 (length (marked (fields a b c d e))) (omega (arith, marked-count a b c d e)))
+count-marked a b c d e h = write-marked (fields a b c d e) (few-marked a (length (kepts (fields a b c d e))) (omega (arith, kepts-sum a b c d e)))
 
 pub written-plain : (a b c d e : ℕ) → 5 ≤ keptCount a b c d e → length (writeCell (fields a b c d e)) ≡ 5
 written-plain a b c d e h = ap length (count-plain a b c d e h)
@@ -104,5 +107,5 @@ fields-zero a b c d e h =
 
 -- An empty cell is its lead byte
 pub empty-written : writeCell (fields 0 0 0 0 0) ≡ 128 ∷ []
-unfolding writeCell goesPlain marked marks kepts kept
+unfolding writeCell goesPlain plainBy marked marks kepts kept
 empty-written = refl

@@ -1,89 +1,44 @@
--- Stored cells that were accepted: as a row of cells, and the state of the loop that writes them again. Assumes nothing.
+-- Stored cells that were accepted: the state of the loop that writes them again. Assumes nothing.
 use Prim.Native.Nat.{ℕ, zero, suc, _+_, _*_, _-_, _≤_, _<_}
-use mathlib.Core.Path.{_≡_, refl, sym, ap, _∙_}
+use mathlib.Core.Path.{_≡_, sym, ap, _∙_}
 use mathlib.Core.Bool.{true}
 use mathlib.Core.List.{List, [], _∷_}
 use native.Mathlib.Omega.{arith}
 use borrow.Rule.Slice.PartMut.{putMid}
 use lib.Count.{ones}
-use lib.ListN.{length, getD, take, drop, set, replicate, length-drop}
+use lib.ListN.{length, getD, take, drop, set, length-drop}
 use lib.Seq.{drop-drop}
-use Rattle.xm.specs.Got.{Got, got, refused}
-use Rattle.xm.specs.Format.{eachRead, joined}
+use Rattle.xm.specs.Got.{Got, got, accepted}
+use Rattle.xm.specs.Format.{joined}
 use Rattle.xm.specs.Answer.{inFront}
-use Rattle.xm.specs.Cell.{lengthBy, fieldsBy, needed, cellAt, readCell, writeCell, cellFormat}
-use Rattle.xm.specs.Stored.{Pattern, standard, readCells, readStored, writeStored}
-use Rattle.xm.proofs.Got.{no-true, passed, pass, bind-got, got-value, got-used, step}
-use Rattle.xm.proofs.Format.{cons-path}
-use Rattle.xm.proofs.Cell.{length-some, cell-length, cell-marked, read-got}
+use Rattle.xm.specs.Cell.{lengthBy, fieldsBy, needed, cellAt, readCell, writeCell}
+use Rattle.xm.specs.Stored.{Pattern, standard, readRow, readCells, readStored, writeStored}
+use Rattle.xm.specs.Row.{cellsIn}
+use Rattle.xm.proofs.Got.{passed, bind-got, got-value}
+use Rattle.xm.proofs.Cell.{length-some, cell-marked, cell-read}
 use Rattle.xm.proofs.Lay.{laid-long}
-use Rattle.xm.proofs.Stored.{Fives, standard-none, write-none, stored-used}
-use Rattle.shortest.specs.Found.{accepted, rewritten, cellsRead, storedRead, cellsPressed, storedPressed}
+use Rattle.xm.proofs.Stored.{standard-none, write-none}
+use Rattle.xm.proofs.Row.{accepted-got, got-accepted, row-read, in-length, in-fives, cells-least, stored-cells}
+use Rattle.shortest.specs.Found.{rewritten, cellsPressed, storedPressed}
 use Rattle.shortest.specs.Over.{overMost, Over}
-use Rattle.shortest.proofs.Long.{stored-cells, cells-least}
 use Rattle.shortest.proofs.Fields.{empty-written}
 use Rattle.shortest.proofs.Row.{Writing, writing-none, writing-done, writing-room, writing-part, writing-over, writing-empty}
-
--- An accepted reading found something
-pub accepted-got : {A R : Type 0} (g : Got A) → accepted g ≡ true → ((a : A) (n : ℕ) → g ≡ got a n → R) → R
-accepted-got (got a n) e k = k a n refl
-accepted-got (refused r) e k = absurd (no-true e)
-
-pub got-accepted : {A : Type 0} {g : Got A} {a : A} {n : ℕ} → g ≡ got a n → accepted g ≡ true
-got-accepted e = rw e
 
 got-rewritten : {A : Type 0} (write : A → List ℕ) {g : Got A} {a : A} {n : ℕ} → g ≡ got a n → rewritten write g ≡ write a
 got-rewritten write e = rw e
 
--- One cell that was read
-pub record CellRead (s c : List ℕ) (k : ℕ) : Type 0 where
-  pub fits : needed s ≤ length s
-  pub same : c ≡ cellAt s
-  pub long : k ≡ needed s
-  pub again : (place : ℕ) → readCell place s ≡ got c k
-
-pub cell-read : (place : ℕ) (s c : List ℕ) (k : ℕ) → readCell place s ≡ got c k → CellRead s c k
-unfolding readCell
-cell-read place s c k e = passed _ _ e λ h e. record {
-  fits = h .0;
-  same = cc;
-  long = cc;
-  again = λ place. read-got place s (h .0) (h .1 .0) ∙ e;
-}
-
--- Cells in a row
-pub cellsIn : ℕ → List ℕ → List (List ℕ)
-cellsIn zero s = []
-cellsIn (suc n) s = cellAt s ∷ cellsIn n (drop (needed s) s)
-
-pub cells-in : (n place : ℕ) (s : List ℕ) (cells : List (List ℕ)) (used : ℕ) → eachRead cellFormat (replicate n tt) place s ≡ got cells used → cells ≡ cellsIn n s
-unfolding cellsIn
-cells-in zero place s cells used e = sym (got-value e)
-cells-in (suc n) place s cells used e =
-    bind-got (readCell place s) _ e λ c k ec e. bind-got (eachRead cellFormat (replicate n tt) (place + k) (drop k s)) _ e λ cs m es e.
-    let r = cell-read place s c k ec in
-    sym (got-value e) ∙ cons-path (r .same) (cells-in n (place + k) (drop k s) cs m es ∙ ap (λ (j : ℕ). cellsIn n (drop j s)) (r .long))
-
--- Where they are read from does not matter
-pub cells-anywhere : (n place place′ : ℕ) (s : List ℕ) (cells : List (List ℕ)) (used : ℕ)
-    → eachRead cellFormat (replicate n tt) place s ≡ got cells used → eachRead cellFormat (replicate n tt) place′ s ≡ got cells used
-cells-anywhere zero place place′ s cells used e = e
-cells-anywhere (suc n) place place′ s cells used e =
-    bind-got (readCell place s) _ e λ c k ec e. bind-got (eachRead cellFormat (replicate n tt) (place + k) (drop k s)) _ e λ cs m es e.
-    step _ (cell-read place s c k ec .again place′) (step _ (cells-anywhere n (place + k) (place′ + k) (drop k s) cs m es) e)
-
 -- The first of cells that are left, from a place on
 record FirstRead (n place : ℕ) (s : List ℕ) : Type 0 where
   fits : needed (drop place s) ≤ length (drop place s)
-  rest : accepted (eachRead cellFormat (replicate (n - 1) tt) (place + needed (drop place s)) (drop (place + needed (drop place s)) s)) ≡ true
+  rest : accepted (readRow (n - 1) (place + needed (drop place s)) (drop (place + needed (drop place s)) s)) ≡ true
   cells : cellsIn n (drop place s) ≡ cellAt (drop place s) ∷ cellsIn (n - 1) (drop (place + needed (drop place s)) s)
 
-first-read : (n place : ℕ) (s : List ℕ) → 0 < n → accepted (eachRead cellFormat (replicate n tt) place (drop place s)) ≡ true → FirstRead n place s
+first-read : (n place : ℕ) (s : List ℕ) → 0 < n → accepted (readRow n place (drop place s)) ≡ true → FirstRead n place s
 unfolding cellsIn
 first-read zero place s h g = absurd (omega arith)
 first-read (suc n) place s h g =
-    accepted-got (eachRead cellFormat (replicate (suc n) tt) place (drop place s)) g λ cells used e.
-    bind-got (readCell place (drop place s)) _ e λ c k ec e. bind-got (eachRead cellFormat (replicate n tt) (place + k) (drop k (drop place s))) _ e λ cs m es e.
+    accepted-got (readRow (suc n) place (drop place s)) g λ cells used e.
+    bind-got (readCell place (drop place s)) _ e λ c k ec e. bind-got (readRow n (place + k) (drop k (drop place s))) _ e λ cs m es e.
     let r = cell-read place (drop place s) c k ec in
     let less : suc n - 1 ≡ n = omega arith in
     record {
@@ -92,36 +47,17 @@ first-read (suc n) place s h g =
       cells = rw (less, drop-drop);
     }
 
--- A cell takes a byte at least: where it stands, and in its shortest form
-cells-stand : (n place : ℕ) (s : List ℕ) → accepted (eachRead cellFormat (replicate n tt) place s) ≡ true → n ≤ length s
-cells-stand zero place s g = omega arith
-cells-stand (suc n) place s g =
-    accepted-got (eachRead cellFormat (replicate (suc n) tt) place s) g λ cells used e.
-    bind-got (readCell place s) _ e λ c k ec e. bind-got (eachRead cellFormat (replicate n tt) (place + k) (drop k s)) _ e λ cs m es e.
-    let r = cell-read place s c k ec in
-    omega (arith, cells-stand n (place + k) (drop k s) (got-accepted es), length-drop k s, r .fits, r .long, length-some (getD s 0 0))
-
-cells-count : (n : ℕ) (s : List ℕ) → length (cellsIn n s) ≡ n
-unfolding cellsIn
-cells-count zero s = refl
-cells-count (suc n) s = ap suc (cells-count n (drop (needed s) s))
-
-cells-fives : (n : ℕ) (s : List ℕ) → Fives (cellsIn n s)
-unfolding cellsIn
-cells-fives zero s = tt
-cells-fives (suc n) s = (cell-length s, cells-fives n (drop (needed s) s))
-
 -- The state of the loop: `left` cells are still to be written again, from `place` on
 pub record Rewriting (stored lent goal out : List ℕ) (place to left : ℕ) : Type 0 where
   pub inside : place ≤ length stored
-  pub fine : accepted (eachRead cellFormat (replicate left tt) place (drop place stored)) ≡ true
+  pub fine : accepted (readRow left place (drop place stored)) ≡ true
   pub writing : Writing lent goal out to (cellsIn left (drop place stored))
 
-cells-pressed : (count : ℕ) (stored : List ℕ) → accepted (cellsRead count stored) ≡ true → cellsPressed count stored ≡ joined writeCell (cellsIn count stored)
+cells-pressed : (count : ℕ) (stored : List ℕ) → accepted (readRow count 0 stored) ≡ true → cellsPressed count stored ≡ joined writeCell (cellsIn count stored)
 cells-pressed count stored g =
-    accepted-got (cellsRead count stored) g λ cells used e. got-rewritten (joined writeCell) e ∙ ap (joined writeCell) (cells-in count 0 stored cells used e)
+    accepted-got (readRow count 0 stored) g λ cells used e. got-rewritten (joined writeCell) e ∙ ap (joined writeCell) (row-read count 0 stored cells used e .same)
 
-pub rewriting-none : (stored lent : List ℕ) (count : ℕ) → accepted (cellsRead count stored) ≡ true → length (cellsPressed count stored) ≤ length lent
+pub rewriting-none : (stored lent : List ℕ) (count : ℕ) → accepted (readRow count 0 stored) ≡ true → length (cellsPressed count stored) ≤ length lent
     → Rewriting stored lent (cellsPressed count stored) lent 0 0 count
 rewriting-none stored lent count g h =
     let e = cells-pressed count stored g in
@@ -138,10 +74,13 @@ module _ {stored lent goal out : List ℕ} {place to left : ℕ} (f : Rewriting 
 
   -- as many bytes as cells are left to read, and to write
   pub rewriting-stored : left ≤ length (drop place stored)
-  rewriting-stored = cells-stand left place (drop place stored) (f .fine)
+  rewriting-stored =
+      accepted-got (readRow left place (drop place stored)) (f .fine) λ cells used e.
+      let r = row-read left place (drop place stored) cells used e in
+      omega (arith, r .least, r .inside)
 
   rewriting-more : left ≤ length (joined writeCell (cellsIn left (drop place stored)))
-  rewriting-more = omega (arith, cells-least (cellsIn left (drop place stored)) (cells-fives left (drop place stored)), cells-count left (drop place stored))
+  rewriting-more = omega (arith, cells-least (cellsIn left (drop place stored)) (in-fives left (drop place stored)), in-length left (drop place stored))
 
   pub rewriting-lent : left ≤ length (drop to out)
   rewriting-lent = omega (arith, rewriting-more, f .writing .writes .room, length-drop to out)
@@ -196,30 +135,19 @@ module _ {stored lent goal out : List ℕ} {place to left : ℕ} (f : Rewriting 
 
 -- A stored form that takes some bytes in its shortest form: its cells
 pub record CellsOf (rows channels : ℕ) (stored : List ℕ) : Type 0 where
-  pub fine : accepted (cellsRead (rows * channels) stored) ≡ true
+  pub fine : accepted (readRow (rows * channels) 0 stored) ≡ true
   pub same : storedPressed rows channels stored ≡ cellsPressed (rows * channels) stored
-  pub whole : (cells : List (List ℕ)) (used : ℕ) → cellsRead (rows * channels) stored ≡ got cells used → used ≡ length stored
 
-pub stored-pressed : (rows channels : ℕ) (stored : List ℕ) → accepted (storedRead rows channels stored) ≡ true → 0 < length (storedPressed rows channels stored)
+pub stored-pressed : (rows channels : ℕ) (stored : List ℕ) → accepted (readStored channels rows 0 stored) ≡ true → 0 < length (storedPressed rows channels stored)
     → CellsOf rows channels stored
 unfolding readStored readCells
 stored-pressed rows channels [] g h = absurd (omega (arith, ap length (write-none (standard channels) (standard-none channels))))
 stored-pressed rows channels (b ∷ d) g h =
-    accepted-got (storedRead rows channels (b ∷ d)) g λ p n e. bind-got (cellsRead (rows * channels) (b ∷ d)) _ e λ cells m ec e′. passed _ _ e′ λ t e′.
+    accepted-got (readStored channels rows 0 (b ∷ d)) g λ p n e. bind-got (readRow (rows * channels) 0 (b ∷ d)) _ e λ cells m ec e′. passed _ _ e′ λ t e′.
     let w = got-rewritten writeStored e in
     record {
       fine = got-accepted ec;
       same =
           w ∙ stored-cells p (omega (arith, ap length w)) ∙ ap (λ (q : Pattern). joined writeCell (q .cells)) (sym (got-value e′))
           ∙ sym (got-rewritten (joined writeCell) ec);
-      whole = λ cs used q. got-used (sym q ∙ ec) ∙ got-used e′ ∙ stored-used channels rows 0 (b ∷ d) p n e;
     }
-
--- Where it is read from does not matter
-pub stored-anywhere : (rows channels place : ℕ) (stored : List ℕ) (p : Pattern) (n : ℕ)
-    → readStored channels rows place stored ≡ got p n → storedRead rows channels stored ≡ got p n
-unfolding readStored readCells
-stored-anywhere rows channels place [] p n e = e
-stored-anywhere rows channels place (b ∷ d) p n e =
-    bind-got (eachRead cellFormat (replicate (rows * channels) tt) place (b ∷ d)) _ e λ cells m ec e. passed _ _ e λ t e.
-    step _ (cells-anywhere (rows * channels) place 0 (b ∷ d) cells m ec) (pass _ t e)

@@ -5,10 +5,12 @@ ghost use mathlib.Core.Path.{_≡_};
 ghost use Prim.Native.Nat.{_+_, _%_, _≤_, _<_};
 ghost use mathlib.Core.Bool.{true};
 ghost use lib.ListN.{length, drop};
+ghost use Rattle.xm.specs.Got.{accepted};
 ghost use Rattle.xm.specs.Answer.{inFront};
 ghost use Rattle.xm.specs.Cell.{lengthBy, fieldBy, needed, cellAt, writeCell};
+ghost use Rattle.xm.specs.Stored.{readRow};
 ghost use Rattle.shortest.specs.Fields.{bitsBy, fieldsFrom};
-ghost use Rattle.shortest.specs.Found.{accepted, cellsRead, cellsPressed, storedPressed, Known};
+ghost use Rattle.shortest.specs.Found.{cellsPressed, storedPressed, Known};
 ghost use Rattle.shortest.specs.Over.{overMost, Over};
 
 // The bits of the fields that a stored cell has: a plain one has all five.
@@ -120,7 +122,7 @@ fn press_over(stored: &[u8], out: &mut [u8]) -> usize
 // Stored cells that were accepted, each in its shortest form, at the front of out; how many bytes these take. The lead byte 128
 // alone is an empty cell, as most are. A cell takes a byte at least, here and there: five behind this one leave room for six bytes.
 pub fn press_cells(stored: &[u8], count: usize, out: &mut [u8]) -> usize
-    requires { ⌜ accepted (cellsRead count (now stored)) ≡ true ⌝ }
+    requires { ⌜ accepted (readRow count 0 (now stored)) ≡ true ⌝ }
     requires { ⌜ length (cellsPressed count (now stored)) ≤ length (now out) ⌝ }
     ensures { λ r. ⌜ r ≡ length (cellsPressed count (now (stored .entry))) ⌝ }
     ensures { λ _. ⌜ now (out .exit) ≡ inFront (cellsPressed count (now (stored .entry))) (now (out .entry)) ⌝ }

@@ -18,9 +18,8 @@ use Rattle.xm.specs.PatternInFile.{dataMost, patternTests, PatternFound, readPa
 use Rattle.xm.proofs.Number.{bytes-drop, bytes-take, word-small, part-drop}
 use Rattle.xm.proofs.Got.{passed, bind-got, got-value, got-used}
 use Rattle.xm.proofs.Stored.{stored-keeps}
+use Rattle.xm.proofs.Row.{got-accepted, stored-anywhere, stored-nothing}
 use Rattle.shortest.specs.Found.{rewritten, storedPressed, Known}
-use Rattle.shortest.proofs.Long.{stored-nothing}
-use Rattle.shortest.proofs.Read.{got-accepted, stored-anywhere}
 use Rattle.steps.specs.Mark.{copied, nothing, Marked}
 use Rattle.steps.specs.Step.{rowsReadAs}
 use Rattle.steps.proofs.PatternLaws.{rows-stored}
@@ -114,7 +113,7 @@ module _ (file : List ℕ) (place channels mark : ℕ) where
       is-pressed : storedPressed row channels cut ≡ writeStored (w .pattern)
       is-pressed =
           ap₂ (λ (n : ℕ) (s : List ℕ). storedPressed n channels s) q same-cut
-          ∙ ap (rewritten writeStored) (stored-anywhere (wordAt 5 from) channels (place + L) d (w .pattern) (w .used) (w .reads))
+          ∙ ap (rewritten writeStored) (stored-anywhere channels (wordAt 5 from) (place + L) 0 d (w .pattern) (w .used) (w .reads))
 
       is-written : pressedAt patternFormat channels file place ≡ patternHead (rowsReadAs row size) (length (storedPressed row channels cut)) ++ storedPressed row channels cut
       unfolding writePattern
@@ -133,7 +132,7 @@ module _ (file : List ℕ) (place channels mark : ℕ) where
             known = record {
               rows-most = omega (arith, h .1 .1 .0 .1);
               channels-most = high;
-              fine = rw (q, same-cut) (got-accepted (stored-anywhere (wordAt 5 from) channels (place + L) d (w .pattern) (w .used) (w .reads)));
+              fine = rw (q, same-cut) (got-accepted (stored-anywhere channels (wordAt 5 from) (place + L) 0 d (w .pattern) (w .used) (w .reads)));
               nothing = λ t. is-pressed ∙ stored-nothing (w .pattern) (eqb-true (length (writeStored (w .pattern))) 0 (sym (w .none) ∙ t));
               some = λ t. let some = eqb-false (length (writeStored (w .pattern))) 0 (sym (w .none) ∙ t) in omega (arith, ap length is-pressed);
               already = λ t. is-pressed ∙ sym (w .already t) ∙ sym same-cut;
