@@ -1,5 +1,5 @@
 -- The structures counted one by one, as a reader from the start hands them over. Assumes nothing.
-use Prim.Native.Nat.{ℕ, zero, suc, _+_, _≤_, _<_, _^_}
+use Prim.Native.Nat.{ℕ, zero, suc, _+_, _*_, _≤_, _<_, _^_}
 use mathlib.Core.Bool.{true, false}
 use mathlib.Core.List.{List, [], _∷_, _++_}
 use mathlib.Core.Path.{_≡_, refl, sym, ap, _∙_}
@@ -8,7 +8,7 @@ use lib.ListN.{length, take, length-append}
 use Rattle.xm.specs.Number.{Bytes}
 use Rattle.xm.specs.Got.{Got, got, refused}
 use Rattle.xm.specs.Format.{Kind, Region, header, patternHeader, patternData, instrument, sampleHeader, sampleData, All}
-use Rattle.xm.specs.Answer.{Answer, gives}
+use Rattle.xm.specs.Answer.{Answer, gives, answered, result}
 use Rattle.xm.specs.Module.{Found, moduleFormat, readFile}
 use Rattle.xm.specs.Structure.{isStructure, structures, Ahead, handOver, started, called, readOn, readFor}
 use Rattle.xm.specs.Structure as structure
@@ -27,7 +27,7 @@ use Rattle.structures.specs.declared.Standing.the-variants.{End}
 use Rattle.structures.proofs.FewLaws.{structures-few}
 use Rattle.structures.proofs.Calls.{OfStanding, IsStructure, all-structures, hand-kind, reached-back}
 use Rattle.reader.specs.declared.count.Counts.{Counts}
-use Rattle.reader.specs.Count.{countsOf, handsOver, oneMore, endsAs, counting, countedOf}
+use Rattle.reader.specs.Count.{countsOf, total, handsOver, oneMore, endsAs, counting, countedOf}
 
 -- Lists
 take-next : (rs : List Region) (i : ℕ) → i < length rs → take (suc i) rs ≡ take i rs ++ (regionAt rs i ∷ [])
@@ -77,9 +77,6 @@ hands-kind sampleHeader place h = refl
 hands-kind sampleData place h = absurd (no-true h)
 
 -- No more are counted than were handed over
-abbrev total : Counts → ℕ
-total counts = counts .patterns + counts .instruments + counts .samples
-
 total-more : (kind : Kind) (place size : ℕ) (xs : List Region) → total (countsOf (only kind place size ++ xs)) ≤ total (countsOf xs) + 1
 total-more header place size xs = omega arith
 total-more patternHeader place size xs = omega arith
@@ -92,6 +89,16 @@ counts-few : (rs : List Region) (i : ℕ) → total (countsOf (take i rs)) ≤ i
 counts-few rs zero = omega arith
 counts-few [] (suc i) = omega arith
 counts-few (r ∷ rs) (suc i) = omega (arith, total-more (r .kind) (r .place) (r .size) (take i rs), counts-few rs i)
+
+pub counted-few : (file : List ℕ) → Bytes file → result total (counting file) ≤ 256 + 17 * 128
+unfolding counting
+counted-few file plain = go (readFile file) refl
+  where
+    go : (g : Got Found) → readFile file ≡ g → result total (answered (λ found end. countsOf (structures found)) g) ≤ 256 + 17 * 128
+    go (got found end) e =
+        let rs = structures found in
+        omega (arith, ap (λ (xs : List Region). total (countsOf xs)) (take-whole rs), counts-few rs (length rs), structures-few file found end plain e)
+    go (refused r) e = omega arith
 
 -- A call that hands over no structure: how far has been read stays
 hand-none-of : (file : List ℕ) (a : Ahead) (s : structure.Standing) → handOver file a .standing ≡ s → OfStanding IsStructure s → handsOver (standingIn s) ≡ false → handOver file a .ahead ≡ a

@@ -25,6 +25,10 @@ countsOf rs = record {
   samples = length (ofKind sampleHeader rs);
 }
 
+-- Of all kinds together.
+abbrev pub total : Counts → ℕ
+total counts = counts .patterns + counts .instruments + counts .samples
+
 -- Among those of a file; or the check's refusal.
 unfoldable pub counting : (file : List ℕ) → Answer Counts
 counting file = answered (λ found end. countsOf (structures found)) (readFile file)
