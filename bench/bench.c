@@ -1,8 +1,10 @@
-/* bench.c: the library's speed as ratios to the reference in C, and the stack of each call.
+/* bench.c: the library's speed as ratios to the reference in C, that of the tables and of the small reader as ratios to the check of
+   the same file, and the stack of each call.
 
-   Every figure is the library's best time divided by the reference's (compiled with -O3), both taken in turns in one run, in
-   processor time. Below 1 the library is faster. All buffers are written before, so no page is met for the first time.
-   The reference is careful C, a byte at a time: no branch on what a cell holds but for empty ones, no tricks with words.
+   Every figure is the best time of one work divided by the best time of another, both taken in turns in one run, in processor
+   time. Below 1 the first is faster. All buffers are written before, so no page is met for the first time.
+   The reference (compiled with -O3) is careful C, a byte at a time: no branch on what a cell holds but for empty ones, no tricks
+   with words.
 
    bench [--rounds N] [--emulated-by NAME] */
 
@@ -12,7 +14,9 @@
 #include "../tests/modules.h"
 #include "../tests/reference.h"
 #include "stack.h"
+#include "timed.h"
 
+#include <stdbool.h>
 #include <stdio.h>
 #include <stdlib.h>
 #include <string.h>
@@ -23,7 +27,10 @@
 
 #define COUNT(array) (sizeof(array) / sizeof((array)[0]))
 #define SECONDS_FOR_A_TURN 0.004
-#define PATTERNS_MOST 4096
+#define PATTERNS_MOST 4096 /* of a set */
+
+/* What a file has at most. */
+enum { FILE_PATTERNS = 256, FILE_INSTRUMENTS = 128, FILE_SAMPLES = 2048 };
 
 struct pattern {
     size_t rows;
@@ -48,11 +55,39 @@ struct side {
     uint64_t (*unpack)(size_t, size_t, const uint8_t *, size_t, uint8_t *, size_t);
     uint64_t (*pack)(size_t, size_t, const uint8_t *, size_t, uint8_t *, size_t);
     uint64_t (*press)(const uint8_t *, size_t, uint8_t *, size_t);
+    uint32_t (*tables)(const uint8_t *, size_t); /* the check that fills the side's own tables: 0, or the refusal's number */
 };
 
-static const struct side library = {fiddlemarsh_check, fiddlemarsh_unpack, fiddlemarsh_pack, fiddlemarsh_press};
+static struct {
+    uint32_t patterns[3 * FILE_PATTERNS];
+    uint32_t instruments[3 * FILE_INSTRUMENTS];
+    uint32_t samples[4 * FILE_SAMPLES];
+    int8_t tunes[2 * FILE_SAMPLES];
+} flat;
+
+static struct {
+    struct reference_pattern_row patterns[FILE_PATTERNS];
+    struct reference_instrument_row instruments[FILE_INSTRUMENTS];
+    struct reference_sample_row samples[FILE_SAMPLES];
+    struct reference_checked checked;
+} rows;
+
+static uint32_t library_tables(const uint8_t *file, size_t file_len)
+{
+    return timed_tables(file, file_len, flat.patterns, COUNT(flat.patterns), flat.instruments, COUNT(flat.instruments),
+                        flat.samples, COUNT(flat.samples), flat.tunes, COUNT(flat.tunes));
+}
+
+static uint32_t reference_tables(const uint8_t *file, size_t file_len)
+{
+    struct reference_tables tables = {rows.patterns, FILE_PATTERNS, rows.instruments, FILE_INSTRUMENTS, rows.samples, FILE_SAMPLES};
+    rows.checked = reference_check_tables(file, file_len, &tables);
+    return rows.checked.refusal.number;
+}
+
+static const struct side library = {fiddlemarsh_check, fiddlemarsh_unpack, fiddlemarsh_pack, fiddlemarsh_press, library_tables};
 static const struct side reference = {reference_loader_check, reference_loader_unpack, reference_loader_pack,
-                                      reference_loader_press};
+                                      reference_loader_press, reference_tables};
 
 static uint8_t *output; /* room for any answer */
 static size_t rounds = 9;
@@ -72,15 +107,11 @@ static void *want(size_t size)
 
 static void collect_patterns(struct set *set, const struct module *module)
 {
-    static struct reference_pattern_row patterns[256];
-    static struct reference_instrument_row instruments[128];
-    static struct reference_sample_row samples[2048];
-    struct reference_tables tables = {patterns, 256, instruments, 128, samples, 2048};
-    struct reference_checked checked = reference_check_tables(module->bytes, module->length, &tables);
-    for (uint32_t i = 0; i < checked.patterns && set->pattern_count < PATTERNS_MOST; i++) {
+    reference_tables(module->bytes, module->length);
+    for (uint32_t i = 0; i < rows.checked.patterns && set->pattern_count < PATTERNS_MOST; i++) {
         struct pattern *pattern = &set->patterns[set->pattern_count++];
-        *pattern = (struct pattern){.rows = patterns[i].rows, .channels = checked.channels,
-                                    .data = module->bytes + patterns[i].data_place, .size = patterns[i].data_size};
+        *pattern = (struct pattern){.rows = rows.patterns[i].rows, .channels = rows.checked.channels,
+                                    .data = module->bytes + rows.patterns[i].data_place, .size = rows.patterns[i].data_size};
         pattern->cells_len = pattern->rows * pattern->channels * 5;
         pattern->cells = want(pattern->cells_len);
         reference_unpack(pattern->rows, pattern->channels, pattern->data, pattern->size, pattern->cells, pattern->cells_len);
@@ -110,6 +141,27 @@ static const struct shape samples_shape = {.song_length = 4, .channels = 4, .pat
                                            .rows = 64, .cells = CELLS_SPARSE, .samples_least = 16, .samples_most = 16,
                                            .sample_length_least = 130000, .sample_length_most = 130900};
 
+/* For the tables and the reader: as many samples as a file can have, and as many patterns and instruments. */
+static const struct shape every_sample_shape = {.song_length = 64, .channels = 8, .patterns = 64, .instruments = 128,
+                                                .rows = 64, .cells = CELLS_SPARSE, .samples_least = 16, .samples_most = 16,
+                                                .sample_length_least = 64, .sample_length_most = 800};
+static const struct shape every_pattern_shape = {.song_length = 64, .channels = 8, .patterns = 256, .instruments = 128,
+                                                 .rows = 64, .cells = CELLS_SPARSE, .samples_least = 1, .samples_most = 1,
+                                                 .sample_length_least = 64, .sample_length_most = 800};
+
+/* The check, too, has then nothing to do but step from structure to structure. */
+static struct shape without_cells(struct shape shape)
+{
+    shape.cells = CELLS_NONE;
+    return shape;
+}
+
+static void differ(const struct set *set)
+{
+    fprintf(stderr, "library and reference differ on '%s': run the comparison in tests first\n", set->name);
+    exit(1);
+}
+
 /* Both sides must agree before anybody looks at a clock. */
 static void must_agree(const struct set *set)
 {
@@ -118,12 +170,36 @@ static void must_agree(const struct set *set)
         const struct module *module = &set->modules[i];
         uint64_t length = fiddlemarsh_press(module->bytes, module->length, output, module->length);
         uint64_t other_length = reference_loader_press(module->bytes, module->length, other, module->length);
-        if (length != other_length || fiddlemarsh_refused(length) || memcmp(output, other, length) != 0) {
-            fprintf(stderr, "library and reference differ on '%s': run the comparison in tests first\n", set->name);
-            exit(1);
-        }
+        if (length != other_length || fiddlemarsh_refused(length) || memcmp(output, other, length) != 0)
+            differ(set);
     }
     free(other);
+}
+
+static bool same_sample(size_t number)
+{
+    const uint32_t *numbers = &flat.samples[4 * number];
+    const int8_t *tunes = &flat.tunes[2 * number];
+    const struct reference_sample_row *row = &rows.samples[number];
+    return numbers[0] == row->header_place && numbers[1] == row->data_place && numbers[2] == row->length &&
+           numbers[3] == row->width && tunes[0] == row->finetune && tunes[1] == row->relative_note;
+}
+
+/* The same of the tables, and of the structures that the reader hands over. */
+static void tables_must_agree(const struct set *set)
+{
+    for (size_t i = 0; i < set->module_count; i++) {
+        const struct module *module = &set->modules[i];
+        const struct reference_checked *checked = &rows.checked;
+        if (library_tables(module->bytes, module->length) != 0 || reference_tables(module->bytes, module->length) != 0 ||
+            memcmp(flat.patterns, rows.patterns, checked->patterns * sizeof rows.patterns[0]) != 0 ||
+            memcmp(flat.instruments, rows.instruments, checked->instruments * sizeof rows.instruments[0]) != 0 ||
+            timed_reader(module->bytes, module->length) != checked->patterns + checked->instruments + checked->samples)
+            differ(set);
+        for (size_t number = 0; number < checked->samples; number++)
+            if (!same_sample(number))
+                differ(set);
+    }
 }
 
 /* Work to be timed: one call over a whole set */
@@ -163,6 +239,23 @@ static void run_press(const struct set *set, const struct side *side)
     uint64_t sum = 0;
     for (size_t i = 0; i < set->module_count; i++)
         sum += side->press(set->modules[i].bytes, set->modules[i].length, output, set->modules[i].length);
+    kept += sum;
+}
+
+static void run_tables(const struct set *set, const struct side *side)
+{
+    uint64_t sum = 0;
+    for (size_t i = 0; i < set->module_count; i++)
+        sum += side->tables(set->modules[i].bytes, set->modules[i].length);
+    kept += sum;
+}
+
+static void run_reader(const struct set *set, const struct side *side)
+{
+    (void)side;
+    uint64_t sum = 0;
+    for (size_t i = 0; i < set->module_count; i++)
+        sum += timed_reader(set->modules[i].bytes, set->modules[i].length);
     kept += sum;
 }
 
@@ -224,6 +317,14 @@ static void say_ratios(const struct set *set)
         fflush(stdout);
     }
     printf("\n");
+}
+
+/* Over the check of the same file; the reference's tables over its own check. */
+static void say_structure_ratios(const struct set *set)
+{
+    printf("%-46s %8.2f %7.2f %23.2f\n", set->name, ratio(set, run_tables, &library, run_check, &library),
+           ratio(set, run_reader, &library, run_check, &library), ratio(set, run_tables, &reference, run_check, &reference));
+    fflush(stdout);
 }
 
 /* Stack */
@@ -349,6 +450,19 @@ int main(int argc, char **argv)
     }
     printf("\npress of samples / memcpy of the same bytes: %.2f (the reference: %.2f)\n\n",
            ratio(&sets[3], run_press, &library, run_copy, &library), ratio(&sets[3], run_press, &reference, run_copy, &reference));
+    const struct shape bare_samples = without_cells(every_sample_shape), bare_patterns = without_cells(every_pattern_shape);
+    const struct set structure_sets[] = {
+        make_set("128 instruments of 16 samples, 64 patterns", &every_sample_shape, 1, 6),
+        make_set("the same without cells", &bare_samples, 1, 6),
+        make_set("256 patterns, 128 instruments of one sample", &every_pattern_shape, 1, 7),
+        make_set("the same without cells", &bare_patterns, 1, 7),
+    };
+    printf("time / time of the check of the same file         tables  reader  the reference's tables\n");
+    for (size_t i = 0; i < COUNT(structure_sets); i++) {
+        tables_must_agree(&structure_sets[i]);
+        say_structure_ratios(&structure_sets[i]);
+    }
+    printf("\n");
     say_stack(sets, COUNT(sets));
     return 0;
 }
