@@ -20,7 +20,7 @@ use Rattle.xm.specs.Table.{SampleRow, patternRow, patternRows, sampleCount, ins
 use Rattle.xm.specs.Asking.{noRow}
 use Rattle.xm.proofs.Lay.{Laid, laid-none, laid-more, laid-done}
 use Rattle.tables.specs.Accepted.{Accepted, listIn, ReadsFrom, InstrumentsFrom}
-use Rattle.tables.specs.Place.{patternAt, instrumentAt, dataPlace, Stands}
+use Rattle.tables.specs.Place.{patternAt, instrumentAt, dataEnd, Stands}
 use Rattle.tables.specs.declared.place.PatternAt.{PatternAt}
 use Rattle.tables.specs.declared.place.InstrumentAt.{InstrumentAt}
 use Rattle.tables.proofs.Reading.{accepted-small, accepted-header, reads-none}
@@ -132,10 +132,10 @@ module _ (file lent : List ℕ) where
         pub instruments-room : to + 3 ≤ length out
         instruments-room = instruments-next file (w .small) bytes (w .reads) l λ i n more ei s ep rest. laid-room (w .laid) (place ∷ x .samples ∷ first ∷ []) _ (instrument-first s ep)
 
-        pub instruments-on : {new : List ℕ} {there later : ℕ} → new ≡ lay out to (place ∷ x .samples ∷ first ∷ []) → there ≡ dataPlace file x (x .samples)
+        pub instruments-on : {new : List ℕ} {there later : ℕ} → new ≡ lay out to (place ∷ x .samples ∷ first ∷ []) → there ≡ dataEnd file x
             → later ≡ first + x .samples → FillingInstruments file lent new (left - 1) there later (to + 3)
         instruments-on {there = there} n q f = instruments-next file (w .small) bytes (w .reads) l λ i m more ei s ep rest.
-            let behind : there ≡ place + m = q ∙ ap (λ (x : InstrumentAt). dataPlace file x (x .samples)) e ∙ sym (s .next) in
+            let behind : there ≡ place + m = q ∙ ap (dataEnd file) e ∙ sym (s .next) in
             record {
               small = w .small;
               parts = more;

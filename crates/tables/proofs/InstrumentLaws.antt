@@ -1,10 +1,10 @@
 -- What an accepted instrument says of the bytes at its place: its samples' rows, and where the next structure starts. Assumes nothing.
 use Prim.Native.Nat.{ℕ, zero, suc, _+_, _-_, _*_, _≤_, _<_}
 use mathlib.Core.List.{List, _∷_, map}
-use mathlib.Core.Path.{_≡_, refl, sym, ap, ap₂, _∙_}
-use native.Mathlib.Nat.{add-assoc, suc-mul, zero-mul}
+use mathlib.Core.Path.{_≡_, refl, sym, ap, _∙_}
+use native.Mathlib.Nat.{zero-mul}
 use native.Mathlib.Omega.{arith}
-use lib.ListN.{length, getD, drop, replicate, length-drop, length-replicate}
+use lib.ListN.{length, drop, replicate, length-drop, length-replicate}
 use lib.Seq.{drop-drop}
 use borrow.Author.Tests.{lt-ltb}
 use Rattle.xm.specs.Number.{Bytes, byteAt, part}
@@ -14,13 +14,12 @@ use Rattle.xm.specs.Sample.{headBytes, dataSize, Stretch, readHead, readData, h
 use Rattle.xm.specs.Instrument.{instrumentSizeAt, countAt, headerSizeAt, instrumentTests, InstrumentFound, voiceOf, readInstrument, instrumentFormat}
 use Rattle.xm.specs.Module.{fileMost}
 use Rattle.xm.specs.Table.{sampleCount, sampleRow, sampleRowsOf, sampleRowsIn}
-use Rattle.xm.specs.Asking.{noRow}
 use Rattle.xm.proofs.Number.{bytes-drop}
 use Rattle.xm.proofs.Got.{passed, bind-got, got-value, got-used, got-carry}
-use Rattle.xm.proofs.Format.{read-length}
+use Rattle.xm.proofs.Format.{cons-path, read-length}
 use Rattle.xm.proofs.Instrument.{heads-used, instrument-keeps}
 use Rattle.tables.specs.Accepted.{ReadsFrom}
-use Rattle.tables.specs.Place.{headSizeOf, instrumentAt, dataBefore, dataPlace, Stands, rowOf, rowAt}
+use Rattle.tables.specs.Place.{headSizeOf, instrumentAt, dataBefore, dataStart, dataEnd, Stands, rowOf, rowsFrom}
 use Rattle.tables.proofs.Reading.{reads-next}
 
 -- One header, and the data that it says
@@ -37,47 +36,33 @@ row-first : (h d : Stretch) (place bytesPlace size : ℕ) (head : List ℕ) → 
     → sampleRow h d ≡ rowOf place bytesPlace head
 row-first h d place bytesPlace size head p q r = cc
 
-row-path : {a b c e : ℕ} {head head′ : List ℕ} → a ≡ b → c ≡ e → head ≡ head′ → rowOf a c head ≡ rowOf b e head′
-row-path p q r = cc
+rows-path : (k H : ℕ) {a b c e : ℕ} {s t : List ℕ} → a ≡ b → c ≡ e → s ≡ t → rowsFrom k H a c s ≡ rowsFrom k H b e t
+rows-path k H p q r = cc
 
 -- All headers, and then the data of each: the rows, and the bytes of the data
 record SamplesRead (k H place bytesPlace : ℕ) (s : List ℕ) (heads bytes : List Stretch) (used : ℕ) : Type 0 where
-  rows : (number : ℕ) → number < k
-      → getD (sampleRowsOf heads bytes) number noRow ≡ rowOf (place + number * H) (bytesPlace + dataBefore number H s) (headBytes H (drop (number * H) s))
-  count : length (sampleRowsOf heads bytes) ≡ k
+  rows : sampleRowsOf heads bytes ≡ rowsFrom k H place bytesPlace s
   long : used ≡ dataBefore k H s
 
 samples-more : (k H place bytesPlace : ℕ) (s t : List ℕ) (h d : Stretch) (hs ds : List Stretch) (a c f : ℕ) → readHead H place s ≡ got h a → readData (h .bytes) bytesPlace t ≡ got d c
     → SamplesRead k H (place + a) (bytesPlace + c) (drop a s) hs ds f → SamplesRead (suc k) H place bytesPlace s (h ∷ hs) (d ∷ ds) (c + f)
-unfolding dataBefore
+unfolding dataBefore rowsFrom
 samples-more k H place bytesPlace s t h d hs ds a c f eh ed w =
     let u = head-found H place s eh in
     let v = data-found (h .bytes) bytesPlace t ed in
     let size : c ≡ dataSize (headBytes H s) = v .2 ∙ ap (λ (x : Stretch). dataSize (x .bytes)) (u .0) in
-    let before : (number : ℕ) → dataBefore number H (drop a s) ≡ dataBefore number H (drop H s) = λ number. ap (λ (n : ℕ). dataBefore number H (drop n s)) (u .1) in
+    let behind : drop a s ≡ drop H s = ap (λ (n : ℕ). drop n s) (u .1) in
     record {
-      rows = row u v size before;
-      count = ap suc (w .count);
-      long = omega (arith, size, w .long, before k);
+      rows = cons-path (row-first h d place bytesPlace H (headBytes H s) (u .0) (v .0) (v .1)) (w .rows ∙ rows-path k H (omega (arith, u .1)) (omega (arith, size)) behind);
+      long = omega (arith, size, w .long, ap (dataBefore k H) behind);
     }
-  where
-    row : (h ≡ record { place = place; size = H; bytes = headBytes H s }) × (a ≡ H) → (d .place ≡ bytesPlace) × (d .size ≡ dataSize (h .bytes)) × (c ≡ dataSize (h .bytes))
-        → c ≡ dataSize (headBytes H s) → ((number : ℕ) → dataBefore number H (drop a s) ≡ dataBefore number H (drop H s)) → (number : ℕ) → number < suc k
-        → getD (sampleRowsOf (h ∷ hs) (d ∷ ds)) number noRow ≡ rowOf (place + number * H) (bytesPlace + dataBefore number H s) (headBytes H (drop (number * H) s))
-    row u v size before zero l =
-        row-first h d place bytesPlace H (headBytes H s) (u .0) (v .0) (v .1)
-        ∙ row-path (omega (arith, zero-mul H)) (omega arith) (ap (λ (n : ℕ). headBytes H (drop n s)) (sym (zero-mul H)))
-    row u v size before (suc number) l =
-        let far : a + number * H ≡ suc number * H = omega (arith, suc-mul number H, u .1) in
-        w .rows number (omega arith)
-        ∙ row-path (omega (arith, far)) (omega (arith, size, before number)) (ap (headBytes H) (drop-drop (number * H) a s ∙ ap (λ (n : ℕ). drop n s) far))
 
 samples-read : (k H place bytesPlace : ℕ) (s t : List ℕ) (heads bytes : List Stretch) (n m : ℕ) → each headFormat .read (replicate k H) place s ≡ got heads n
     → each dataFormat .read (map Stretch.bytes heads) bytesPlace t ≡ got bytes m → SamplesRead k H place bytesPlace s heads bytes m
-unfolding dataBefore
+unfolding dataBefore rowsFrom
 samples-read zero H place bytesPlace s t heads bytes n m eh ed =
     got-carry (λ (hs : List Stretch) (u : ℕ). each dataFormat .read (map Stretch.bytes hs) bytesPlace t ≡ got bytes m → SamplesRead 0 H place bytesPlace s hs bytes m) eh
-    (λ e. record { rows = λ number l. absurd (omega arith); count = refl; long = sym (got-used e) }) ed
+    (λ e. record { rows = refl; long = sym (got-used e) }) ed
 samples-read (suc k) H place bytesPlace s t heads bytes n m eh ed =
     bind-got _ _ eh λ h a ea e₁. bind-got _ _ e₁ λ hs b eb e₂.
     got-carry (λ (hs : List Stretch) (u : ℕ). each dataFormat .read (map Stretch.bytes hs) bytesPlace t ≡ got bytes m → SamplesRead (suc k) H place bytesPlace s hs bytes m) e₂
@@ -103,15 +88,19 @@ unfolding dataBefore
 size-before zero s t = refl
 size-before (suc k) s t = refl
 
--- An instrument's fields stand in the file, its rows are those of its samples, and the next structure starts behind their data
+size-rows : (k : ℕ) (s : List ℕ) (place bytesPlace : ℕ) (t : List ℕ) → rowsFrom k (headSizeOf k s) place bytesPlace t ≡ rowsFrom k (headerSizeAt s) place bytesPlace t
+unfolding rowsFrom
+size-rows zero s place bytesPlace t = refl
+size-rows (suc k) s place bytesPlace t = refl
+
+-- An instrument's fields stand in the file, its rows are those of its sample headers, and the next structure starts behind their data
 pub record InstrumentStands (file : List ℕ) (place : ℕ) (i : InstrumentFound) (n : ℕ) : Type 0 where
   pub tests : AllHold (instrumentTests place (drop place file))
   pub stands : Stands file (instrumentAt place (drop place file))
   pub starts : i .place ≡ place
   pub counted : sampleCount i ≡ countAt (drop place file)
-  pub rows-counted : length (sampleRowsIn i) ≡ countAt (drop place file)
-  pub rows : (number : ℕ) → number < countAt (drop place file) → getD (sampleRowsIn i) number noRow ≡ rowAt file (instrumentAt place (drop place file)) number
-  pub next : place + n ≡ dataPlace file (instrumentAt place (drop place file)) (countAt (drop place file))
+  pub rows : let x = instrumentAt place (drop place file) in sampleRowsIn i ≡ rowsFrom (x .samples) (x .«head_size») (x .heads) (dataStart x) (drop (x .heads) file)
+  pub next : place + n ≡ dataEnd file (instrumentAt place (drop place file))
   pub some : 1 ≤ n
   pub inside : place + n ≤ length file
 
@@ -131,20 +120,15 @@ module _ (file : List ℕ) (place : ℕ) where
   abbrev made : SamplesFound → InstrumentFound
   made v = record { place = place; size = I; name = part 4 22 from; type = byteAt 26 from; voice = voiceOf k from; samples = v }
 
-  stands-rows : {hs ds : List Stretch} {b : ℕ} → SamplesRead k H (place + I) (place + I + k * H) (drop I from) hs ds b → (number : ℕ) → number < k
-      → getD (sampleRowsOf hs ds) number noRow ≡ rowAt file (instrumentAt place from) number
-  stands-rows w number l =
-      let size = size-some k from (omega arith) in
-      let times = size-times k from in
-      let there : drop I from ≡ drop (place + I) file = drop-drop I place file in
-      w .rows number l
-      ∙ row-path (ap (λ (n : ℕ). place + I + number * n) (sym size))
-      (ap₂ (λ (n m : ℕ). place + I + n + m) (sym times) (ap₂ (dataBefore number) (sym size) there))
-      (ap₂ headBytes (sym size)
-      (drop-drop (number * H) I from ∙ drop-drop (I + number * H) place file ∙ ap (λ (n : ℕ). drop n file) (sym (add-assoc place I (number * H)) ∙ ap (λ (n : ℕ). place + I + number * n) (sym size))))
+  stands-rows : {hs ds : List Stretch} {b : ℕ} → SamplesRead k H (place + I) (place + I + k * H) (drop I from) hs ds b
+      → sampleRowsOf hs ds ≡ rowsFrom k (headSizeOf k from) (place + I) (place + I + k * headSizeOf k from) (drop (place + I) file)
+  stands-rows w =
+      w .rows
+      ∙ rows-path k H refl (ap (λ (n : ℕ). place + I + n) (sym (size-times k from))) (drop-drop I place file)
+      ∙ sym (size-rows k from (place + I) (place + I + k * headSizeOf k from) (drop (place + I) file))
 
   stands-next : {hs ds : List Stretch} {b : ℕ} → SamplesRead k H (place + I) (place + I + k * H) (drop I from) hs ds b
-      → place + (I + (k * H + b)) ≡ dataPlace file (instrumentAt place from) k
+      → place + (I + (k * H + b)) ≡ dataEnd file (instrumentAt place from)
   stands-next w =
       let last : dataBefore k (headSizeOf k from) (drop (place + I) file) ≡ dataBefore k H (drop I from) =
       size-before k from (drop (place + I) file) ∙ ap (dataBefore k H) (sym (drop-drop I place file)) in
@@ -172,7 +156,6 @@ module _ (file : List ℕ) (place : ℕ) where
         };
         starts = refl;
         counted = read-length headFormat (replicate k H) (place + I) (drop I from) hs a eh ∙ length-replicate k H;
-        rows-counted = w .count;
         rows = stands-rows w;
         next = omega (arith, used, next);
         some = omega (arith, h .1 .0);

@@ -2,18 +2,19 @@
 use Prim.Native.Nat.{ℕ, zero, suc, _+_, _-_, _*_, _≤_, _<_}
 use mathlib.Core.List.{List, [], _∷_}
 use mathlib.Core.Path.{_≡_, refl, sym, ap, _∙_}
-use native.Mathlib.Nat.{mul-le-mul-right, suc-mul}
+use native.Mathlib.Nat.{suc-mul}
 use native.Mathlib.Omega.{arith}
 use lib.ListN.{length, drop}
 use lib.Seq.{drop-drop}
 use Rattle.xm.specs.Stored.{rowsMost}
 use Rattle.xm.specs.Header.{channelsAt, patternsAt, headerEnd}
 use Rattle.xm.specs.PatternInFile.{leastPattern, PatternFound, patternFormat}
-use Rattle.xm.specs.Sample.{leastHead, headBytes, dataSize}
+use Rattle.xm.specs.Sample.{headBytes, dataSize}
 use Rattle.xm.specs.Module.{Found, fileMost, readFile}
 use Rattle.xm.specs.Table.{patternRow, patternNumbers}
 use Rattle.tables.specs.Accepted.{Accepted, listIn, ReadsFrom, InstrumentsFrom}
-use Rattle.tables.specs.Place.{patternAt, dataBefore, dataPlace, Stands}
+use Rattle.tables.specs.Place.{patternAt, dataBefore, dataStart, dataEnd, Stands}
+use Rattle.tables.specs.Sought.{Left}
 use Rattle.tables.specs.declared.place.Counts.{Counts}
 use Rattle.tables.specs.declared.place.PatternAt.{PatternAt}
 use Rattle.tables.specs.declared.place.InstrumentAt.{InstrumentAt}
@@ -76,44 +77,27 @@ unfolding dataBefore
 before-step zero size s l = absurd (omega arith)
 before-step (suc left) size s l = let z : suc left - 1 ≡ left = omega arith in rw z
 
-pub before-more : (a b size : ℕ) (s : List ℕ) → a ≤ b → dataBefore a size s ≤ dataBefore b size s
-unfolding dataBefore
-before-more zero b size s h = omega arith
-before-more (suc a) zero size s h = absurd (omega arith)
-before-more (suc a) (suc b) size s h = omega (arith, before-more a b size (drop size s) (omega arith))
-
-pub times-step : (left size : ℕ) → 0 < left → left * size ≡ size + (left - 1) * size
+times-step : (left size : ℕ) → 0 < left → left * size ≡ size + (left - 1) * size
 times-step zero size l = absurd (omega arith)
 times-step (suc left) size l = let z : suc left - 1 ≡ left = omega arith in rw z (omega (arith, suc-mul left size))
 
--- So many samples' data are still to be stepped over: `head` is the next one's header
-pub record Summing (file : List ℕ) (size goal left head place : ℕ) : Type 0 where
-  pub same : place + dataBefore left size (drop head file) ≡ goal
-  pub fits : head + left * size ≤ length file
-  pub wide : 0 < left → leastHead ≤ size
-  pub inside : goal ≤ length file
+-- The samples that are left of an instrument: all of them, and those behind the next one
+pub left-start : (file : List ℕ) (x : InstrumentAt) → Stands file x → Left file (x .«head_size») (dataEnd file x) (x .samples) (x .heads) (dataStart x)
+left-start file x w = record { same = refl; fits = omega (arith, w .inside); wide = w .wide; inside = w .inside }
 
-pub summing-start : (file : List ℕ) (x : InstrumentAt) (number : ℕ) → Stands file x → number ≤ x .samples
-    → Summing file (x .«head_size») (dataPlace file x number) number (x .heads) (x .heads + x .samples * x .«head_size»)
-summing-start file x number w l = record {
-  same = refl;
-  fits = omega (arith, w .inside, mul-le-mul-right {m = number} {n = x .samples} (x .«head_size») l);
-  wide = λ h. w .wide (omega arith);
-  inside = omega (arith, w .inside, before-more number (x .samples) (x .«head_size») (drop (x .heads) file) l);
-}
-
-module _ (file : List ℕ) (size goal : ℕ) {left head place : ℕ} (w : Summing file size goal left head place) where
-  pub summing-on : 0 < left → {size′ : ℕ} → size′ ≡ dataSize (headBytes size (drop head file)) → Summing file size goal (left - 1) (head + size) (place + size′)
-  summing-on l e = record {
-    same = omega (arith, w .same, e, before-step left size (drop head file) l, ap (dataBefore (left - 1) size) (drop-drop size head file));
-    fits = omega (arith, w .fits, times-step left size l);
-    wide = λ h. w .wide l;
-    inside = w .inside;
-  }
-
-  pub summing-room : 0 < left → head + size ≤ length file
-  summing-room l = omega (arith, w .fits, times-step left size l)
-
-  pub summing-end : left ≡ 0 → place ≡ goal
+module _ (file : List ℕ) (size end : ℕ) {left head place : ℕ} (w : Left file size end left head place) where
+  pub left-end : left ≡ 0 → place ≡ end
   unfolding dataBefore
-  summing-end z = let e : place + 0 ≡ goal = rw z at (w .same) in omega arith
+  left-end z = let e : place + 0 ≡ end = rw z at (w .same) in omega arith
+
+  module _ (l : 0 < left) where
+    pub left-room : head + size ≤ length file
+    left-room = omega (arith, w .fits, times-step left size l)
+
+    pub left-on : {size′ : ℕ} → size′ ≡ dataSize (headBytes size (drop head file)) → Left file size end (left - 1) (head + size) (place + size′)
+    left-on e = record {
+      same = omega (arith, w .same, e, before-step left size (drop head file) l, ap (dataBefore (left - 1) size) (drop-drop size head file));
+      fits = omega (arith, w .fits, times-step left size l);
+      wide = λ h. w .wide l;
+      inside = w .inside;
+    }

@@ -1,122 +1,155 @@
 -- A sample's row in the file, and the search for it. Assumes nothing.
-use Prim.Native.Nat.{ℕ, zero, suc, _+_, _-_, _*_, _≤_, _<_}
+use Prim.Native.Nat.{ℕ, zero, suc, _+_, _-_, _≤_, _<_}
 use mathlib.Core.List.{List, _∷_, _++_}
 use mathlib.Core.Path.{_≡_, refl, sym, ap, _∙_}
-use native.Mathlib.Nat.{mul-le-mul-right, suc-mul}
 use native.Mathlib.Numerals.{add-one}
 use native.Mathlib.Omega.{arith}
 use lib.IntN.{ℤ}
-use lib.ListN.{length, getD, drop, length-drop, List·getD-append}
-use lib.Seq.{drop-cons, drop-append-add}
+use lib.ListN.{length, getD, drop, length-drop}
+use lib.Seq.{drop-cons, drop-drop}
 use Rattle.xm.specs.Number.{Bytes}
 use Rattle.xm.specs.Got.{Got, got, refused, AllHold}
 use Rattle.xm.specs.Format.{joined}
-use Rattle.xm.specs.Sample.{leastHead}
+use Rattle.xm.specs.Sample.{leastHead, headBytes, dataSize}
 use Rattle.xm.specs.Instrument.{InstrumentFound, instrumentFormat, instrumentTests}
 use Rattle.xm.specs.Module.{Found, fileMost, readFile}
 use Rattle.xm.specs.Table as row
 use Rattle.xm.specs.Table.{sampleRowsIn, sampleRows}
 use Rattle.xm.specs.Asking.{noRow}
 use Rattle.tables.specs.Accepted.{listIn, ReadsFrom, InstrumentsFrom}
-use Rattle.tables.specs.Place.{instrumentAt, dataPlace, Stands, rowAt}
-use Rattle.tables.specs.Sought.{Seeks}
+use Rattle.tables.specs.Place.{instrumentAt, dataBefore, dataStart, Stands, rowOf, rowsFrom}
+use Rattle.tables.specs.Sought.{Seeks, soughtFrom}
 use Rattle.tables.specs.declared.place.InstrumentAt.{InstrumentAt}
 use Rattle.tables.specs.declared.sample.SampleRow.{SampleRow}
 use Rattle.tables.proofs.Reading.{accepted-small, some-accepted, reads-none}
 use Rattle.tables.proofs.InstrumentLaws.{InstrumentStands, instruments-next}
-use Rattle.tables.proofs.PlaceLoops.{before-more}
+use Rattle.tables.proofs.PlaceLoops.{left-start, left-room, left-on, left-end}
 
--- The row by its fields, and that they lie in the file
+-- The row by its fields
 pub row-path : {a a′ b b′ l l′ w w′ : ℕ} {f f′ n n′ : ℤ} → a ≡ a′ → b ≡ b′ → l ≡ l′ → w ≡ w′ → f ≡ f′ → n ≡ n′
     → _≡_ {A = SampleRow} (record { «header_place» = a; «data_place» = b; length = l; width = w; finetune = f; «relative_note» = n })
     (record { «header_place» = a′; «data_place» = b′; length = l′; width = w′; finetune = f′; «relative_note» = n′ })
 row-path p q r t u v = cc
 
-pub record RowFits (file : List ℕ) (x : InstrumentAt) (number : ℕ) : Type 0 where
-  pub head : x .heads + number * x .«head_size» + leastHead ≤ length file
-  pub bytes : dataPlace file x number ≤ length file
+-- The next sample that is left of an instrument lies in the file, and so does what is behind it
+pub record SampleFits (file : List ℕ) (head size place : ℕ) : Type 0 where
+  pub small : length file ≤ fileMost
+  pub header : head + leastHead ≤ length file
+  pub bytes : place ≤ length file
+  pub next-head : head + size ≤ length file
+  pub next-bytes : place + dataSize (headBytes size (drop head file)) ≤ length file
 
-pub row-fits : (file : List ℕ) (x : InstrumentAt) (number : ℕ) → Stands file x → number < x .samples → RowFits file x number
-row-fits file x number w l =
-    let size = x .«head_size» in
-    record {
-      head = omega (arith, w .wide (omega arith), w .inside, suc-mul number size, mul-le-mul-right {m = suc number} {n = x .samples} size (omega arith));
-      bytes = omega (arith, w .inside, before-more number (x .samples) size (drop (x .heads) file) (omega arith));
-    }
+-- The row of the next sample that is left of an instrument
+rows-step : (left size head bytesPlace : ℕ) (s : List ℕ) → 0 < left
+    → rowsFrom left size head bytesPlace s ≡ rowOf head bytesPlace (headBytes size s) ∷ rowsFrom (left - 1) size (head + size) (bytesPlace + dataSize (headBytes size s)) (drop size s)
+unfolding rowsFrom
+rows-step zero size head bytesPlace s l = absurd (omega arith)
+rows-step (suc left) size head bytesPlace s l = let z : suc left - 1 ≡ left = omega arith in rw z
 
--- The rows of the instruments that are left: one of the first, or of those behind it
+-- The rows of a file are those of its instruments
 rows-in : (g : Got Found) → listIn sampleRows g ≡ joined sampleRowsIn (listIn (λ (found : Found). found .1 .1) g)
 rows-in (got found end) = refl
 rows-in (refused r) = refl
 
--- A sample that is sought from an instrument on
-pub seeks-start : (file : List ℕ) {place : ℕ} → InstrumentsFrom file place → Seeks file (record { number = 0; place = place; left = 0 })
-seeks-start file from = record { count = _; parts = _; end = from .end; reads = from .reads; same = rows-in (readFile file) }
+-- Where a row is to come, there is an instrument
+some-instrument : {R : Type 0} (file : List ℕ) → length file ≤ fileMost → Bytes file → {count place end : ℕ} {parts : List InstrumentFound} → ReadsFrom instrumentFormat tt file count place parts end
+    → 0 < length (joined sampleRowsIn parts)
+    → ((i : InstrumentFound) (n : ℕ) (more : List InstrumentFound) → InstrumentStands file place i n → parts ≡ i ∷ more → ReadsFrom instrumentFormat tt file (count - 1) (place + n) more end → R) → R
+some-instrument file small bytes {count = zero} r l k = absurd (omega (arith, l, ap (λ (l : List InstrumentFound). length (joined sampleRowsIn l)) (reads-none instrumentFormat tt file r .0)))
+some-instrument file small bytes {count = suc count} r l k = instruments-next file small bytes r (omega arith) λ i n more ei s ep rest. k i n more s ep rest
 
-module _ (file : List ℕ) (number : ℕ) (some : number < length (listIn sampleRows (readFile file))) where
+module _ (file : List ℕ) (number : ℕ) (some : number < length (listIn sampleRows (readFile file))) (bytes : Bytes file) where
   abbrev all : List row.SampleRow
   all = listIn sampleRows (readFile file)
 
   pub seeks-small : length file ≤ fileMost
   seeks-small = accepted-small file (some-accepted sampleRows (readFile file) some)
 
-  module _ (bytes : Bytes file) {place left : ℕ} (w : Seeks file (record { number = number; place = place; left = left })) where
-    here : left < length (joined sampleRowsIn (w .parts))
-    here = omega (arith, some, ap length (w .same), length-drop number all, length-drop left (joined sampleRowsIn (w .parts)))
+  pub seeks-start : {place : ℕ} → InstrumentsFrom file place → Seeks file (soughtFrom place)
+  unfolding dataBefore rowsFrom
+  seeks-start {place} from =
+      let inside : place ≤ length file =
+      some-instrument file seeks-small bytes (from .reads) (omega (arith, some, ap length (rows-in (readFile file)))) λ i n more s ep rest. omega (arith, s .inside) in
+      record {
+        behind = place;
+        here = record { same = omega arith; fits = omega arith; wide = λ l. absurd (omega arith); inside = inside };
+        count = _;
+        parts = _;
+        end = from .end;
+        reads = from .reads;
+        same = rows-in (readFile file);
+      }
 
-    seeks-next : {R : Type 0}
-        → ((i : InstrumentFound) (n count : ℕ) (more : List InstrumentFound) → InstrumentStands file place i n → w .parts ≡ i ∷ more → ReadsFrom instrumentFormat tt file count (place + n) more (w .end) → R)
-        → R
-    seeks-next {R} k = go (w .count) (w .reads)
-      where
-        go : (count : ℕ) → ReadsFrom instrumentFormat tt file count place (w .parts) (w .end) → R
-        go zero r = absurd (omega (arith, here, ap (λ (l : List InstrumentFound). length (joined sampleRowsIn l)) (reads-none instrumentFormat tt file r .0)))
-        go (suc count) r = instruments-next file seeks-small bytes r (omega arith) λ i n more ei s ep rest. k i n _ more s ep rest
+  module _ {left head size place : ℕ} (w : Seeks file (record { number = number; left = left; head = head; «head_size» = size; «data_place» = place })) where
+    -- with a sample left, the row sought is its
+    module _ (l : 0 < left) where
+      abbrev found : row.SampleRow
+      found = rowOf head place (headBytes size (drop head file))
 
-    pub seeks-tests : AllHold (instrumentTests place (drop place file))
-    seeks-tests = seeks-next λ i n count more s ep rest. s .tests
+      both : getD all number noRow ∷ drop (suc number) all
+          ≡ found ∷ rowsFrom (left - 1) size (head + size) (place + dataSize (headBytes size (drop head file))) (drop size (drop head file)) ++ joined sampleRowsIn (w .parts)
+      both =
+          sym (drop-cons all number noRow some)
+          ∙ w .same
+          ∙ ap (λ (rows : List row.SampleRow). rows ++ joined sampleRowsIn (w .parts)) (rows-step left size head place (drop head file) l)
 
-    -- the row sought, and those behind it
-    both : getD all number noRow ∷ drop (suc number) all ≡ getD (joined sampleRowsIn (w .parts)) left noRow ∷ drop (suc left) (joined sampleRowsIn (w .parts))
-    both = sym (drop-cons all number noRow some) ∙ w .same ∙ drop-cons (joined sampleRowsIn (w .parts)) left noRow here
+      pub seeks-fits : SampleFits file head size place
+      seeks-fits =
+          let room = left-room file size (w .behind) (w .here) l in
+          let next = left-on file size (w .behind) (w .here) l refl in
+          record {
+            small = seeks-small;
+            header = omega (arith, room, w .here .wide l);
+            bytes = omega (arith, w .here .same, w .here .inside);
+            next-head = room;
+            next-bytes = omega (arith, next .same, next .inside);
+          }
 
-    pub seeks-after : Seeks file (record { number = number + 1; place = place; left = left + 1 })
-    seeks-after = record { count = w .count; parts = w .parts; end = w .end; reads = w .reads; same = rw (add-one number, add-one left) (ap (drop 1) both) }
+      pub seeks-found : getD all number noRow ≡ found
+      seeks-found = ap (λ (rows : List row.SampleRow). getD rows 0 noRow) both
 
-    module _ {x : InstrumentAt} (e : x ≡ instrumentAt place (drop place file)) where
-      pub seeks-stands : Stands file x
-      seeks-stands = seeks-next λ i n count more s ep rest. rw e (s .stands)
+      pub seeks-after : {place′ : ℕ} → place′ ≡ place + dataSize (headBytes size (drop head file))
+          → Seeks file (record { number = number + 1; left = left - 1; head = head + size; «head_size» = size; «data_place» = place′ })
+      seeks-after e = record {
+        behind = w .behind;
+        here = rw e (left-on file size (w .behind) (w .here) l refl);
+        count = w .count;
+        parts = w .parts;
+        end = w .end;
+        reads = w .reads;
+        same = rw (add-one number, e, ← drop-drop size head file) (ap (drop 1) both);
+      }
 
-      -- it is one of this instrument's
-      pub seeks-found : left < x .samples → getD all number noRow ≡ rowAt file x left
-      seeks-found l = seeks-next λ i n count more s ep rest.
-          let k = ap InstrumentAt.samples e in
-          ap (λ (l : List row.SampleRow). getD l 0 noRow) both
-          ∙ ap (λ (l : List InstrumentFound). getD (joined sampleRowsIn l) left noRow) ep
-          ∙ List·getD-append (sampleRowsIn i) (joined sampleRowsIn more) noRow left (omega (arith, s .rows-counted))
-          ∙ s .rows left (omega arith)
-          ∙ ap (λ (x : InstrumentAt). rowAt file x left) (sym e)
+    -- with none left, it is one of the next instrument's or of a later one's
+    module _ (z : left ≡ 0) where
+      rest-same : drop number all ≡ joined sampleRowsIn (w .parts)
+      unfolding rowsFrom
+      rest-same = rw z at (w .same)
 
-      -- it is one of a later one's
-      module _ (l : x .samples ≤ left) {next : ℕ} (q : next ≡ dataPlace file x (x .samples)) where
-        later : {n : ℕ} {i : InstrumentFound} → InstrumentStands file place i n → next ≡ place + n
-        later s = q ∙ ap (λ (x : InstrumentAt). dataPlace file x (x .samples)) e ∙ sym (s .next)
+      seeks-next : {R : Type 0}
+          → ((i : InstrumentFound) (n : ℕ) (more : List InstrumentFound) → InstrumentStands file place i n → w .parts ≡ i ∷ more → ReadsFrom instrumentFormat tt file (w .count - 1) (place + n) more (w .end) → R)
+          → R
+      seeks-next k =
+          let reads : ReadsFrom instrumentFormat tt file (w .count) place (w .parts) (w .end) = rw (left-end file size (w .behind) (w .here) z) (w .reads) in
+          some-instrument file seeks-small bytes reads (omega (arith, some, ap length rest-same, length-drop number all)) k
 
-        pub seeks-on : Seeks file (record { number = number; place = next; left = left - x .samples })
-        seeks-on = seeks-next λ i n count more s ep rest.
-            let k = ap InstrumentAt.samples e in
-            let at : left ≡ length (sampleRowsIn i) + (left - x .samples) = omega (arith, s .rows-counted) in
-            record {
-              count = count;
-              parts = more;
-              end = w .end;
-              reads = rw (later s) rest;
-              same =
-                  w .same
-                  ∙ ap (λ (l : List InstrumentFound). drop left (joined sampleRowsIn l)) ep
-                  ∙ ap (λ (n : ℕ). drop n (sampleRowsIn i ++ joined sampleRowsIn more)) at
-                  ∙ drop-append-add (sampleRowsIn i) (joined sampleRowsIn more) (left - x .samples);
-            }
+      pub seeks-tests : AllHold (instrumentTests place (drop place file))
+      seeks-tests = seeks-next λ i n more s ep rest. s .tests
 
-        pub seeks-less : length file - next < length file - place
-        seeks-less = seeks-next λ i n count more s ep rest. omega (arith, later s, s .some, s .inside)
+      module _ {x : InstrumentAt} (e : x ≡ instrumentAt place (drop place file)) where
+        pub seeks-stands : Stands file x
+        seeks-stands = seeks-next λ i n more s ep rest. rw e (s .stands)
+
+        pub seeks-on : Seeks file (record { number = number; left = x .samples; head = x .heads; «head_size» = x .«head_size»; «data_place» = dataStart x })
+        seeks-on = seeks-next λ i n more s ep rest. rw e (record {
+          behind = place + n;
+          here = rw (s .next) (left-start file (instrumentAt place (drop place file)) (s .stands));
+          count = w .count - 1;
+          parts = more;
+          end = w .end;
+          reads = rest;
+          same = rest-same ∙ ap (joined sampleRowsIn) ep ∙ ap (λ (rows : List row.SampleRow). rows ++ joined sampleRowsIn more) (s .rows);
+        })
+
+        pub seeks-less : length file - dataStart x < length file - place
+        seeks-less = seeks-next λ i n more s ep rest. omega (arith, ap InstrumentAt.heads e, s .tests .1 .0, seeks-stands .inside)

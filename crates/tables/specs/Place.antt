@@ -34,16 +34,19 @@ unfoldable pub dataBefore : (number size : ℕ) → List ℕ → ℕ
 dataBefore zero size s = 0
 dataBefore (suc number) size s = dataSize (headBytes size s) + dataBefore number size (drop size s)
 
--- Where the data of an instrument's sample begin; of the number k, where they all end.
-abbrev pub dataPlace : (file : List ℕ) → InstrumentAt → (number : ℕ) → ℕ
-dataPlace file x number = x .heads + x .samples * x .«head_size» + dataBefore number (x .«head_size») (drop (x .heads) file)
+-- Where the data of an instrument's samples begin, and where they end.
+abbrev pub dataStart : InstrumentAt → ℕ
+dataStart x = x .heads + x .samples * x .«head_size»
+
+abbrev pub dataEnd : (file : List ℕ) → InstrumentAt → ℕ
+dataEnd file x = dataStart x + dataBefore (x .samples) (x .«head_size») (drop (x .heads) file)
 
 -- An instrument whose headers and data lie in the file.
 pub record Stands (file : List ℕ) (x : InstrumentAt) : Type 0 where
   pub small : length file ≤ fileMost
   pub few : x .samples ≤ samplesMost
   pub wide : 0 < x .samples → leastHead ≤ x .«head_size»
-  pub inside : dataPlace file x (x .samples) ≤ length file
+  pub inside : dataEnd file x ≤ length file
 
 -- The row of a sample, by its header.
 abbrev pub rowOf : (headerPlace dataPlace : ℕ) (head : List ℕ) → row.SampleRow
@@ -56,9 +59,11 @@ rowOf headerPlace dataPlace head = record {
   relativeNote = relativeNote head;
 }
 
-abbrev pub rowAt : (file : List ℕ) → InstrumentAt → (number : ℕ) → row.SampleRow
-rowAt file x number =
-    let place = x .heads + number * x .«head_size» in rowOf place (dataPlace file x number) (headBytes (x .«head_size») (drop place file))
+-- The rows of the first samples, whose headers stand in front of `s`, from `head` on, and whose data from `bytesPlace` on.
+unfoldable pub rowsFrom : (number size head bytesPlace : ℕ) → List ℕ → List row.SampleRow
+rowsFrom zero size head bytesPlace s = []
+rowsFrom (suc number) size head bytesPlace s =
+    rowOf head bytesPlace (headBytes size s) ∷ rowsFrom number size (head + size) (bytesPlace + dataSize (headBytes size s)) (drop size s)
 
 -- The row as the code has it.
 abbrev pub sampleRow : row.SampleRow → SampleRow

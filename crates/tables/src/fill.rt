@@ -1,5 +1,5 @@
 // The three tables of an accepted file, each filled by a second pass, in a lent table that has the room.
-use crate::place::data_place;
+use crate::place::data_end;
 use crate::place::first_instrument;
 use crate::place::header_counts;
 use crate::place::instrument_at;
@@ -73,7 +73,7 @@ pub fn fill_instruments(file: &[u8], table: &mut [u32])
         let instrument = instrument_at(file, place);
         let samples = instrument.samples;
         put_three(table, to, place as u32, samples as u32, first as u32);
-        place = data_place(file, instrument, samples);
+        place = data_end(file, instrument);
         left -= 1;
         first += samples;
         to += INSTRUMENT_STRIDE;

@@ -4,7 +4,7 @@ use slices::read::word;
 use steps::pattern::rows_read;
 use steps::sample::sample_head;
 ghost use mathlib.Core.Path.{_≡_};
-ghost use Prim.Native.Nat.{_+_, _≤_, _<_};
+ghost use Prim.Native.Nat.{_+_, _≤_};
 ghost use lib.ListN.{length, drop};
 ghost use Rattle.xm.specs.Got.{AllHold};
 ghost use Rattle.xm.specs.Header.{ordersFrom};
@@ -12,7 +12,7 @@ ghost use Rattle.xm.specs.PatternInFile.{leastPattern};
 ghost use Rattle.xm.specs.Instrument.{instrumentTests};
 ghost use Rattle.xm.specs.Module.{fileMost, readFile};
 ghost use Rattle.tables.specs.Accepted.{Accepted, InstrumentsFrom};
-ghost use Rattle.tables.specs.Place.{countsOf, patternAt, instrumentAt, dataPlace, Stands};
+ghost use Rattle.tables.specs.Place.{countsOf, patternAt, instrumentAt, dataEnd, Stands};
 
 // The header's counts, and where the first pattern starts.
 pub struct Counts {
@@ -100,17 +100,15 @@ pub fn instrument_at(file: &[u8], at: usize) -> InstrumentAt
     }
 }
 
-// Where the data of an instrument's sample begin; of the number k, where they all end.
-pub fn data_place(file: &[u8], instrument: InstrumentAt, number: usize) -> usize
+// Where the data of an instrument's samples end.
+pub fn data_end(file: &[u8], instrument: InstrumentAt) -> usize
     requires { ⌜ Stands (now file) instrument ⌝ }
-    requires { ⌜ number ≤ instrument .samples ⌝ }
-    ensures { λ r. ⌜ r ≡ dataPlace (now (file .entry)) instrument number ⌝ }
+    ensures { λ r. ⌜ r ≡ dataEnd (now (file .entry)) instrument ⌝ }
 {
     let size = instrument.head_size;
-    let count = instrument.samples;
+    let mut left = instrument.samples;
     let mut head = instrument.heads;
-    let mut place = head + count * size;
-    let mut left = number;
+    let mut place = head + left * size;
     while 0 < left {
         let sample = sample_head(file, head, size);
         place += sample.length;

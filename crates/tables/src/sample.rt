@@ -1,6 +1,4 @@
 // The row of a sample, found from the file alone.
-use crate::place::InstrumentAt;
-use crate::place::data_place;
 use crate::place::first_instrument;
 use crate::place::instrument_at;
 use steps::sample::sample_head;
@@ -8,14 +6,15 @@ ghost use mathlib.Core.Path.{_≡_};
 ghost use Prim.Native.Nat.{_+_, _*_, _<_, _≤_, _/_, _%_, _^_};
 ghost use mathlib.Core.Bool.{cond};
 ghost use lib.Dec.{eqb};
-ghost use lib.ListN.{length, getD};
-ghost use Rattle.xm.specs.Module.{readFile};
+ghost use lib.ListN.{length, getD, drop};
+ghost use Rattle.xm.specs.Sample.{leastHead, headBytes};
+ghost use Rattle.xm.specs.Module.{fileMost, readFile};
 ghost use Rattle.xm.specs.Lay.{lay};
 ghost use Rattle.xm.specs.Table.{sampleRows, sampleStride, tuneStride};
 ghost use Rattle.xm.specs.Asking.{noRow};
 ghost use Rattle.tables.specs.Accepted.{listIn};
-ghost use Rattle.tables.specs.Place.{Stands, rowAt, sampleRow, numbersOf, tunesOf};
-ghost use Rattle.tables.specs.Sought.{Seeks};
+ghost use Rattle.tables.specs.Place.{rowOf, sampleRow, numbersOf, tunesOf};
+ghost use Rattle.tables.specs.Sought.{soughtFrom, Seeks};
 
 // Numbers to a row, and tunes.
 pub const SAMPLE_STRIDE: usize = 4;
@@ -39,19 +38,17 @@ fn width_of(form: usize) -> u32
     if form / 16 % 2 == 1 { 16 } else { 8 }
 }
 
-// The row of an instrument's sample.
-pub fn sample_row(file: &[u8], instrument: InstrumentAt, number: usize) -> SampleRow
-    requires { ⌜ Stands (now file) instrument ⌝ }
-    requires { ⌜ number < instrument .samples ⌝ }
-    ensures { λ r. ⌜ r ≡ sampleRow (rowAt (now (file .entry)) instrument number) ⌝ }
+// The row of a sample, by its header and where its data begin.
+fn sample_row(file: &[u8], head: usize, size: usize, data_place: usize) -> SampleRow
+    requires { ⌜ length (now file) ≤ fileMost ⌝ }
+    requires { ⌜ head + leastHead ≤ length (now file) ⌝ }
+    requires { ⌜ «data_place» ≤ length (now file) ⌝ }
+    ensures { λ r. ⌜ r ≡ sampleRow (rowOf head «data_place» (headBytes size (drop head (now (file .entry))))) ⌝ }
 {
-    let size = instrument.head_size;
-    let place = instrument.heads + number * size;
-    let sample = sample_head(file, place, size);
-    let data = data_place(file, instrument, number);
+    let sample = sample_head(file, head, size);
     SampleRow {
-        header_place: place as u32,
-        data_place: data as u32,
+        header_place: head as u32,
+        data_place: data_place as u32,
         length: sample.length as u32,
         width: width_of(sample.form),
         finetune: sample.finetune,
@@ -59,11 +56,14 @@ pub fn sample_row(file: &[u8], instrument: InstrumentAt, number: usize) -> Sampl
     }
 }
 
-// A sample sought: the one so numbered is the one `left` samples on from the first of the instrument at `place`.
+// A sample sought: its number, how many samples its instrument has from it on, where its header stands, H, and where its data begin.
+// With none left, the next instrument stands there.
 pub struct Sought {
     pub number: usize,
-    pub place: usize,
     pub left: usize,
+    pub head: usize,
+    pub head_size: usize,
+    pub data_place: usize,
 }
 
 // The row of the sample sought, and from where the next one is sought.
@@ -72,27 +72,32 @@ pub struct RowStep {
     pub next: Sought,
 }
 
+// Sought from the instrument at a place on.
+fn sought_from(place: usize) -> Sought
+    ensures { λ r. ⌜ r ≡ soughtFrom place ⌝ }
+{
+    Sought {
+        number: 0,
+        left: 0,
+        head: 0,
+        head_size: 0,
+        data_place: place,
+    }
+}
+
 // Where the first of `count` samples is sought. With none to seek nothing is read, as of a refused file.
 pub fn first_sought(file: &[u8], count: usize) -> Sought
     requires { ⌜ count ≤ length (listIn sampleRows (readFile (now file))) ⌝ }
     ensures { λ r. ⌜ (r .number ≡ 0) × (0 < count → Seeks (now (file .entry)) r) ⌝ }
 {
     if count == 0 {
-        return Sought {
-            number: 0,
-            place: 0,
-            left: 0,
-        };
+        return sought_from(0);
     }
     let place = first_instrument(file);
-    Sought {
-        number: 0,
-        place: place,
-        left: 0,
-    }
+    sought_from(place)
 }
 
-// The row of a sample of an accepted file: from the instrument where it is sought on, only the instruments without it are stepped over.
+// The row of a sample of an accepted file: behind an instrument's last one, only the instruments without any are stepped over.
 pub fn row_step(file: &[u8], from: Sought) -> RowStep
     requires { ⌜ (from .number < length (listIn sampleRows (readFile (now file)))) × (from .number + 1 < 2 ^ 64) × Seeks (now file) from ⌝ }
     ensures { λ r. ⌜ (r .row ≡ sampleRow (getD (listIn sampleRows (readFile (now (file .entry)))) (from .number) noRow))
@@ -100,24 +105,28 @@ pub fn row_step(file: &[u8], from: Sought) -> RowStep
         × Seeks (now (file .entry)) (r .next) ⌝ }
 {
     let number = from.number;
-    let mut place = from.place;
     let mut left = from.left;
-    loop {
+    let mut head = from.head;
+    let mut size = from.head_size;
+    let mut place = from.data_place;
+    while left == 0 {
         let instrument = instrument_at(file, place);
-        if left < instrument.samples {
-            let row = sample_row(file, instrument, left);
-            let next = Sought {
-                number: number + 1,
-                place: place,
-                left: left + 1,
-            };
-            return RowStep {
-                row: row,
-                next: next,
-            };
-        }
-        left -= instrument.samples;
-        place = data_place(file, instrument, instrument.samples);
+        left = instrument.samples;
+        head = instrument.heads;
+        size = instrument.head_size;
+        place = head + left * size;
+    }
+    let row = sample_row(file, head, size, place);
+    let next = Sought {
+        number: number + 1,
+        left: left - 1,
+        head: head + size,
+        head_size: size,
+        data_place: place + row.length as usize,
+    };
+    RowStep {
+        row: row,
+        next: next,
     }
 }
 

@@ -40,8 +40,8 @@ cast-put-three-3 c = omega (arith, c .before .before .before .loop .inv .few)
 put-three-requires : tie.Need-put-three-requires Inv-loop μ-loop
 put-three-requires c κs = instruments-room _ _ (c .before .before .before .loop .inv) (record { below = λ i. omega (arith, c .before .before .before .before .before .before .before .shared-slice-known .given i) }) (c .before .before .loop-test .taken) (c .before .instrument-at .ensures)
 
-data-place-requires : tie.Need-data-place-requires Inv-loop μ-loop
-data-place-requires c κs = (instruments-stands _ _ (c .before .before .before .before .before .before .loop .inv) (record { below = λ i. omega (arith, c .before .before .before .before .before .before .before .before .before .before .shared-slice-known .given i) }) (c .before .before .before .before .before .loop-test .taken) (c .before .before .before .before .instrument-at .ensures), omega arith)
+data-end-requires : tie.Need-data-end-requires Inv-loop μ-loop
+data-end-requires c κs = instruments-stands _ _ (c .before .before .before .before .before .before .loop .inv) (record { below = λ i. omega (arith, c .before .before .before .before .before .before .before .before .before .before .shared-slice-known .given i) }) (c .before .before .before .before .before .loop-test .taken) (c .before .before .before .before .instrument-at .ensures)
 
 sub-left : tie.Need-sub-left Inv-loop μ-loop
 sub-left c = omega arith
@@ -56,7 +56,7 @@ loop-less : tie.Need-loop-less Inv-loop μ-loop
 loop-less c = omega arith
 
 loop-again : tie.Need-loop-again Inv-loop μ-loop
-loop-again c = instruments-on _ _ (c .before .before .before .before .before .before .before .loop .inv) (record { below = λ i. omega (arith, c .before .before .before .before .before .before .before .before .before .before .before .shared-slice-known .given i) }) (c .before .before .before .before .before .before .loop-test .taken) (c .before .before .before .before .before .instrument-at .ensures) (c .before .before .before .put-three .ensures) (c .data-place .ensures)
+loop-again c = instruments-on _ _ (c .before .before .before .before .before .before .before .loop .inv) (record { below = λ i. omega (arith, c .before .before .before .before .before .before .before .before .before .before .before .shared-slice-known .given i) }) (c .before .before .before .before .before .before .loop-test .taken) (c .before .before .before .before .before .instrument-at .ensures) (c .before .before .before .put-three .ensures) (c .data-end .ensures)
     (omega arith)
 
 same-length : tie.Need-same-length Inv-loop μ-loop
@@ -79,7 +79,7 @@ fill-instruments-spec =
     cast-put-three-2
     cast-put-three-3
     put-three-requires
-    data-place-requires
+    data-end-requires
     sub-left
     add-first
     add-to

@@ -1,0 +1,59 @@
+-- `tables::place::data_end` meets its contract. The loop's invariant: so many samples are left to be stepped over. Assumes nothing.
+use Prim.Native.Nat.{_+_}
+use mathlib.Core.Path.{ap}
+use native.Mathlib.Omega.{arith}
+use lib.ListN.{drop}
+use Rattle.tables.specs.Place.{dataBefore}
+use Rattle.tables.specs.Sought.{Left}
+use Rattle.steps.specs.declared.sample.SampleHead.{SampleHead}
+use Rattle.tables.proofs.PlaceLoops.{left-start, left-on, left-room, left-end}
+use Rattle.tables.proofs.place.data_end.Statement.{statement}
+use Rattle.tables.proofs.place.data_end.Tie as tie
+
+abbrev Inv-loop : tie.InvT-loop
+Inv-loop file size left₀ head₀ place₀ left head place = Left file size (place₀ + dataBefore left₀ size (drop head₀ file)) left head place
+
+abbrev μ-loop : tie.MeasureT-loop
+μ-loop file size left₀ head₀ place₀ left head place = left
+
+mul-place : tie.Need-mul-place Inv-loop μ-loop
+mul-place c = let p = c .before .pre in omega (arith, p .inside, p .small)
+
+add-place : tie.Need-add-place Inv-loop μ-loop
+add-place c = let p = c .before .pre in omega (arith, p .inside, p .small)
+
+loop-holds : tie.Need-loop-holds Inv-loop μ-loop
+loop-holds c = left-start _ _ (c .before .pre)
+
+sample-head-requires : tie.Need-sample-head-requires Inv-loop μ-loop
+sample-head-requires c κs =
+    let w = c .before .loop .inv in
+    let l = c .loop-test .taken in
+    omega (arith, left-room _ _ _ w l, w .wide l)
+
+add-place-2 : tie.Need-add-place-2 Inv-loop μ-loop
+add-place-2 c =
+    let w = left-on _ _ _ (c .before .before .before .loop .inv) (c .before .before .loop-test .taken) (ap SampleHead.length (c .before .sample-head .ensures .value)) in
+    omega (arith, w .same, w .inside, c .before .before .before .before .before .pre .small)
+
+add-head : tie.Need-add-head Inv-loop μ-loop
+add-head c =
+    omega (arith, left-room _ _ _ (c .before .before .before .loop .inv) (c .before .before .loop-test .taken), c .before .before .before .before .before .pre .small)
+
+sub-left : tie.Need-sub-left Inv-loop μ-loop
+sub-left c = omega arith
+
+loop-less : tie.Need-loop-less Inv-loop μ-loop
+loop-less c = omega arith
+
+loop-again : tie.Need-loop-again Inv-loop μ-loop
+loop-again c =
+    left-on _ _ _ (c .before .before .before .loop .inv) (c .before .before .loop-test .taken) (ap SampleHead.length (c .before .sample-head .ensures .value))
+
+returns : tie.Need-returns Inv-loop μ-loop
+returns c = left-end _ _ _ (c .before .loop .inv) (omega arith)
+
+pub data-end-spec : {M : Type 1} → statement M
+data-end-spec =
+    tie.close
+    (tie.spec Inv-loop μ-loop mul-place add-place loop-holds sample-head-requires add-place-2 add-head sub-left loop-less loop-again returns)
