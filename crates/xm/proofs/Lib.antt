@@ -10,6 +10,7 @@ pub mod Row
 pub mod Packing
 pub mod Delta
 pub mod Bench
+pub mod Wrong
 pub mod Header
 pub mod PatternInFile
 pub mod Sample

@@ -21,3 +21,4 @@ pub mod Press
 pub mod Demands
 pub mod Lay
 pub mod Bench
+pub mod Wrong
