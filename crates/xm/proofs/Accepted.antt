@@ -17,8 +17,10 @@ use Rattle.xm.specs.Instrument.{InstrumentFound, instrumentView}
 use Rattle.xm.specs.Module.{Found, patternsFor, moduleFormat, readFile}
 use Rattle.xm.specs.Delta.{widthTest, decoding, valuesOf}
 use Rattle.xm.specs.Table.{SampleRow, patternRow, sampleCount, instrumentRowsFrom, sampleRow, sampleRowsOf, sampleRowsIn, sampleRows, sampleStride, sampleNumbers}
-use Rattle.xm.specs.Asking.{Lies, asking, noRow}
-use Rattle.xm.specs.Demands.{RowUnpacks, RowsUnpack, FindsRows, RowReads, RowDecodes, RowsDecode, liesAt, Asked, AsksExactly, LoopInside, AcceptedFiles}
+use Rattle.xm.specs.Press.{contentOf}
+use Rattle.xm.specs.Answer.{gives}
+use Rattle.xm.specs.Asking.{Lies, asking, stretchOf, askingFlat, askingRows, noRow}
+use Rattle.xm.specs.Demands.{headsIn, bytesIn, RowUnpacks, RowsUnpack, FindsRows, RowReads, RowDecodes, RowsDecode, liesAt, Asked, AsksExactly, LoopInside, AcceptedFiles}
 use Rattle.xm.proofs.Number.{byte-part, long-part}
 use Rattle.xm.proofs.Got.{no-true, pass}
 use Rattle.xm.proofs.Answer.{answer-gives, answer-refuses, tests-fail}
@@ -156,23 +158,41 @@ number-at stride numbers wide (r ∷ rs) none stale (suc n) k h l =
     ∙ getD-append-add (numbers r) (joined numbers rs ++ stale) (stride * n + k) 0
     ∙ number-at stride numbers wide rs none stale n k (omega arith) l
 
-module _ (file : List ℕ) (rows : List SampleRow) (inside : All (λ (row : SampleRow). row .dataPlace + row .size ≤ length file) rows) where
+-- The stretch of a row holds the content's data of the same number
+row-bytes : (file : List ℕ) (rows : List SampleRow) (heads bytes : List (List ℕ)) (number : ℕ) → RowsDecode file rows heads bytes → number < length rows
+    → stretchOf file (gives (liesAt rows number)) ≡ getD bytes number []
+row-bytes file [] heads bytes number d h = absurd (omega arith)
+row-bytes file (row ∷ rows) [] bytes number d h = absurd d
+row-bytes file (row ∷ rows) (head ∷ heads) [] number d h = absurd d
+row-bytes file (row ∷ rows) (head ∷ heads) (b ∷ bytes) zero d h = d .0 .0
+row-bytes file (row ∷ rows) (head ∷ heads) (b ∷ bytes) (suc number) d h = row-bytes file rows heads bytes number (d .1) (omega arith)
+
+module _ (file : List ℕ) (rows : List SampleRow) (heads bytes : List (List ℕ)) (inside : All (λ (row : SampleRow). row .dataPlace + row .size ≤ length file) rows)
+    (decode : RowsDecode file rows heads bytes) where
   row-inside : (number : ℕ) → number < length rows → getD rows number noRow .dataPlace + getD rows number noRow .size ≤ length file
   row-inside number h = all-at (λ (row : SampleRow). row .dataPlace + row .size ≤ length file) rows number noRow inside h
 
-  asked-rows : Asked file rows
+  asked-flat : (stale : List ℕ) (number : ℕ) → number < length rows → askingFlat file (joined sampleNumbers rows ++ stale) number ≡ gives (liesAt rows number)
+  asked-flat stale number h =
+      let table = joined sampleNumbers rows ++ stale in
+      let lies : _≡_ {A = Lies} (record { place = getD table (sampleStride * number + 1) 0; size = getD table (sampleStride * number + 2) 0 }) (liesAt rows number) =
+      ap₂ (λ (p s : ℕ). record { place = p; size = s }) (number-at sampleStride sampleNumbers (λ row. refl) rows noRow stale number 1 h (omega arith)) (number-at sampleStride sampleNumbers (λ row. refl) rows noRow stale number 2 h (omega arith)) in
+      ap (asking file (length table / sampleStride) number) lies
+      ∙ asks-exactly file (length table / sampleStride) number (liesAt rows number) .0
+      (omega (arith, length-append (joined sampleNumbers rows) stale, joined-length sampleStride sampleNumbers (λ row. refl) rows), row-inside number h)
+
+  asked-record : (stale : List SampleRow) (number : ℕ) → number < length rows → askingRows file (rows ++ stale) number ≡ gives (liesAt rows number)
+  asked-record stale number h =
+      let same : getD (rows ++ stale) number noRow ≡ getD rows number noRow = List·getD-append rows stale noRow number h in
+      ap (λ (row : SampleRow). asking file (length (rows ++ stale)) number (record { place = row .dataPlace; size = row .size })) same
+      ∙ asks-exactly file (length (rows ++ stale)) number (liesAt rows number) .0 (omega (arith, length-append rows stale), row-inside number h)
+
+  asked-rows : Asked file rows bytes
   asked-rows = record {
-    flat = λ stale number h.
-        let table = joined sampleNumbers rows ++ stale in
-        let lies : _≡_ {A = Lies} (record { place = getD table (sampleStride * number + 1) 0; size = getD table (sampleStride * number + 2) 0 }) (liesAt rows number) =
-        ap₂ (λ (p s : ℕ). record { place = p; size = s }) (number-at sampleStride sampleNumbers (λ row. refl) rows noRow stale number 1 h (omega arith)) (number-at sampleStride sampleNumbers (λ row. refl) rows noRow stale number 2 h (omega arith)) in
-        ap (asking file (length table / sampleStride) number) lies
-        ∙ asks-exactly file (length table / sampleStride) number (liesAt rows number) .0
-        (omega (arith, length-append (joined sampleNumbers rows) stale, joined-length sampleStride sampleNumbers (λ row. refl) rows), row-inside number h);
-    records = λ stale number h.
-        let same : getD (rows ++ stale) number noRow ≡ getD rows number noRow = List·getD-append rows stale noRow number h in
-        ap (λ (row : SampleRow). asking file (length (rows ++ stale)) number (record { place = row .dataPlace; size = row .size })) same
-        ∙ asks-exactly file (length (rows ++ stale)) number (liesAt rows number) .0 (omega (arith, length-append rows stale), row-inside number h);
+    flat = asked-flat;
+    records = asked-record;
+    flat-bytes = λ stale number h. ap (stretchOf file) (asked-flat stale number h) ∙ row-bytes file rows heads bytes number decode h;
+    record-bytes = λ stale number h. ap (stretchOf file) (asked-record stale number h) ∙ row-bytes file rows heads bytes number decode h;
   }
 
 -- A pattern's row and its data
@@ -207,6 +227,8 @@ accepted-files file found end b e =
     let stand = tables-stand file found (t .instruments) in
     let before : All (λ (row : SampleRow). row .dataPlace + row .size ≤ end) (sampleRows found) =
     all-unmap (Before end) _ (sampleRows found) (rw (stand .bytes) at (kind-before sampleData 0 end (moduleFormat .regions found) adjoin)) in
+    let decode : RowsDecode file (sampleRows found) (headsIn (contentOf found)) (bytesIn (contentOf found)) =
+    rw (joined-map _ instrumentView (found .1 .1), joined-map _ instrumentView (found .1 .1)) (all-decode file (found .1 .1) (t .instruments)) in
     record {
       ends-inside = w .inside;
       regions = adjoin-regions file (moduleFormat .regions found) end adjoin (w .inside);
@@ -218,10 +240,10 @@ accepted-files file found end b e =
       rows-read =
           all-joined (λ (i : InstrumentFound). SamplesTold file (i .samples)) (RowReads file) sampleRowsIn
           (λ i s. rows-read file (i .samples .0) (i .samples .1) (s .heads) (s .sizes)) (found .1 .1) (t .instruments);
-      rows-decode = rw (joined-map _ instrumentView (found .1 .1), joined-map _ instrumentView (found .1 .1)) (all-decode file (found .1 .1) (t .instruments));
+      rows-decode = decode;
       asked =
-          asked-rows file (sampleRows found)
-          (all-with (λ (row : SampleRow). row .dataPlace + row .size ≤ end) (λ (row : SampleRow). row .dataPlace + row .size ≤ length file) (λ row h. omega (arith, h, w .inside)) (sampleRows found) before);
+          asked-rows file (sampleRows found) _ _
+          (all-with (λ (row : SampleRow). row .dataPlace + row .size ≤ end) (λ (row : SampleRow). row .dataPlace + row .size ≤ length file) (λ row h. omega (arith, h, w .inside)) (sampleRows found) before) decode;
       loops-inside =
           all-map (λ (i : InstrumentFound). SamplesTold file (i .samples)) _ instrumentView
           (λ i s. all-map (HeadTold file) LoopInside Stretch.bytes (loop-inside file) (i .samples .0) (s .heads)) (found .1 .1) (t .instruments);

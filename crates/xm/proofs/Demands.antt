@@ -3,6 +3,7 @@ use Prim.Native.Nat.{ℕ, zero, suc, _+_, _%_, _^_, _≤_, _<_}
 use mathlib.Core.List.{List, [], _∷_, map}
 use mathlib.Core.Path.{_≡_, refl, sym, ap, ap₂, _∙_, subst}
 use native.Mathlib.Omega.{arith}
+use borrow.Author.Tests.{lt-ltb, le-ltb}
 use lib.IntN.{ℤ}
 use lib.ListN.{length, getD, drop, length-append, length-drop, length-map, List·getD-eq-default}
 use Rattle.xm.specs.Number.{Bytes, signed}
@@ -10,14 +11,15 @@ use Rattle.xm.specs.Got.{Refusal, got, refused, _at_, AllHold}
 use Rattle.xm.specs.Format.{Format, joined, All}
 use Rattle.xm.specs.Answer.{Answer, gives, refuses, numbers, inFront}
 use Rattle.xm.specs.Stored.{Pattern}
+use Rattle.xm.specs.Header.{Header, songLengthAt, restartAt, restartInside, restartOf, headerOf, readHeader}
 use Rattle.xm.specs.Sample.{Stretch}
 use Rattle.xm.specs.Instrument.{Instrument, InstrumentFound, instrumentView}
 use Rattle.xm.specs.Module.{Found, Content, moduleFormat, fileMost, readFile, plays}
 use Rattle.xm.specs.Delta.{sums, storedNumbers, decoded, decoding, coding, countWritten}
 use Rattle.xm.specs.Table.{Checked, checkedAs, checkResults, checking, checkNumbers, checkLoader, checkingInto, Tables, Room, roomOf, roomTests, tablesAfter, patternRows, instrumentRows, sampleRowsIn, sampleRows, patternStride, instrumentStride, sampleStride, tuneStride, patternNumbers, instrumentNumbers, sampleNumbers, sampleTunes}
 use Rattle.xm.specs.Press.{pressed, pressingAs, pressing, pressedLength, pressLoader}
-use Rattle.xm.specs.Demands.{KeepsItsWord, TablesKept, Demand₁, Demand₂, Demand₃, CheckTells, countsOf, accepts, PressReadsBack, RunningSums, PressesOnce, FileOf, RoomFor, TablesTell, RestIgnored, PlaysOrders, LoaderTells, LoadersTell}
-use Rattle.xm.proofs.Got.{refused-tests, refused-bind, got-never, pass, step, step-refused}
+use Rattle.xm.specs.Demands.{KeepsItsWord, TablesKept, Demand₁, Demand₂, Demand₃, CheckTells, countsOf, accepts, PressReadsBack, RunningSums, PressesOnce, FileOf, RoomFor, TablesTell, RestIgnored, RestartsRead, PlaysOrders, LoaderTells, LoadersTell}
+use Rattle.xm.proofs.Got.{refused-tests, refused-bind, got-never, pass, passed, step, step-refused, bind-got}
 use Rattle.xm.proofs.Answer.{answer-gives, answer-refuses, gives-got, gives-passed, gives-bound, gives-same, gives-refuses, refuses-refused, tests-fail, SoundRefusal, word-kept, loader-tells, accepted-gives, reported-written}
 use Rattle.xm.proofs.Format.{joined-length, cons-path}
 use Rattle.xm.proofs.Packing.{unpack-word, pack-word, unpacks-to-cells, pack-shortest, unpack-tells, pack-tells, pack-apart}
@@ -68,6 +70,16 @@ check-loads file b =
     (λ c e. gives-got _ (readFile file) e λ found end q d. let h = end-inside file found end b q in omega (arith, ap Checked.end (gives-same d)))
     (λ r e. let f = file-fault file r b e in (f .low, omega (arith, f .small)))
 
+-- A file's own refusal, and with it those of a call that tries for room last
+record OwnFault (r : Refusal) : Type 0 where
+  sound : SoundRefusal r
+  small : r .place ≤ fileMost
+
+own-sound : (file : List ℕ) (r : Refusal) → Bytes file → readFile file ≡ refused r → OwnFault r
+own-sound file r b e =
+    let f = whole-faults moduleFormat module-faults file r b e in
+    record { sound = record { low = f .low; high = omega (arith, f .high); placed = λ h. absurd (omega (arith, f .high)) }; small = f .small }
+
 -- The tables: what is filled is no longer than what was lent
 front-length : {B : Type 0} (written lent : List B) → length written ≤ length lent → length (inFront written lent) ≡ length lent
 front-length written lent h = length-append written (drop (length written) lent) ∙ omega (arith, length-drop (length written) lent)
@@ -96,11 +108,19 @@ room-held room file c e =
     gives-bound _ (readFile file) _ e λ found end er e. gives-passed _ _ _ e λ hs e.
     subst (λ (c : Checked). AllHold (roomTests room (c .found))) (gives-same e) hs
 
-tables-kept : (file : List ℕ) (lent : Tables) → TablesKept file lent
+into-fault : (room : Room) (file : List ℕ) (r : Refusal) → Bytes file → checkingInto room file ≡ refuses r → SoundRefusal r
+unfolding checkingInto
+into-fault room file r b e =
+    refused-bind (readFile file) _ (refuses-refused _ _ e) (λ e. own-sound file r b e .sound)
+    λ found end er e. refused-tests SoundRefusal _ _ e (omega arith) λ hs e. absurd (got-never e)
+
+tables-kept : (file : List ℕ) (lent : Tables) → Bytes file → TablesKept file lent
 unfolding tablesAfter
-tables-kept file lent =
+tables-kept file lent b =
     let l = lengths (checkingInto (roomOf lent) file) lent (room-held (roomOf lent) file) in
     record {
+      numbered = λ r e. let f = into-fault (roomOf lent) file r b e in (f .low, f .high);
+      placed = λ r e. into-fault (roomOf lent) file r b e .placed;
       unchanged = λ r e. ap (λ (a : Answer Checked). tablesAfter a lent) e;
       patterns = l .patterns;
       instruments = l .instruments;
@@ -133,17 +153,11 @@ unfolding decoded
 decoded-sums width bytes values room e = decoding-gave width bytes room e λ h p l q. rw (← q) (running-sums width 0 (storedNumbers width bytes))
 
 -- Pressing
-record PressFault (r : Refusal) : Type 0 where
-  sound : SoundRefusal r
-  small : r .place ≤ fileMost
-
-press-fault : (file : List ℕ) (room : ℕ) (r : Refusal) → Bytes file → pressing file room ≡ refuses r → PressFault r
+press-fault : (file : List ℕ) (room : ℕ) (r : Refusal) → Bytes file → pressing file room ≡ refuses r → OwnFault r
 unfolding pressingAs
 press-fault file room r b e =
-    refused-bind (readFile file) _ (refuses-refused _ _ e)
-    (λ e. let f = whole-faults moduleFormat module-faults file r b e in
-    record { sound = record { low = f .low; high = omega (arith, f .high); placed = λ h. absurd (omega (arith, f .high)) }; small = f .small })
-    λ found end er e. refused-tests PressFault _ _ e (omega arith) λ hs e. absurd (got-never e)
+    refused-bind (readFile file) _ (refuses-refused _ _ e) (own-sound file r b)
+    λ found end er e. refused-tests OwnFault _ _ e (omega arith) λ hs e. absurd (got-never e)
 
 press-file : (file : List ℕ) (room : ℕ) (bytes : List ℕ) → Bytes file → pressing file room ≡ gives bytes → (length bytes ≤ room) × (length bytes ≤ fileMost)
 unfolding pressingAs
@@ -230,11 +244,22 @@ default-free [] k a b h = absurd (omega arith)
 default-free (x ∷ xs) zero a b h = refl
 default-free (x ∷ xs) (suc k) a b h = default-free xs k a b (omega arith)
 
+pub restarts-read : RestartsRead
+unfolding readHeader restartOf restartInside
+restarts-read file found end e =
+    whole-read moduleFormat file found end e λ h e. bind-got _ _ e λ header n eh e. bind-got _ _ e λ body m eb e.
+    passed _ _ eh λ hs eh.
+    let same : found .0 .content ≡ headerOf file = cc in
+    record {
+      beyond = λ l. ap Header.restart same ∙ rw (le-ltb (restartAt file) (songLengthAt file) l);
+      inside = λ l. ap Header.restart same ∙ rw (lt-ltb (restartAt file) (songLengthAt file) l);
+    }
+
 pub plays-orders : (content : Content) → PlaysOrders content
 unfolding plays
 plays-orders content = record {
-  named = λ position number p e h. rw e (default-free (content .1 .0) number _ p h);
-  nameless = λ position h. List·getD-eq-default (content .1 .0) _ h;
+  named = λ position number p inside e h. rw e (default-free (content .1 .0) number _ p h);
+  nameless = λ position inside h. List·getD-eq-default (content .1 .0) _ h;
 }
 
 pub loaders-tell : LoadersTell

@@ -1,6 +1,6 @@
 -- The three demands, and the paper's further claims, as statements over these definitions. docs/PROMISES.md says where each is proved.
 -- `Demand₁`, `Demand₂`, `Demand₃`; then of packing `Fifteen`; of pressing `PressesOnce`; of the check's tables `TablesTell`; of accepted
--- files `AcceptedFiles`, `AsksExactly`, `RestIgnored`, `PlaysOrders`; of the small reader `ReadersTell`; of the loader `LoadersTell`.
+-- files `AcceptedFiles`, `AsksExactly`, `RestIgnored`, `RestartsRead`, `PlaysOrders`; of the small reader `ReadersTell`; of the loader `LoadersTell`.
 use Prim.Native.Nat.{ℕ, _+_, _*_, _/_, _%_, _^_, _≤_, _<_}
 use mathlib.Core.Bool.{true, cond}
 use mathlib.Core.List.{List, [], _∷_, _++_, map}
@@ -15,6 +15,7 @@ use Rattle.xm.specs.Format.{Format, Kind, Region, patternHeader, pattern
 use Rattle.xm.specs.Answer.{Answer, gives, refuses, inFront, after}
 use Rattle.xm.specs.Cell.{cellSize, cellMost}
 use Rattle.xm.specs.Stored.{rowsMost, Pattern, standard, readStored, writeStored}
+use Rattle.xm.specs.Header.{songLengthAt, restartAt}
 use Rattle.xm.specs.PatternInFile.{dataMost}
 use Rattle.xm.specs.Packing.{argumentTests, cellBytes, unpacking, unpackNumbers, unpackAfter, unpackLoader, noteTests, patternOf, packing, packNumbers, packAfter, packLoader}
 use Rattle.xm.specs.Sample.{lengthOf, loopStart, loopLength, loops}
@@ -22,7 +23,7 @@ use Rattle.xm.specs.Instrument.{Instrument, InstrumentFound}
 use Rattle.xm.specs.Module.{Found, Content, moduleFormat, fileMost, readWhole, readFile, plays}
 use Rattle.xm.specs.Delta.{storedNumbers, decoding, coding, allFit, decodeNumbers, decodeAfter, codeNumbers, codeAfter, valuesOf}
 use Rattle.xm.specs.Table.{PatternRow, InstrumentRow, SampleRow, patternRows, instrumentRows, sampleRowsIn, sampleRows, Checked, checkedAs, checking, checkNumbers, checkLoader, Room, checkingInto, Tables, roomOf, tablesAfter, sampleNumbers}
-use Rattle.xm.specs.Asking.{Lies, asking, askingFlat, askingRows, noRow}
+use Rattle.xm.specs.Asking.{Lies, asking, stretchOf, askingFlat, askingRows, noRow}
 use Rattle.xm.specs.Structure.{isStructure, structures, ended, handed, reading, called, readFor}
 use Rattle.xm.specs.Region.{Adjoin, regionAt, ofKind}
 use Rattle.xm.specs.Press.{contentOf, pressed, pressingAs, pressing, pressNumbersAs, pressAfterAs, pressLoader}
@@ -39,6 +40,8 @@ pub record KeepsItsWord {A B : Type 0} (written : A → List B) (answer : (room 
   pub inside : (lent : List B) → length (after written (answer (length lent)) lent) ≡ length lent
 
 pub record TablesKept (file : List ℕ) (lent : Tables) : Type 0 where
+  pub numbered : (r : Refusal) → checkingInto (roomOf lent) file ≡ refuses r → (1 ≤ r .number) × (r .number ≤ refusalMost)
+  pub placed : (r : Refusal) → checkingInto (roomOf lent) file ≡ refuses r → 14 ≤ r .number → r .place ≡ 0
   pub unchanged : (r : Refusal) → checkingInto (roomOf lent) file ≡ refuses r → tablesAfter (checkingInto (roomOf lent) file) lent ≡ lent
   pub patterns : length (tablesAfter (checkingInto (roomOf lent) file) lent .patterns) ≡ length (lent .patterns)
   pub instruments : length (tablesAfter (checkingInto (roomOf lent) file) lent .instruments) ≡ length (lent .instruments)
@@ -47,7 +50,7 @@ pub record TablesKept (file : List ℕ) (lent : Tables) : Type 0 where
 
 pub record Demand₁ : Type 0 where
   pub check : (file : List ℕ) (r : Refusal) → Bytes file → checking file ≡ refuses r → (1 ≤ r .number) × (r .number ≤ 13) × (r .place ≤ length file)
-  pub tables : (file : List ℕ) (lent : Tables) → TablesKept file lent
+  pub tables : (file : List ℕ) (lent : Tables) → Bytes file → TablesKept file lent
   pub unpack : (rows channels : ℕ) (stored : List ℕ) → Bytes stored → KeepsItsWord cellBytes (unpacking rows channels stored)
   pub pack : (rows channels : ℕ) (cells : List ℕ) → KeepsItsWord writeStored (packing rows channels cells)
   pub decode : (width : ℕ) (bytes : List ℕ) → KeepsItsWord (λ (values : List ℤ). values) (decoding width bytes)
@@ -86,8 +89,11 @@ abbrev pub resultIn : (numbers : List ℕ) (k : ℕ) → ℕ
 resultIn numbers k = getD numbers (2 + k) 0
 
 -- Checking: an acceptable file is accepted, with its end and the counts of its content; a refused one gets its refusal and zeros.
+abbrev pub headsIn : Content → List (List ℕ)
+headsIn content = joined (λ (x : Instrument). x .samples .0) (content .1 .1)
+
 abbrev pub samplesIn : Content → ℕ
-samplesIn content = length (joined (λ (x : Instrument). x .samples .0) (content .1 .1))
+samplesIn content = length (headsIn content)
 
 abbrev pub countsOf : Content → List ℕ
 countsOf content = content .0 .channels ∷ content .0 .patterns ∷ content .0 .instruments ∷ samplesIn content ∷ []
@@ -211,6 +217,10 @@ FindsRows all [] (i ∷ is) = ⊥
 FindsRows all (row ∷ rows) [] = ⊥
 FindsRows all (row ∷ rows) (i ∷ is) = (take (row .samples) (drop (row .first) all) ≡ sampleRowsIn i) × FindsRows all rows is
 
+-- The data of all samples, in file order.
+abbrev pub bytesIn : Content → List (List ℕ)
+bytesIn content = joined (λ (x : Instrument). x .samples .1) (content .1 .1)
+
 -- A sample row says what stands in its header; its stretch is the content's data, which decodes at the row's width.
 abbrev pub RowReads : (file : List ℕ) → SampleRow → Type 0
 RowReads file row =
@@ -232,13 +242,16 @@ RowsDecode file (row ∷ rows) [] bytes = ⊥
 RowsDecode file (row ∷ rows) (h ∷ hs) [] = ⊥
 RowsDecode file (row ∷ rows) (h ∷ hs) (b ∷ bs) = RowDecodes file row h b × RowsDecode file rows hs bs
 
--- A sample asked for by number, of the tables as the check leaves them, whatever stood in them beyond: the row's stretch.
+-- A sample asked for by number, of the tables as the check leaves them, whatever stood in them beyond: the row's stretch, which holds the
+-- content's data.
 abbrev pub liesAt : List SampleRow → ℕ → Lies
 liesAt rows number = record { place = getD rows number noRow .dataPlace; size = getD rows number noRow .size }
 
-pub record Asked (file : List ℕ) (rows : List SampleRow) : Type 0 where
+pub record Asked (file : List ℕ) (rows : List SampleRow) (bytes : List (List ℕ)) : Type 0 where
   pub flat : (stale : List ℕ) (number : ℕ) → number < length rows → askingFlat file (joined sampleNumbers rows ++ stale) number ≡ gives (liesAt rows number)
   pub records : (stale : List SampleRow) (number : ℕ) → number < length rows → askingRows file (rows ++ stale) number ≡ gives (liesAt rows number)
+  pub flat-bytes : (stale : List ℕ) (number : ℕ) → number < length rows → stretchOf file (askingFlat file (joined sampleNumbers rows ++ stale) number) ≡ getD bytes number []
+  pub record-bytes : (stale : List SampleRow) (number : ℕ) → number < length rows → stretchOf file (askingRows file (rows ++ stale) number) ≡ getD bytes number []
 
 -- and of any row at all: 16 exactly when the number is at or above the rows lent, or the data isn't inside the file.
 abbrev pub AsksExactly : Type 0
@@ -257,8 +270,8 @@ pub record AcceptedFile (file : List ℕ) (found : Found) (end : ℕ) : Type 0 w
   pub rows-unpack : RowsUnpack file (found .0 .content .channels) (patternRows found) (contentOf found .1 .0)
   pub rows-found : FindsRows (sampleRows found) (instrumentRows found) (found .1 .1)
   pub rows-read : All (RowReads file) (sampleRows found)
-  pub rows-decode : RowsDecode file (sampleRows found) (joined (λ (x : Instrument). x .samples .0) (contentOf found .1 .1)) (joined (λ (x : Instrument). x .samples .1) (contentOf found .1 .1))
-  pub asked : Asked file (sampleRows found)
+  pub rows-decode : RowsDecode file (sampleRows found) (headsIn (contentOf found)) (bytesIn (contentOf found))
+  pub asked : Asked file (sampleRows found) (bytesIn (contentOf found))
   pub loops-inside : All (λ (x : Instrument). All LoopInside (x .samples .0)) (contentOf found .1 .1)
 
 abbrev pub AcceptedFiles : Type 0
@@ -270,10 +283,19 @@ abbrev pub RestIgnored : Type 0
 RestIgnored = (file other : List ℕ) (found : Found) (end : ℕ) → readFile file ≡ got found end → length other ≤ fileMost → end ≤ length other
     → take end file ≡ take end other → readFile other ≡ got found end
 
--- "An order entry naming no pattern .. stands for the standard empty pattern", and any other for the pattern it names.
+-- "Restart at or above song length reads as 0", and any other as it stands.
+pub record RestartRead (file : List ℕ) (found : Found) : Type 0 where
+  pub beyond : songLengthAt file ≤ restartAt file → found .0 .content .restart ≡ 0
+  pub inside : restartAt file < songLengthAt file → found .0 .content .restart ≡ restartAt file
+
+abbrev pub RestartsRead : Type 0
+RestartsRead = (file : List ℕ) (found : Found) (end : ℕ) → readFile file ≡ got found end → RestartRead file found
+
+-- "An order entry naming no pattern .. stands for the standard empty pattern", and any other for the pattern it names: of a position
+-- within the song length.
 pub record PlaysOrders (content : Content) : Type 0 where
-  pub named : (position number : ℕ) (p : Pattern) → getD (content .0 .orders) position 0 ≡ number → number < length (content .1 .0) → plays content position ≡ getD (content .1 .0) number p
-  pub nameless : (position : ℕ) → length (content .1 .0) ≤ getD (content .0 .orders) position 0 → plays content position ≡ standard (content .0 .channels)
+  pub named : (position number : ℕ) (p : Pattern) → position < content .0 .songLength → getD (content .0 .orders) position 0 ≡ number → number < length (content .1 .0) → plays content position ≡ getD (content .1 .0) number p
+  pub nameless : (position : ℕ) → position < content .0 .songLength → length (content .1 .0) ≤ getD (content .0 .orders) position 0 → plays content position ≡ standard (content .0 .channels)
 
 -- The small reader: a call after n others gives what `reading` says of n, which is the structure of that number, in file order; behind the
 -- last one it says that the end is reached, and the reader stays as it is.

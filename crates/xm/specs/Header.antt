@@ -32,7 +32,7 @@ ordersMost = 256
 abbrev pub leastHeader : (songLength : ℕ) → ℕ
 leastHeader songLength = 276
 
--- The fields that are tested, at their offsets.
+-- The numbers, at their offsets.
 abbrev pub markAt : List ℕ → ℕ
 markAt s = byteAt 37 s
 
@@ -44,6 +44,9 @@ sizeAt s = longAt sizeFrom s
 
 abbrev pub songLengthAt : List ℕ → ℕ
 songLengthAt s = wordAt 64 s
+
+abbrev pub restartAt : List ℕ → ℕ
+restartAt s = wordAt 66 s
 
 abbrev pub channelsAt : List ℕ → ℕ
 channelsAt s = wordAt 68 s
@@ -102,7 +105,7 @@ headerOf s = record {
   moduleName = part 17 20 s;
   trackerName = part 38 20 s;
   songLength = songLengthAt s;
-  restart = restartOf (songLengthAt s) (wordAt 66 s);
+  restart = restartOf (songLengthAt s) (restartAt s);
   channels = channelsAt s;
   patterns = patternsAt s;
   instruments = instrumentsAt s;
