@@ -19,6 +19,7 @@
 #define COUNT(array) (sizeof(array) / sizeof((array)[0]))
 #define CELLS_MOST FIDDLEMARSH_CELLS_MOST
 #define FILE_MOST FIDDLEMARSH_FILE_MOST
+#define DATA_MOST FIDDLEMARSH_DATA_MOST
 #define SMALL_RESULT 96 /* cells or packed bytes up to here are tried with every room */
 
 /* Calls */
@@ -507,6 +508,9 @@ static void group_every_cut(void)
             press(module.bytes, length, module.length);
             press(module.bytes, length, length);
         }
+        module.bytes[37] = 0; /* that the first 80 bytes are there (1) comes before 3 */
+        for (size_t length = 0; length <= 100; length++)
+            check(module.bytes, length);
         module_free(&module);
     }
 }
@@ -790,6 +794,37 @@ static void group_size_limit(void)
     module_free(&module);
 }
 
+/* A pattern of the longest data there are, inside a module: by its S, by one byte less, and cut. */
+static void group_longest_data(void)
+{
+    enum { CHANNELS = 52, ROWS = 256, DATA = 345 };
+    static uint8_t cells[ROWS * CHANNELS * 5], file[DATA + DATA_MOST];
+    bench_file(file, 276, ROWS);
+    file[68] = CHANNELS;
+    for (size_t size = DATA_MOST - 1; size <= DATA_MOST; size++) {
+        cells_of_length(cells, ROWS * CHANNELS, size);
+        uint64_t packed = reference_loader_pack(ROWS, CHANNELS, cells, sizeof cells, file + DATA, DATA_MOST);
+        must(fiddlemarsh_packed_length(packed) == size, "not the length asked for");
+        field_put(file, (struct field){343, 2}, (uint32_t)size);
+        try_file(file, DATA + size);
+        try_file(file, DATA + size - 1);
+    }
+}
+
+/* A module whose every byte is content, up to the size limit: pressing gives it back. */
+static void group_longest_pressed(void)
+{
+    enum { SAMPLES = 16, SIZE = (FILE_MOST - 336 - 9 - 263 - 40 * SAMPLES) / SAMPLES };
+    struct chance chance = {3951};
+    struct module module = {0};
+    struct shape shape = {.song_length = 1, .channels = 1, .patterns = 1, .instruments = 1, .rows = 64, .cells = CELLS_NONE,
+                          .samples_least = SAMPLES, .samples_most = SAMPLES, .sample_length_least = SIZE, .sample_length_most = SIZE};
+    module_build(&module, &shape, &chance);
+    must(module.length == FILE_MOST, "not as long as a file may be");
+    try_file(module.bytes, module.length);
+    module_free(&module);
+}
+
 /* The largest counts of everything, and samples up to the size limit. */
 static void group_large(void)
 {
@@ -845,7 +880,9 @@ static const struct group groups[] = {
     {"modules: every shape", group_module_shapes},
     {"modules: every pattern form, 64 channels", group_wide_pattern_forms},
     {"modules: large ones of every shape", group_large_shapes},
+    {"modules: the longest data", group_longest_data},
     {"modules: the largest", group_large},
+    {"modules: the longest pressed", group_longest_pressed},
 };
 
 /* A comparison that never met a refusal says nothing about it. */
