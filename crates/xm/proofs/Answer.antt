@@ -2,13 +2,14 @@
 use Prim.Native.Nat.{ℕ, _+_, _*_, _^_, _≤_, _<_}
 use mathlib.Core.Bool.{Bool, true, false}
 use mathlib.Core.List.{List, [], _∷_}
-use mathlib.Core.Path.{_≡_, refl, ap, _∙_}
+use mathlib.Core.Logic.{_↔_}
+use mathlib.Core.Path.{_≡_, refl, ap, ap₂, _∙_}
 use native.Mathlib.Omega.{arith}
 use lib.ListN.{length, take, drop, length-append, length-drop}
 use lib.Seq.{take-append-seam}
-use Rattle.xm.specs.Got.{Refusal, Got, got, refused, _>>=_, _>>_, Test, passes, refusalOf, AllHold, ensure, checked}
+use Rattle.xm.specs.Got.{Refusal, Got, got, refused, _at_, _>>=_, _>>_, Test, passes, refusalOf, AllHold, ensure, checked}
 use Rattle.xm.specs.Format.{All}
-use Rattle.xm.specs.Answer.{Answer, gives, refuses, answered, numberOf, result, after, loaderNumber}
+use Rattle.xm.specs.Answer.{Answer, gives, refuses, answered, numberOf, result, numbers, after, loaderNumber}
 use Rattle.xm.specs.Demands.{refusalMost, KeepsItsWord, LoaderTells}
 use Rattle.xm.proofs.Got.{passes-holds, test-holds, passed, bind-got, refused-tests}
 
@@ -91,6 +92,21 @@ accepted-gives (refuses r) numbered e k = absurd (omega (arith, numbered r refl)
 pub reported-written : {A B : Type 0} (count : A → ℕ) (written : A → List B) (answer : Answer A) (lent : List B) (a : A) → answer ≡ gives a
     → count a ≡ length (written a) → take (result count answer) (after written answer lent) ≡ written a
 reported-written count written answer lent a e n = rw (e, n) (take-append-seam (written a) (drop (length (written a)) lent))
+
+-- A call's numbers show a refusal, which leaves the memory as it was
+pub refused-exactly : {A : Type 0} (fs : List (A → ℕ)) (answer : Answer A) (r : Refusal) → 1 ≤ r .number → (numbers fs answer ≡ numbers fs (refuses r)) ↔ (answer ≡ refuses r)
+refused-exactly {A} fs answer r low = (forth answer, ap (numbers fs))
+  where
+    forth : (x : Answer A) → numbers fs x ≡ numbers fs (refuses r) → x ≡ refuses r
+    forth (gives a) e = absurd (let z : 0 ≡ r .number = cc in omega arith)
+    forth (refuses q) e =
+        let number : q .number ≡ r .number = cc in
+        let place : q .place ≡ r .place = cc in
+        ap₂ {C = Answer A} (λ (n p : ℕ). refuses (n at p)) number place
+
+pub refused-unchanged : {A B : Type 0} (written : A → List B) (answer : Answer A) (lent : List B) → (numberOf answer ≡ 0 → ⊥) → after written answer lent ≡ lent
+refused-unchanged written (gives a) lent h = absurd (h refl)
+refused-unchanged written (refuses r) lent h = refl
 
 -- The loader's number tells both kinds apart, if numbers and places are small
 pub loader-tells : {A : Type 0} (f : A → ℕ) (answer : Answer A) (number : ℕ) → number ≡ loaderNumber f answer → ((a : A) → answer ≡ gives a → f a < 2 ^ 32)
