@@ -4,11 +4,11 @@ use mathlib.Core.List.{List}
 use mathlib.Core.Path.{_≡_}
 use lib.ListN.{length, take, drop}
 use Rattle.xm.specs.Stored.{Pattern}
-use Rattle.xm.specs.Demands.{StoredFormOf}
-use Rattle.packing.specs.declared.Form.{Form}
+use Rattle.xm.specs.Demands.{StoredFormOf, accepts, resultIn}
 
 -- It is a stored form of the pattern, none is shorter, and what lies beyond stays.
-pub record PackWritten (channels : ℕ) (p : Pattern) (lent : List ℕ) (form : Form) (held : List ℕ) : Type 0 where
-  pub reads : StoredFormOf channels p (form .rows) (take (form .length) held)
-  pub shortest : (row : ℕ) (bytes : List ℕ) → StoredFormOf channels p row bytes → form .length ≤ length bytes
-  pub beyond : drop (form .length) held ≡ drop (form .length) lent
+pub record PackWritten (channels : ℕ) (p : Pattern) (lent reported held : List ℕ) : Type 0 where
+  pub accepted : accepts reported
+  pub reads : StoredFormOf channels p (resultIn reported 1) (take (resultIn reported 0) held)
+  pub shortest : (row : ℕ) (bytes : List ℕ) → StoredFormOf channels p row bytes → resultIn reported 0 ≤ length bytes
+  pub beyond : drop (resultIn reported 0) held ≡ drop (resultIn reported 0) lent

@@ -3,21 +3,18 @@
 use Prim.Native.Nat.{ℕ, _≤_}
 use mathlib.Core.Bool.{true}
 use mathlib.Core.List.{List, [], _∷_}
-use mathlib.Core.Path.{_≡_, refl, sym, ap, _∙_}
-use native.Mathlib.Omega.{arith}
+use mathlib.Core.Path.{_≡_, refl, sym, ap, ap₂, _∙_, subst}
 use lib.IntN.{ℤ}
-use lib.ListN.{length, take, drop}
-use lib.Seq.{take-append-seam}
+use lib.ListN.{length, take}
 use Rattle.xm.specs.Number.{Bytes}
 use Rattle.xm.specs.Answer.{Answer, gives, refuses, inFront, after, numbers}
-use Rattle.xm.specs.Delta.{allFit, decoding, coding, countWritten, decodeNumbers, codeNumbers}
-use Rattle.xm.proofs.Delta.{coding-decoding, decoding-coding}
-use Rattle.refusal.specs.declared.Fault.{Fault}
+use Rattle.xm.specs.Delta.{allFit, decoding, coding, countWritten, decodeNumbers, decodeAfter, codeNumbers, codeAfter}
+use Rattle.xm.specs.Demands.{accepts, resultIn}
+use Rattle.xm.proofs.Answer.{refused-unchanged}
+use Rattle.xm.proofs.Demands.{demand₂}
 use Rattle.samples.specs.Answers.{decodeAnswer, codeAnswer, decodedNumbers, codedNumbers}
 use Rattle.samples.specs.declared.Decoded.{Decoded}
-use Rattle.samples.specs.declared.Decoded.the-variants as decodes
 use Rattle.samples.specs.declared.Coded.{Coded}
-use Rattle.samples.specs.declared.Coded.the-variants as codes
 use Rattle.samples.proofs.Exits.{Decodes, Codes}
 
 -- One answer, one memory
@@ -47,52 +44,38 @@ pub code-numbers : (width : ℕ) (values : List ℤ) (lent : List ℕ) {answer :
 code-numbers width values lent d = ap codedNumbers (d .0) ∙ code-cases (coding width values (length lent))
 
 -- A refusal leaves the memory as it was
-decode-kept : (answer : Answer (List ℤ)) (lent : List ℤ) {fault : Fault} → decodes.Refused fault ≡ decodeAnswer answer → after (λ values. values) answer lent ≡ lent
-decode-kept (gives values) lent e = absurd (let z : _≡_ {A = ℕ} 0 1 = cc in omega arith)
-decode-kept (refuses refusal) lent e = refl
+pub decode-unchanged : (width : ℕ) (bytes : List ℕ) (lent : List ℤ) {answer : Decoded} {held : List ℤ} → Decodes width bytes lent answer held
+    → (accepts (decodedNumbers answer) → ⊥) → held ≡ lent
+decode-unchanged width bytes lent d refused =
+    d .1 ∙ refused-unchanged (λ (values : List ℤ). values) (decoding width bytes (length lent)) lent (λ a. refused (subst accepts (sym (decode-numbers width bytes lent d)) a))
 
-code-kept : (answer : Answer (List ℕ)) (lent : List ℕ) {fault : Fault} → codes.Refused fault ≡ codeAnswer answer → after (λ bytes. bytes) answer lent ≡ lent
-code-kept (gives bytes) lent e = absurd (let z : _≡_ {A = ℕ} 0 1 = cc in omega arith)
-code-kept (refuses refusal) lent e = refl
-
-pub decode-unchanged : (width : ℕ) (bytes : List ℕ) (lent : List ℤ) {fault : Fault} {held : List ℤ} → Decodes width bytes lent (decodes.Refused fault) held → held ≡ lent
-decode-unchanged width bytes lent d = d .1 ∙ decode-kept (decoding width bytes (length lent)) lent (d .0)
-
-pub code-unchanged : (width : ℕ) (values : List ℤ) (lent : List ℕ) {fault : Fault} {held : List ℕ} → Codes width values lent (codes.Refused fault) held → held ≡ lent
-code-unchanged width values lent c = c .1 ∙ code-kept (coding width values (length lent)) lent (c .0)
-
--- As much as was written, from the front, is what was written
-in-front : {A : Type 0} (xs lent : List A) {count : ℕ} {held : List A} → count ≡ length xs → held ≡ inFront xs lent → take count held ≡ xs
-in-front xs lent n h = rw (h, n) (take-append-seam xs (drop (length xs) lent))
+pub code-unchanged : (width : ℕ) (values : List ℤ) (lent : List ℕ) {answer : Coded} {held : List ℕ} → Codes width values lent answer held
+    → (accepts (codedNumbers answer) → ⊥) → held ≡ lent
+code-unchanged width values lent c refused =
+    c .1 ∙ refused-unchanged (λ (bytes : List ℕ). bytes) (coding width values (length lent)) lent (λ a. refused (subst accepts (sym (code-numbers width values lent c)) a))
 
 -- Values, coded, and what was written decoded, wherever there is room: the same values. The values lent are 16-bit numbers
-wrote-bytes : {R : Type 0} (answer : Answer (List ℕ)) {count : ℕ} → codes.Bytes count ≡ codeAnswer answer
-    → ((bytes : List ℕ) → answer ≡ gives bytes → count ≡ length bytes → R) → R
-wrote-bytes (gives bytes) e k = k bytes refl (cc)
-wrote-bytes (refuses refusal) e k = absurd (let z : _≡_ {A = ℕ} 0 1 = cc in omega arith)
-
-pub code-then-decode : (width : ℕ) (values : List ℤ) (lent : List ℕ) (next : List ℤ) {count : ℕ} {held : List ℕ} {answer : Decoded} {kept : List ℤ}
-    → allFit 16 values ≡ true → length values ≤ length next → Codes width values lent (codes.Bytes count) held → Decodes width (take count held) next answer kept
-    → (answer ≡ decodes.Values (length values)) × (kept ≡ inFront values next)
-code-then-decode width values lent next {count} {held} f l c d =
-    wrote-bytes (coding width values (length lent)) (c .0) λ bytes e n.
-    let back : decoding width (take count held) (length next) ≡ gives values =
-    ap (λ (s : List ℕ). decoding width s (length next)) (in-front bytes lent n (c .1 ∙ ap (λ (a : Answer (List ℕ)). after (λ b. b) a lent) e))
-    ∙ coding-decoding width values bytes (length lent) (length next) f e l in
-    (d .0 ∙ ap decodeAnswer back, d .1 ∙ ap (λ (a : Answer (List ℤ)). after (λ v. v) a next) back)
+pub code-then-decode : (width : ℕ) (values : List ℤ) (lent : List ℕ) (next : List ℤ) {coded : Coded} {held : List ℕ} {answer : Decoded} {kept : List ℤ}
+    → allFit 16 values ≡ true → length values ≤ length next → Codes width values lent coded held → accepts (codedNumbers coded)
+    → Decodes width (take (resultIn (codedNumbers coded) 0) held) next answer kept
+    → (decodedNumbers answer ≡ 0 ∷ 0 ∷ length values ∷ []) × (kept ≡ inFront values next)
+code-then-decode width values lent next {coded} {held} f l c a d =
+    let n = code-numbers width values lent c in
+    let same : take (resultIn (codedNumbers coded) 0) held ≡ take (resultIn (codeNumbers width values (length lent)) 0) (codeAfter width values lent) =
+    ap₂ (λ (ns held : List ℕ). take (resultIn ns 0) held) n (c .1) in
+    let back : decoding width (take (resultIn (codedNumbers coded) 0) held) (length next) ≡ gives values =
+    ap (λ (s : List ℕ). decoding width s (length next)) same ∙ demand₂ .decode width values lent (length next) f (subst accepts n a) l in
+    (ap decodedNumbers (d .0 ∙ ap decodeAnswer back), d .1 ∙ ap (λ (a : Answer (List ℤ)). after (λ v. v) a next) back)
 
 -- Bytes, decoded, and what was written coded, wherever there is room: the same bytes
-wrote-values : {R : Type 0} (answer : Answer (List ℤ)) {count : ℕ} → decodes.Values count ≡ decodeAnswer answer
-    → ((values : List ℤ) → answer ≡ gives values → count ≡ length values → R) → R
-wrote-values (gives values) e k = k values refl (cc)
-wrote-values (refuses refusal) e k = absurd (let z : _≡_ {A = ℕ} 0 1 = cc in omega arith)
-
-pub decode-then-code : (width : ℕ) (bytes : List ℕ) (lent : List ℤ) (next : List ℕ) {count : ℕ} {held : List ℤ} {answer : Coded} {kept : List ℕ}
-    → Bytes bytes → length bytes ≤ length next → Decodes width bytes lent (decodes.Values count) held → Codes width (take count held) next answer kept
-    → (answer ≡ codes.Bytes (length bytes)) × (kept ≡ inFront bytes next)
-decode-then-code width bytes lent next {count} {held} p l d c =
-    wrote-values (decoding width bytes (length lent)) (d .0) λ values e n.
-    let back : coding width (take count held) (length next) ≡ gives bytes =
-    ap (λ (s : List ℤ). coding width s (length next)) (in-front values lent n (d .1 ∙ ap (λ (a : Answer (List ℤ)). after (λ v. v) a lent) e))
-    ∙ decoding-coding width bytes values (length lent) (length next) p e l in
-    (c .0 ∙ ap codeAnswer back, c .1 ∙ ap (λ (a : Answer (List ℕ)). after (λ b. b) a next) back)
+pub decode-then-code : (width : ℕ) (bytes : List ℕ) (lent : List ℤ) (next : List ℕ) {decoded : Decoded} {held : List ℤ} {answer : Coded} {kept : List ℕ}
+    → Bytes bytes → length bytes ≤ length next → Decodes width bytes lent decoded held → accepts (decodedNumbers decoded)
+    → Codes width (take (resultIn (decodedNumbers decoded) 0) held) next answer kept
+    → (codedNumbers answer ≡ 0 ∷ 0 ∷ length bytes ∷ []) × (kept ≡ inFront bytes next)
+decode-then-code width bytes lent next {decoded} {held} p l d a c =
+    let n = decode-numbers width bytes lent d in
+    let same : take (resultIn (decodedNumbers decoded) 0) held ≡ take (resultIn (decodeNumbers width bytes (length lent)) 0) (decodeAfter width bytes lent) =
+    ap₂ (λ (ns : List ℕ) (held : List ℤ). take (resultIn ns 0) held) n (d .1) in
+    let back : coding width (take (resultIn (decodedNumbers decoded) 0) held) (length next) ≡ gives bytes =
+    ap (λ (s : List ℤ). coding width s (length next)) same ∙ demand₂ .code width bytes lent (length next) p (subst accepts n a) l in
+    (ap codedNumbers (c .0 ∙ ap codeAnswer back), c .1 ∙ ap (λ (a : Answer (List ℕ)). after (λ b. b) a next) back)
