@@ -16,17 +16,17 @@ use Rattle.xm.specs.Instrument.{InstrumentFound, instrumentFormat}
 use Rattle.xm.specs.Module.{Found, moduleFormat, readFile}
 use Rattle.xm.specs.Asking.{Lies}
 use Rattle.xm.specs.Table.{InstrumentRow, SampleRow, patternRow, patternRows, instrumentRows, sampleRows, checkedAs, checking}
-use Rattle.xm.specs.Structure.{structures, reading, Ahead, started, called, readOn, readFor}
-use Rattle.xm.specs.Demands.{ofKind, regionAt, ReaderHandsOver}
+use Rattle.xm.specs.Structure.{kindNumber, structures, reading, Ahead, started, called, readOn, readFor}
+use Rattle.xm.specs.Region.{ofKind, regionAt}
+use Rattle.xm.specs.Demands.{resultIn, ReaderHandsOver}
 use Rattle.xm.proofs.Format.{cons-path}
 use Rattle.xm.proofs.Structure.{readers-tell}
 use Rattle.xm.proofs.Accepted.{accepted-files}
-use Rattle.refusal.specs.Fault.{faultOf}
-use Rattle.structures.specs.Handing.{kindAt, standingOf, reachedOf, reachedIn}
+use Rattle.structures.specs.Handing.{standingOf, standingNumbers, readingNumbers, reachedOf, reachedIn}
 use Rattle.structures.specs.declared.Reached.{Reached}
 use Rattle.structures.specs.declared.Standing.{Standing}
-use Rattle.structures.specs.declared.Standing.the-variants.{End, Refused}
-use Rattle.structures.proofs.Calls.{reached-back}
+use Rattle.structures.specs.declared.Standing.the-variants.{Pattern, Instrument, SampleHeader, End, Refused}
+use Rattle.structures.proofs.Calls.{reached-back, call-numbers}
 use Rattle.tables.proofs.IntoLaws.{Counted, rows-counted}
 use Rattle.reader.specs.declared.Reader.{Reader}
 use Rattle.reader.specs.declared.count.Counted as answer
@@ -56,8 +56,15 @@ pub counted-once : (file : List ℕ) {answer other : answer.Counted} → answer 
 counted-once file met e = met ∙ sym e
 
 -- A call that hands over no structure leaves the reader as it was, whatever its place
-pub next-stays : (r r′ : Reader) (answer : Standing) → Called r answer r′ → handsOver answer ≡ false → r′ ≡ r
-next-stays r r′ answer c h = same-reader (c .1) (c .2 ∙ hand-none (now (r .file)) (r .place) (ap handsOver (sym (c .0)) ∙ h))
+no-kind : (answer : Standing) → resultIn (standingNumbers answer) 0 ≡ 0 → handsOver answer ≡ false
+no-kind (Pattern place) h = absurd (omega arith)
+no-kind (Instrument place) h = absurd (omega arith)
+no-kind (SampleHeader place) h = absurd (omega arith)
+no-kind End h = refl
+no-kind (Refused fault) h = refl
+
+pub next-stays : (r r′ : Reader) (answer : Standing) → Called r answer r′ → resultIn (standingNumbers answer) 0 ≡ 0 → r′ ≡ r
+next-stays r r′ answer c h = same-reader (c .1) (c .2 ∙ hand-none (now (r .file)) (r .place) (ap handsOver (sym (c .0)) ∙ no-kind answer h))
 
 -- A reader from the start, and so many calls of it: the readers before and after them, and the answers
 pub record ReadFor (file : RefT (List ℕ)) (calls : ℕ) (reader : ℕ → Reader) (answer : ℕ → Standing) : Type 0 where
@@ -77,31 +84,33 @@ module _ {file : RefT (List ℕ)} {calls : ℕ} {reader : ℕ → Reader} {answe
       )
 
   -- Each call gives what the definition says of its number
-  pub answers : Bytes (now file) → (n : ℕ) → n < calls → answer n ≡ standingOf (reading (now file) n)
-  answers plain n l =
+  told : (n : ℕ) → n < calls → standingNumbers (answer n) ≡ readingNumbers (called (now file) (readFor (now file) n))
+  told n l =
       let s = stands n (omega arith) in
-      w .called n l .0
+      ap standingNumbers
+      (w .called n l .0
       ∙ ap₂ (λ (f : RefT (List ℕ)) (place : Reached). standingOf (called (now f) (reachedIn place))) (s .0) (s .1)
-      ∙ ap (λ (x : Answer Ahead). standingOf (called (now file) x)) (reached-back (readFor (now file) n))
-      ∙ ap standingOf (readers-tell .by-number (now file) plain n)
+      ∙ ap (λ (x : Answer Ahead). standingOf (called (now file) x)) (reached-back (readFor (now file) n)))
+      ∙ call-numbers (now file) (readFor (now file) n)
+
+  pub answers : Bytes (now file) → (n : ℕ) → n < calls → standingNumbers (answer n) ≡ readingNumbers (reading (now file) n)
+  answers plain n l = told n l ∙ ap readingNumbers (readers-tell .by-number (now file) plain n)
 
   -- On a refused file that is the check's refusal
-  pub refuses : Bytes (now file) → (x : Refusal) → readFile (now file) ≡ refused x → (n : ℕ) → n < calls → answer n ≡ Refused (faultOf x)
-  refuses plain x e n l = answers plain n l ∙ ap standingOf (sym (readers-tell .by-number (now file) plain n) ∙ readers-tell .refuses-so (now file) x n e)
+  pub refuses : (x : Refusal) → readFile (now file) ≡ refused x → (n : ℕ) → n < calls → standingNumbers (answer n) ≡ x .number ∷ x .place ∷ 0 ∷ 0 ∷ []
+  refuses x e n l = told n l ∙ ap readingNumbers (readers-tell .refuses-so (now file) x n e)
 
   -- The calls hand over the first structures of the definition's list, none left out; after the last, the end for ever
   module _ (found : Found) (end : ℕ) (plain : Bytes (now file)) (reads : readFile (now file) ≡ got found end) (n : ℕ) (l : n < calls) where
     tell : ReaderHandsOver (now file) found
     tell = readers-tell .hands-over (now file) found end plain reads
 
-    told : answer n ≡ standingOf (called (now file) (readFor (now file) n))
-    told = answers plain n l ∙ ap standingOf (sym (readers-tell .by-number (now file) plain n))
+    pub hands-over : n < length (structures found)
+        → standingNumbers (answer n) ≡ 0 ∷ 0 ∷ kindNumber (regionAt (structures found) n .kind) ∷ regionAt (structures found) n .place ∷ []
+    hands-over h = told n l ∙ ap readingNumbers (tell .each-one n h)
 
-    pub hands-over : n < length (structures found) → answer n ≡ kindAt (regionAt (structures found) n .kind) (regionAt (structures found) n .place)
-    hands-over h = told ∙ ap standingOf (tell .each-one n h)
-
-    pub ends : length (structures found) ≤ n → answer n ≡ End
-    ends h = told ∙ ap standingOf (tell .end-then n h)
+    pub ends : length (structures found) ≤ n → standingNumbers (answer n) ≡ 0 ∷ 0 ∷ 0 ∷ 0 ∷ []
+    ends h = told n l ∙ ap readingNumbers (tell .end-then n h)
 
 -- The numbers counted are those that the check reports
 each-count : {A : Type 0} (kind : Kind) (f : A → List Region) (m : ℕ) → ((x : A) → length (ofKind kind (f x)) ≡ m) → (xs : List A) → length (ofKind kind (joined f xs)) ≡ m * length xs

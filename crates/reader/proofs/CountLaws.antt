@@ -12,7 +12,8 @@ use Rattle.xm.specs.Answer.{Answer, gives, answered, result}
 use Rattle.xm.specs.Module.{Found, moduleFormat, readFile}
 use Rattle.xm.specs.Structure.{isStructure, structures, Ahead, handOver, started, called, readOn, readFor}
 use Rattle.xm.specs.Structure as structure
-use Rattle.xm.specs.Demands.{ofKind, regionAt, ReaderHandsOver}
+use Rattle.xm.specs.Region.{ofKind, regionAt}
+use Rattle.xm.specs.Demands.{ReaderHandsOver}
 use Rattle.xm.proofs.Got.{no-true}
 use Rattle.xm.proofs.Answer.{answer-gives, answer-refuses}
 use Rattle.xm.proofs.Format.{cons-path}

@@ -8,7 +8,7 @@ use Rattle.xm.specs.Answer.{Answer, gives, refuses, answered}
 use Rattle.xm.specs.Module.{readFile}
 use Rattle.xm.specs.Table.{Checked, checkResults}
 use Rattle.xm.specs.Structure.{structures}
-use Rattle.xm.specs.Demands.{ofKind}
+use Rattle.xm.specs.Region.{ofKind}
 use Rattle.refusal.specs.Fault.{faultOf}
 use Rattle.structures.specs.declared.Standing.{Standing}
 use Rattle.structures.specs.declared.Standing.the-variants.{Pattern, Instrument, SampleHeader, End}
