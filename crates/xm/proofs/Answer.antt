@@ -1,17 +1,17 @@
 -- Rules for what an answer comes to, and for what an answer says of the tests that led to it. Assumes nothing.
 use Prim.Native.Nat.{ℕ, _+_, _*_, _^_, _≤_, _<_}
-use mathlib.Core.Bool.{Bool, true, false}
+use mathlib.Core.Bool.{Bool, true, false, cond}
 use mathlib.Core.List.{List, [], _∷_}
 use mathlib.Core.Logic.{_↔_}
 use mathlib.Core.Path.{_≡_, refl, ap, ap₂, _∙_}
 use native.Mathlib.Omega.{arith}
 use lib.ListN.{length, take, drop, length-append, length-drop}
 use lib.Seq.{take-append-seam}
-use Rattle.xm.specs.Got.{Refusal, Got, got, refused, _at_, _>>=_, _>>_, Test, passes, refusalOf, AllHold, ensure, checked}
+use Rattle.xm.specs.Got.{Refusal, Got, got, refused, _at_, _>>=_, _>>_, Test, passes, refusalOf, Holds, AllHold, ensure, checked}
 use Rattle.xm.specs.Format.{All}
-use Rattle.xm.specs.Answer.{Answer, gives, refuses, answered, numberOf, result, numbers, after, loaderNumber}
+use Rattle.xm.specs.Answer.{Answer, gives, refuses, answered, behind, numberOf, result, numbers, after, loaderNumber}
 use Rattle.xm.specs.Demands.{refusalMost, KeepsItsWord, LoaderTells}
-use Rattle.xm.proofs.Got.{passes-holds, test-holds, passed, bind-got, refused-tests}
+use Rattle.xm.proofs.Got.{holds-passes, passes-holds, test-holds, passed, bind-got, refused-tests}
 
 -- An answer from its reading, and a reading from its answer
 pub answer-gives : {A B : Type 0} (f : A → ℕ → B) {g : Got A} {a : A} {n : ℕ} → g ≡ got a n → answered f g ≡ gives (f a n)
@@ -62,6 +62,35 @@ checked-holds ts e = passed ts (got tt 0) {x = tt {0}} {n = 0} (rw e) λ h d. h
 pub refused-passed : {A R : Type 0} (ts : List Test) (g : Got A) {r : Refusal} → All (λ (t : Test). refusalOf t ≡ r → R) ts
     → (checked ts >> g) ≡ refused r → (AllHold ts → g ≡ refused r → R) → R
 refused-passed {R = R} ts g {r} a e k = refused-tests (λ (q : Refusal). q ≡ r → R) ts g e a (λ h d same. k h d) refl
+
+-- An answer behind a test: as it is if the test holds, else the test's refusal
+pub behind-holds : {A : Type 0} (t : Test) (answer : Answer A) → Holds t → behind t answer ≡ answer
+unfolding behind
+behind-holds t answer h = rw (holds-passes t h)
+
+pub behind-fails : {A : Type 0} (t : Test) (answer : Answer A) → (Holds t → ⊥) → behind t answer ≡ refuses (refusalOf t)
+unfolding behind
+behind-fails t answer h = go (passes t) refl
+  where
+    go : (b : Bool) → passes t ≡ b → behind t answer ≡ refuses (refusalOf t)
+    go true e = absurd (h (passes-holds t e))
+    go false e = rw e
+
+pub behind-gave : {A R : Type 0} (t : Test) (answer : Answer A) {a : A} → behind t answer ≡ gives a → (Holds t → answer ≡ gives a → R) → R
+unfolding behind
+behind-gave {R = R} t answer {a} e k = go (passes t) refl e
+  where
+    go : (b : Bool) → passes t ≡ b → cond b answer (refuses (refusalOf t)) ≡ gives a → R
+    go true h e = k (passes-holds t h) e
+    go false h e = absurd (gives-refuses e refl)
+
+pub behind-refused : {A R : Type 0} (t : Test) (answer : Answer A) {r : Refusal} → behind t answer ≡ refuses r → (refusalOf t ≡ r → R) → (answer ≡ refuses r → R) → R
+unfolding behind
+behind-refused {R = R} t answer {r} e own next = go (passes t) e
+  where
+    go : (b : Bool) → cond b answer (refuses (refusalOf t)) ≡ refuses r → R
+    go true e = next e
+    go false e = own (cc)
 
 -- A call that gives only what there is room for keeps its word, if its refusals have the paper's numbers
 after-length : {A B : Type 0} (written : A → List B) (answer : Answer A) (lent : List B) → ((a : A) → answer ≡ gives a → length (written a) ≤ length lent)

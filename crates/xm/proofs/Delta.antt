@@ -285,6 +285,13 @@ module _ (width : ℕ) (known : Holds (widthTest width)) where
       (differences width 0 (map (residue width) values))
       ∙ ap (λ (n : ℕ). width / 8 * n) (differences-length width 0 (map (residue width) values) ∙ length-map values (residue width))
 
+  -- no more values than bytes, and at most two bytes to a value
+  pub decoded-most : (bytes : List ℕ) → length (decoded width bytes) ≤ length bytes
+  decoded-most bytes = rw (decoded-length bytes) (by-width (λ w. length bytes / (w / 8) ≤ length bytes) (omega arith) (omega arith) width known)
+
+  pub coded-most : (values : List ℤ) → length (coded width values) ≤ 2 * length values
+  coded-most values = rw (coded-length values) (by-width (λ w. w / 8 * length values ≤ 2 * length values) (omega arith) (omega arith) width known)
+
 -- Values that are read at a width fit it
 values-fit : (half before : ℕ) (stored : List ℕ) → allFit (suc half) (valuesFrom (suc half) before stored) ≡ true
 unfolding sums

@@ -1,5 +1,5 @@
 -- The demands and the paper's further claims hold: each is put together from the laws. Assumes nothing.
-use Prim.Native.Nat.{ℕ, zero, suc, _+_, _%_, _^_, _≤_, _<_}
+use Prim.Native.Nat.{ℕ, zero, suc, _+_, _*_, _%_, _^_, _≤_, _<_}
 use mathlib.Core.List.{List, [], _∷_, map}
 use mathlib.Core.Path.{_≡_, refl, sym, ap, ap₂, _∙_, subst}
 use native.Mathlib.Omega.{arith}
@@ -9,21 +9,21 @@ use lib.ListN.{length, getD, drop, length-append, length-drop, length-map, List�
 use Rattle.xm.specs.Number.{Bytes, signed}
 use Rattle.xm.specs.Got.{Refusal, got, refused, _at_, AllHold}
 use Rattle.xm.specs.Format.{Format, joined, All}
-use Rattle.xm.specs.Answer.{Answer, gives, refuses, numbers, inFront}
+use Rattle.xm.specs.Answer.{Answer, gives, refuses, behind, numbers, inFront, loaderNumber}
 use Rattle.xm.specs.Stored.{Pattern}
 use Rattle.xm.specs.Header.{Header, songLengthAt, restartAt, restartInside, restartOf, headerOf, readHeader}
 use Rattle.xm.specs.Sample.{Stretch}
 use Rattle.xm.specs.Instrument.{Instrument, InstrumentFound, instrumentView}
 use Rattle.xm.specs.Module.{Found, Content, moduleFormat, fileMost, readFile, plays}
-use Rattle.xm.specs.Delta.{sums, storedNumbers, decoded, decoding, coding, countWritten}
-use Rattle.xm.specs.Table.{Checked, checkedAs, checkResults, checking, checkNumbers, checkLoader, checkingInto, Tables, Room, roomOf, roomTests, tablesAfter, patternRows, instrumentRows, sampleRowsIn, sampleRows, patternStride, instrumentStride, sampleStride, tuneStride, patternNumbers, instrumentNumbers, sampleNumbers, sampleTunes}
+use Rattle.xm.specs.Delta.{sums, storedNumbers, decoded, decoding, coding, countWritten, limitTest}
+use Rattle.xm.specs.Table.{Checked, checkedAs, checkResults, checking, checkNumbers, checkLoader, checkingInto, checkIntoLoader, Tables, Room, roomOf, roomTests, tablesAfter, patternRows, instrumentRows, sampleRowsIn, sampleRows, patternStride, instrumentStride, sampleStride, tuneStride, patternNumbers, instrumentNumbers, sampleNumbers, sampleTunes}
 use Rattle.xm.specs.Press.{pressed, pressingAs, pressing, pressedLength, pressLoader}
-use Rattle.xm.specs.Demands.{KeepsItsWord, TablesKept, Demand₁, Demand₂, Demand₃, CheckTells, countsOf, accepts, PressReadsBack, RunningSums, PressesOnce, FileOf, RoomFor, TablesTell, RestIgnored, RestartsRead, PlaysOrders, LoaderTells, LoadersTell}
+use Rattle.xm.specs.Demands.{KeepsItsWord, TablesKept, Demand₁, Demand₂, Demand₃, CheckTells, countsOf, accepts, PressReadsBack, RunningSums, PressesOnce, FileOf, RoomFor, TablesTell, RestIgnored, RestartsRead, PlaysOrders, LoaderTells, Limited, LoadersTell}
 use Rattle.xm.proofs.Got.{refused-tests, refused-bind, got-never, pass, passed, step, step-refused, bind-got}
-use Rattle.xm.proofs.Answer.{answer-gives, answer-refuses, gives-got, gives-passed, gives-bound, gives-same, gives-refuses, refuses-refused, tests-fail, SoundRefusal, word-kept, loader-tells, accepted-gives, reported-written}
+use Rattle.xm.proofs.Answer.{answer-gives, answer-refuses, gives-got, gives-passed, gives-bound, gives-same, gives-refuses, refuses-refused, tests-fail, behind-holds, behind-fails, behind-gave, behind-refused, SoundRefusal, word-kept, loader-tells, accepted-gives, reported-written}
 use Rattle.xm.proofs.Format.{joined-length, cons-path}
 use Rattle.xm.proofs.Packing.{unpack-word, pack-word, unpacks-to-cells, pack-shortest, unpack-tells, pack-tells, pack-apart}
-use Rattle.xm.proofs.Delta.{valuesFrom, values-none, values-step, decoding-gave, coding-gave, coding-decoding, decoding-coding}
+use Rattle.xm.proofs.Delta.{valuesFrom, values-none, values-step, decoded-most, coded-most, decoding-gave, coding-gave, coding-decoding, decoding-coding}
 use Rattle.xm.proofs.Fault.{FileFault, module-faults, whole-faults}
 use Rattle.xm.proofs.Sample.{SamplesTold}
 use Rattle.xm.proofs.Module.{module-back, module-keeps, module-firm, module-tells, whole-read, whole-firm}
@@ -70,7 +70,7 @@ check-loads file b =
     (λ c e. gives-got _ (readFile file) e λ found end q d. let h = end-inside file found end b q in omega (arith, ap Checked.end (gives-same d)))
     (λ r e. let f = file-fault file r b e in (f .low, omega (arith, f .small)))
 
--- A file's own refusal, and with it those of a call that tries for room last
+-- A refusal with a place that a loader's number has room for: a file's own, and with it those of the calls
 record OwnFault (r : Refusal) : Type 0 where
   sound : SoundRefusal r
   small : r .place ≤ fileMost
@@ -108,19 +108,27 @@ room-held room file c e =
     gives-bound _ (readFile file) _ e λ found end er e. gives-passed _ _ _ e λ hs e.
     subst (λ (c : Checked). AllHold (roomTests room (c .found))) (gives-same e) hs
 
-into-fault : (room : Room) (file : List ℕ) (r : Refusal) → Bytes file → checkingInto room file ≡ refuses r → SoundRefusal r
+into-fault : (room : Room) (file : List ℕ) (r : Refusal) → Bytes file → checkingInto room file ≡ refuses r → OwnFault r
 unfolding checkingInto
 into-fault room file r b e =
-    refused-bind (readFile file) _ (refuses-refused _ _ e) (λ e. own-sound file r b e .sound)
-    λ found end er e. refused-tests SoundRefusal _ _ e (omega arith) λ hs e. absurd (got-never e)
+    refused-bind (readFile file) _ (refuses-refused _ _ e) (own-sound file r b)
+    λ found end er e. refused-tests OwnFault _ _ e (omega arith) λ hs e. absurd (got-never e)
+
+into-loads : (room : Room) (file : List ℕ) → Bytes file → LoaderTells Checked.end (checkingInto room file) (checkIntoLoader room file)
+unfolding checkingInto
+into-loads room file b =
+    loader-tells Checked.end (checkingInto room file) (checkIntoLoader room file) refl
+    (λ c e. gives-bound _ (readFile file) _ e λ found end q e. gives-passed _ _ _ e λ hs e.
+    let h = end-inside file found end b q in omega (arith, ap Checked.end (gives-same e)))
+    (λ r e. let f = into-fault room file r b e in (f .sound .low, omega (arith, f .small)))
 
 tables-kept : (file : List ℕ) (lent : Tables) → Bytes file → TablesKept file lent
 unfolding tablesAfter
 tables-kept file lent b =
     let l = lengths (checkingInto (roomOf lent) file) lent (room-held (roomOf lent) file) in
     record {
-      numbered = λ r e. let f = into-fault (roomOf lent) file r b e in (f .low, f .high);
-      placed = λ r e. into-fault (roomOf lent) file r b e .placed;
+      numbered = λ r e. let f = into-fault (roomOf lent) file r b e .sound in (f .low, f .high);
+      placed = λ r e. into-fault (roomOf lent) file r b e .sound .placed;
       unchanged = λ r e. ap (λ (a : Answer Checked). tablesAfter a lent) e;
       patterns = l .patterns;
       instruments = l .instruments;
@@ -129,17 +137,50 @@ tables-kept file lent b =
     }
 
 -- Delta coding
-decode-word : (width : ℕ) (bytes : List ℕ) → KeepsItsWord (λ (values : List ℤ). values) (decoding width bytes)
-unfolding decoding
-decode-word width bytes =
-    word-kept _ (decoding width bytes) (λ room r e. refused-tests SoundRefusal _ _ (refuses-refused _ _ e) (omega arith) λ hs e. absurd (got-never e))
-    (λ room values e. decoding-gave width bytes room e λ h p l q. omega (arith, ap length q))
+module _ (width : ℕ) (bytes : List ℕ) where
+  decode-fault : (room : ℕ) (r : Refusal) → decoding width bytes room ≡ refuses r → OwnFault r
+  unfolding decoding
+  decode-fault room r e = refused-tests OwnFault _ _ (refuses-refused _ _ e) (omega arith) λ hs e. absurd (got-never e)
 
-code-word : (width : ℕ) (values : List ℤ) → KeepsItsWord (λ (bytes : List ℕ). bytes) (coding width values)
-unfolding coding
-code-word width values =
-    word-kept _ (coding width values) (λ room r e. refused-tests SoundRefusal _ _ (refuses-refused _ _ e) (omega arith) λ hs e. absurd (got-never e))
-    (λ room bytes e. coding-gave width values room e λ h p l q. omega (arith, ap length q))
+  decode-fits : (room : ℕ) (values : List ℤ) → decoding width bytes room ≡ gives values → (length values ≤ room) × (length values ≤ 2 * length bytes)
+  decode-fits room values e = decoding-gave width bytes room e λ h p l q. (omega (arith, ap length q), omega (arith, ap length q, decoded-most width h bytes))
+
+  decode-word : KeepsItsWord (λ (values : List ℤ). values) (decoding width bytes)
+  decode-word = word-kept _ (decoding width bytes) (λ room r e. decode-fault room r e .sound) (λ room values e. decode-fits room values e .0)
+
+module _ (width : ℕ) (values : List ℤ) where
+  code-fault : (room : ℕ) (r : Refusal) → coding width values room ≡ refuses r → OwnFault r
+  unfolding coding
+  code-fault room r e = refused-tests OwnFault _ _ (refuses-refused _ _ e) (omega arith) λ hs e. absurd (got-never e)
+
+  code-fits : (room : ℕ) (bytes : List ℕ) → coding width values room ≡ gives bytes → (length bytes ≤ room) × (length bytes ≤ 2 * length values)
+  code-fits room bytes e = coding-gave width values room e λ h p l q. (omega (arith, ap length q), omega (arith, ap length q, coded-most width h values))
+
+  code-word : KeepsItsWord (λ (bytes : List ℕ). bytes) (coding width values)
+  code-word = word-kept _ (coding width values) (λ room r e. code-fault room r e .sound) (λ room bytes e. code-fits room bytes e .0)
+
+-- and with the loader's limit, of any call that writes at most two for each that it reads
+limited : {A : Type 0} (count : ℕ) (own : Answer A) → Limited count own (behind (limitTest count) own)
+limited count own = record {
+  above = λ h. behind-fails (limitTest count) own (λ l. omega arith);
+  within = λ h. behind-holds (limitTest count) own (omega arith);
+}
+
+module _ {B : Type 0} (count : ℕ) (own : ℕ → Answer (List B)) (fault : (room : ℕ) (r : Refusal) → own room ≡ refuses r → OwnFault r)
+    (fits : (room : ℕ) (xs : List B) → own room ≡ gives xs → (length xs ≤ room) × (length xs ≤ 2 * count)) where
+  limited-fault : (room : ℕ) (r : Refusal) → behind (limitTest count) (own room) ≡ refuses r → OwnFault r
+  limited-fault room r e = behind-refused (limitTest count) (own room) e (λ same. subst OwnFault same (omega arith)) (fault room r)
+
+  limited-word : KeepsItsWord (λ (xs : List B). xs) (λ room. behind (limitTest count) (own room))
+  limited-word =
+      word-kept _ (λ room. behind (limitTest count) (own room)) (λ room r e. limited-fault room r e .sound)
+      (λ room xs e. behind-gave (limitTest count) (own room) e λ l e. fits room xs e .0)
+
+  limited-loads : (room : ℕ) → LoaderTells length (behind (limitTest count) (own room)) (loaderNumber countWritten (behind (limitTest count) (own room)))
+  limited-loads room =
+      loader-tells length (behind (limitTest count) (own room)) (loaderNumber countWritten (behind (limitTest count) (own room))) refl
+      (λ xs e. behind-gave (limitTest count) (own room) e λ l e. omega (arith, l, fits room xs e .1))
+      (λ r e. let f = limited-fault room r e in (f .sound .low, omega (arith, f .small)))
 
 running-sums : (width before : ℕ) (stored : List ℕ) → RunningSums width before stored (valuesFrom width before stored)
 running-sums width before [] = ends
@@ -185,6 +226,8 @@ demand₁ = record {
   pack = pack-word;
   decode = decode-word;
   code = code-word;
+  decode-limited = λ width bytes. limited-word (length bytes) (decoding width bytes) (decode-fault width bytes) (decode-fits width bytes);
+  code-limited = λ width values. limited-word (length values) (coding width values) (code-fault width values) (code-fits width values);
   press = press-word;
 }
 
@@ -263,4 +306,15 @@ plays-orders content = record {
 }
 
 pub loaders-tell : LoadersTell
-loaders-tell = record { check = check-loads; unpack = unpack-tells; pack = pack-tells; pack-apart = pack-apart; press = press-loads }
+loaders-tell = record {
+  check = check-loads;
+  unpack = unpack-tells;
+  pack = pack-tells;
+  pack-apart = pack-apart;
+  press = press-loads;
+  tables = into-loads;
+  decode = λ width bytes. limited-loads (length bytes) (decoding width bytes) (decode-fault width bytes) (decode-fits width bytes);
+  decode-limited = λ width bytes room. limited (length bytes) (decoding width bytes room);
+  code = λ width values. limited-loads (length values) (coding width values) (code-fault width values) (code-fits width values);
+  code-limited = λ width values room. limited (length values) (coding width values room);
+}

@@ -1,8 +1,9 @@
 -- What a call answers, and what the memory that it was lent holds afterwards.
 use Prim.Native.Nat.{ℕ, _+_, _*_, _^_}
+use mathlib.Core.Bool.{cond}
 use mathlib.Core.List.{List, [], _∷_, _++_, map}
 use lib.ListN.{length, drop}
-use Rattle.xm.specs.Got.{Got, got, refused, Refusal}
+use Rattle.xm.specs.Got.{Got, got, refused, Refusal, Test, passes, refusalOf}
 
 pub data Answer (A : Type 0) : Type 0 where
   gives : A → Answer A
@@ -12,6 +13,10 @@ pub data Answer (A : Type 0) : Type 0 where
 abbrev pub answered : {A B : Type 0} → (A → ℕ → B) → Got A → Answer B
 answered f (got a n) = gives (f a n)
 answered f (refused r) = refuses r
+
+-- An answer with one test more in front of it.
+unfoldable pub behind : {A : Type 0} → Test → Answer A → Answer A
+behind test answer = cond (passes test) answer (refuses (refusalOf test))
 
 -- "A refusal returns its number and a place, with all other result numbers 0"; accepted, number and place are 0.
 abbrev pub numberOf : {A : Type 0} → Answer A → ℕ

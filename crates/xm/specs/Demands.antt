@@ -21,8 +21,8 @@ use Rattle.xm.specs.Packing.{argumentTests, cellBytes, unpacking, unpack
 use Rattle.xm.specs.Sample.{lengthOf, loopStart, loopLength, loops}
 use Rattle.xm.specs.Instrument.{Instrument, InstrumentFound}
 use Rattle.xm.specs.Module.{Found, Content, moduleFormat, fileMost, readWhole, readFile, plays}
-use Rattle.xm.specs.Delta.{storedNumbers, decoding, coding, allFit, decodeNumbers, decodeAfter, codeNumbers, codeAfter, valuesOf}
-use Rattle.xm.specs.Table.{PatternRow, InstrumentRow, SampleRow, patternRows, instrumentRows, sampleRowsIn, sampleRows, Checked, checkedAs, checking, checkNumbers, checkLoader, Room, checkingInto, Tables, roomOf, tablesAfter, sampleNumbers}
+use Rattle.xm.specs.Delta.{storedNumbers, decoding, coding, allFit, decodeNumbers, decodeAfter, codeNumbers, codeAfter, valuesOf, decodingLimited, decodeLoader, codingLimited, codeLoader}
+use Rattle.xm.specs.Table.{PatternRow, InstrumentRow, SampleRow, patternRows, instrumentRows, sampleRowsIn, sampleRows, Checked, checkedAs, checking, checkNumbers, checkLoader, Room, checkingInto, checkIntoLoader, Tables, roomOf, tablesAfter, sampleNumbers}
 use Rattle.xm.specs.Asking.{Lies, asking, stretchOf, askingFlat, askingRows, noRow}
 use Rattle.xm.specs.Structure.{isStructure, structures, ended, handed, reading, called, readFor}
 use Rattle.xm.specs.Region.{Adjoin, regionAt, ofKind}
@@ -55,6 +55,8 @@ pub record Demand₁ : Type 0 where
   pub pack : (rows channels : ℕ) (cells : List ℕ) → KeepsItsWord writeStored (packing rows channels cells)
   pub decode : (width : ℕ) (bytes : List ℕ) → KeepsItsWord (λ (values : List ℤ). values) (decoding width bytes)
   pub code : (width : ℕ) (values : List ℤ) → KeepsItsWord (λ (bytes : List ℕ). bytes) (coding width values)
+  pub decode-limited : (width : ℕ) (bytes : List ℕ) → KeepsItsWord (λ (values : List ℤ). values) (decodingLimited width bytes)
+  pub code-limited : (width : ℕ) (values : List ℤ) → KeepsItsWord (λ (bytes : List ℕ). bytes) (codingLimited width values)
   pub press : (file : List ℕ) → Bytes file → KeepsItsWord (λ (bytes : List ℕ). bytes) (pressing file)
 
 -- An acceptable file of a content, within a format: bytes that are read as it.
@@ -316,6 +318,11 @@ pub record LoaderTells {A : Type 0} (f : A → ℕ) (answer : Answer A) (number 
   pub accepted : (a : A) → answer ≡ gives a → (number ≡ f a) × (number < 2 ^ 32)
   pub refused : (r : Refusal) → answer ≡ refuses r → (2 ^ 32 ≤ number) × (number / 2 ^ 32 ≡ r .number) × (number % 2 ^ 32 ≡ r .place)
 
+-- The loader's delta calls: 16 for more than 16,777,216 bytes or values, and otherwise what the call without that limit answers.
+pub record Limited {A : Type 0} (count : ℕ) (own limited : Answer A) : Type 0 where
+  pub above : 16777216 < count → limited ≡ refuses (16 at 0)
+  pub within : count ≤ 16777216 → limited ≡ own
+
 pub record LoadersTell : Type 0 where
   pub check : (file : List ℕ) → Bytes file → LoaderTells Checked.end (checking file) (checkLoader file)
   pub unpack : (rows channels : ℕ) (stored : List ℕ) (room : ℕ) → Bytes stored → LoaderTells Pattern.rows (unpacking rows channels stored room) (unpackLoader rows channels stored room)
@@ -324,3 +331,8 @@ pub record LoadersTell : Type 0 where
   pub pack-apart : (rows channels : ℕ) (cells : List ℕ) (room : ℕ) (p : Pattern) → packing rows channels cells room ≡ gives p
       → (packLoader rows channels cells room % 65536 ≡ length (writeStored p)) × (packLoader rows channels cells room / 65536 ≡ p .rows)
   pub press : (file : List ℕ) (room : ℕ) → Bytes file → LoaderTells length (pressing file room) (pressLoader file room)
+  pub tables : (room : Room) (file : List ℕ) → Bytes file → LoaderTells Checked.end (checkingInto room file) (checkIntoLoader room file)
+  pub decode : (width : ℕ) (bytes : List ℕ) (room : ℕ) → LoaderTells length (decodingLimited width bytes room) (decodeLoader width bytes room)
+  pub decode-limited : (width : ℕ) (bytes : List ℕ) (room : ℕ) → Limited (length bytes) (decoding width bytes room) (decodingLimited width bytes room)
+  pub code : (width : ℕ) (values : List ℤ) (room : ℕ) → LoaderTells length (codingLimited width values room) (codeLoader width values room)
+  pub code-limited : (width : ℕ) (values : List ℤ) (room : ℕ) → Limited (length values) (coding width values room) (codingLimited width values room)

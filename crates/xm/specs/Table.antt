@@ -154,6 +154,10 @@ checkingInto room file = answered checkedAs (do
 abbrev pub checkIntoNumbers : Room → (file : List ℕ) → List ℕ
 checkIntoNumbers room file = numbers checkResults (checkingInto room file)
 
+-- The loader's number: "the end as for the check".
+abbrev pub checkIntoLoader : Room → (file : List ℕ) → ℕ
+checkIntoLoader room file = loaderNumber Checked.end (checkingInto room file)
+
 abbrev pub roomOf : Tables → Room
 roomOf lent = record {
   patterns = length (lent .patterns) / patternStride;
