@@ -3,14 +3,16 @@ use Prim.Native.Nat.{ℕ, _^_, _≤_, _<_}
 use mathlib.Core.List.{List}
 use mathlib.Core.Path.{_≡_, refl, ap, _∙_}
 use native.Mathlib.Omega.{arith}
+use lib.IntN.{ℤ}
 use lib.ListN.{length}
 use Rattle.xm.specs.Number.{Bytes}
 use Rattle.xm.specs.Got.{Refusal}
 use Rattle.xm.specs.Answer.{Answer, gives, refuses, loaderNumber}
 use Rattle.xm.specs.Stored.{Pattern}
-use Rattle.xm.specs.Table.{Checked, checking, checkLoader}
+use Rattle.xm.specs.Table.{Checked, checking, checkLoader, checkingInto, checkIntoLoader, Tables, roomOf}
 use Rattle.xm.specs.Packing.{rowsRead, lengthAndRows, unpacking, unpackLoader, packing, packLoader}
 use Rattle.xm.specs.Press.{pressedLength, pressing, pressLoader}
+use Rattle.xm.specs.Delta.{countWritten, decodingLimited, decodeLoader, codingLimited, codeLoader}
 use Rattle.xm.specs.Demands.{refusalMost, LoaderTells}
 use Rattle.xm.proofs.Demands.{demand₁, loaders-tell}
 use Rattle.walk.specs.declared.Verdict.{Verdict}
@@ -21,7 +23,10 @@ use Rattle.packing.specs.declared.Packed.{Packed}
 use Rattle.packing.specs.Packed.{packedOf}
 use Rattle.press.specs.declared.Pressed.{Pressed}
 use Rattle.press.specs.Pressed.{pressedOf}
-use Rattle.loader.specs.Number.{checkNumber, unpackNumber, packNumber, pressNumber}
+use Rattle.samples.specs.declared.Decoded.{Decoded}
+use Rattle.samples.specs.declared.Coded.{Coded}
+use Rattle.samples.specs.Answers.{decodeAnswer, codeAnswer}
+use Rattle.loader.specs.Number.{checkNumber, unpackNumber, packNumber, pressNumber, decodeNumber, codeNumber}
 
 -- A number that tells a value below 2^32 from one of the paper's refusals
 fits : {A : Type 0} (value : A → ℕ) (answer : Answer A) (number : ℕ) → LoaderTells value answer number
@@ -48,6 +53,16 @@ press-cases : (answer : Answer (List ℕ)) → pressNumber (pressedOf answer) �
 unfolding loaderNumber
 press-cases (gives bytes) = refl
 press-cases (refuses r) = refl
+
+decode-cases : (answer : Answer (List ℤ)) → decodeNumber (decodeAnswer answer) ≡ loaderNumber countWritten answer
+unfolding loaderNumber
+decode-cases (gives values) = refl
+decode-cases (refuses r) = refl
+
+code-cases : (answer : Answer (List ℕ)) → codeNumber (codeAnswer answer) ≡ loaderNumber countWritten answer
+unfolding loaderNumber
+code-cases (gives bytes) = refl
+code-cases (refuses r) = refl
 
 module _ (file : List ℕ) {verdict : Verdict} (met : verdict ≡ verdictOf (checking file)) where
   pub check-same : checkNumber verdict ≡ checkLoader file
@@ -83,3 +98,30 @@ module _ (file : List ℕ) (room : ℕ) {pressed : Pressed} (met : pressed ≡ p
   press-fits b =
       rw press-same (fits pressedLength (pressing file room) (pressLoader file room) (loaders-tell .press file room b)
       (λ r e. demand₁ .press file b .numbered room r e .1))
+
+module _ (file : List ℕ) (lent : Tables) {verdict : Verdict} (met : verdict ≡ verdictOf (checkingInto (roomOf lent) file)) where
+  pub tables-same : checkNumber verdict ≡ checkIntoLoader (roomOf lent) file
+  tables-same = ap checkNumber met ∙ check-cases (checkingInto (roomOf lent) file)
+
+  pub tables-fits : Bytes file → checkNumber verdict < 2 ^ 64
+  tables-fits b =
+      rw tables-same (fits Checked.end (checkingInto (roomOf lent) file) (checkIntoLoader (roomOf lent) file) (loaders-tell .tables (roomOf lent) file b)
+      (λ r e. demand₁ .tables file lent b .numbered r e .1))
+
+module _ (width : ℕ) (bytes : List ℕ) (room : ℕ) {decoded : Decoded} (met : decoded ≡ decodeAnswer (decodingLimited width bytes room)) where
+  pub decode-same : decodeNumber decoded ≡ decodeLoader width bytes room
+  decode-same = ap decodeNumber met ∙ decode-cases (decodingLimited width bytes room)
+
+  pub decode-fits : decodeNumber decoded < 2 ^ 64
+  decode-fits =
+      rw decode-same (fits length (decodingLimited width bytes room) (decodeLoader width bytes room) (loaders-tell .decode width bytes room)
+      (λ r e. demand₁ .decode-limited width bytes .numbered room r e .1))
+
+module _ (width : ℕ) (values : List ℤ) (room : ℕ) {coded : Coded} (met : coded ≡ codeAnswer (codingLimited width values room)) where
+  pub code-same : codeNumber coded ≡ codeLoader width values room
+  code-same = ap codeNumber met ∙ code-cases (codingLimited width values room)
+
+  pub code-fits : codeNumber coded < 2 ^ 64
+  code-fits =
+      rw code-same (fits length (codingLimited width values room) (codeLoader width values room) (loaders-tell .code width values room)
+      (λ r e. demand₁ .code-limited width values .numbered room r e .1))

@@ -3,6 +3,10 @@ use Prim.Native.Nat.{ℕ, _+_, _*_}
 use Rattle.xm.specs.Answer.{Answer, gives, refuses, loaderNumber}
 use Rattle.refusal.specs.Fault.{refusalIn}
 use Rattle.refusal.specs.declared.Fault.{Fault}
+use Rattle.samples.specs.declared.Decoded.{Decoded}
+use Rattle.samples.specs.declared.Decoded.the-variants as decoded
+use Rattle.samples.specs.declared.Coded.{Coded}
+use Rattle.samples.specs.declared.Coded.the-variants as coded
 use Rattle.walk.specs.declared.Module.{Module}
 use Rattle.walk.specs.declared.Verdict.{Verdict}
 use Rattle.walk.specs.declared.Verdict.the-variants as verdict
@@ -37,3 +41,13 @@ packNumber (packed.Refused fault) = refusalNumber fault
 abbrev pub pressNumber : Pressed → ℕ
 pressNumber (pressed.Length length) = length
 pressNumber (pressed.Refused fault) = refusalNumber fault
+
+-- "how many values"
+abbrev pub decodeNumber : Decoded → ℕ
+decodeNumber (decoded.Values count) = count
+decodeNumber (decoded.Refused fault) = refusalNumber fault
+
+-- "how many bytes"
+abbrev pub codeNumber : Coded → ℕ
+codeNumber (coded.Bytes count) = count
+codeNumber (coded.Refused fault) = refusalNumber fault

@@ -1,13 +1,17 @@
 // The loader's one number for the answer of each call: "refusal number × 2^32 + place, or else the end, the rows, length + 65,536 × rows,
-// the length".
+// the length"; "how many values; how many bytes".
+pub mod limit;
+
 use cells::Unpacked;
 use packing::Packed;
 use press::Pressed;
 use refusal::Fault;
+use samples::Coded;
+use samples::Decoded;
 use walk::Verdict;
 ghost use mathlib.Core.Path.{_≡_};
 ghost use Prim.Native.Nat.{_^_, _<_};
-ghost use Rattle.loader.specs.Number.{refusalNumber, checkNumber, unpackNumber, packNumber, pressNumber};
+ghost use Rattle.loader.specs.Number.{refusalNumber, checkNumber, unpackNumber, packNumber, pressNumber, decodeNumber, codeNumber};
 
 fn refusal_number(fault: Fault) -> u64
     requires { ⌜ refusalNumber fault < 2 ^ 64 ⌝ }
@@ -53,5 +57,25 @@ pub fn press_number(pressed: Pressed) -> u64
     match pressed {
         Pressed::Length(length) => length as u64,
         Pressed::Refused(fault) => refusal_number(fault),
+    }
+}
+
+pub fn decode_number(decoded: Decoded) -> u64
+    requires { ⌜ decodeNumber decoded < 2 ^ 64 ⌝ }
+    ensures { λ r. ⌜ r ≡ decodeNumber decoded ⌝ }
+{
+    match decoded {
+        Decoded::Values(count) => count as u64,
+        Decoded::Refused(fault) => refusal_number(fault),
+    }
+}
+
+pub fn code_number(coded: Coded) -> u64
+    requires { ⌜ codeNumber coded < 2 ^ 64 ⌝ }
+    ensures { λ r. ⌜ r ≡ codeNumber coded ⌝ }
+{
+    match coded {
+        Coded::Bytes(count) => count as u64,
+        Coded::Refused(fault) => refusal_number(fault),
     }
 }

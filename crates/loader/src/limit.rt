@@ -1,0 +1,43 @@
+// The loader's limit: "more than 16,777,216 bytes to decode or values to code get 16". So a count is always told from a refusal.
+use refusal::Fault;
+use samples::Coded;
+use samples::Decoded;
+ghost use mathlib.Core.Path.{_≡_};
+ghost use lib.ListN.{length};
+ghost use Rattle.xm.specs.Got.{_at_};
+ghost use Rattle.xm.specs.Delta.{decodingLimited, decodeLimitedAfter, codingLimited, codeLimitedAfter};
+ghost use Rattle.refusal.specs.Fault.{faultOf};
+ghost use Rattle.samples.specs.Answers.{decodeAnswer, codeAnswer};
+
+const DELTA_MOST: usize = 16777216;
+
+fn above_limit() -> Fault
+    ensures { λ r. ⌜ r ≡ faultOf (16 at 0) ⌝ }
+{
+    Fault {
+        number: 16,
+        place: 0,
+    }
+}
+
+// Bytes to values.
+pub fn decode(width: usize, bytes: &[u8], values: &mut [i16]) -> Decoded
+    ensures answer { λ r. ⌜ r ≡ decodeAnswer (decodingLimited width (now (bytes .entry)) (length (now (values .entry)))) ⌝ }
+    ensures memory { λ _. ⌜ now (values .exit) ≡ decodeLimitedAfter width (now (bytes .entry)) (now (values .entry)) ⌝ }
+{
+    if bytes.len() > DELTA_MOST {
+        return Decoded::Refused(above_limit());
+    }
+    samples::decode(width, bytes, values)
+}
+
+// Values to bytes.
+pub fn code(width: usize, values: &[i16], bytes: &mut [u8]) -> Coded
+    ensures answer { λ r. ⌜ r ≡ codeAnswer (codingLimited width (now (values .entry)) (length (now (bytes .entry)))) ⌝ }
+    ensures memory { λ _. ⌜ now (bytes .exit) ≡ codeLimitedAfter width (now (values .entry)) (now (bytes .entry)) ⌝ }
+{
+    if values.len() > DELTA_MOST {
+        return Coded::Refused(above_limit());
+    }
+    samples::code(width, values, bytes)
+}
