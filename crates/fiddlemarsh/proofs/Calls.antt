@@ -1,20 +1,22 @@
--- What holds of every number and memory that meet the contracts of the four calls. Assumes nothing.
+-- What holds of every number and memory that meet the contracts of the calls. Assumes nothing.
 use Prim.Native.Nat.{ℕ, _^_, _≤_, _%_, _/_}
 use mathlib.Core.List.{List}
 use mathlib.Core.Logic.{_↔_}
 use mathlib.Core.Path.{_≡_, refl, sym, ap, _∙_}
 use native.Mathlib.Omega.{arith}
+use lib.IntN.{ℤ}
 use lib.ListN.{length}
 use Rattle.xm.specs.Number.{Bytes}
 use Rattle.xm.specs.Got.{Refusal}
 use Rattle.xm.specs.Answer.{Answer, gives, refuses, after}
 use Rattle.xm.specs.Stored.{Pattern, writeStored}
-use Rattle.xm.specs.Table.{Checked, checking}
+use Rattle.xm.specs.Table.{Checked, checking, checkingInto, Tables, roomOf, tablesAfter}
 use Rattle.xm.specs.Packing.{cellBytes, rowsRead, lengthAndRows, unpacking, packing}
 use Rattle.xm.specs.Press.{pressedLength, pressing}
+use Rattle.xm.specs.Delta.{countWritten, decodingLimited, codingLimited}
 use Rattle.xm.specs.Demands.{LoaderTells}
 use Rattle.xm.proofs.Demands.{loaders-tell}
-use Rattle.fiddlemarsh.specs.Promise.{Checks, Unpacks, Packs, Presses, Tells, TellsKept}
+use Rattle.fiddlemarsh.specs.Promise.{Checks, Unpacks, Packs, Presses, Fills, Decodes, Codes, Tells, TellsKept}
 
 -- At least 2^32 exactly when refused
 refused-exactly : {A : Type 0} (value : A → ℕ) (answer : Answer A) {number : ℕ} → LoaderTells value answer number
@@ -26,14 +28,22 @@ tells : {A : Type 0} (value : A → ℕ) (answer : Answer A) {number other : ℕ
 tells value answer e t = rw e (record { loaded = t; refused-exactly = refused-exactly value answer t })
 
 -- and then the memory is as it was
-tells-kept : {A : Type 0} (value : A → ℕ) (written : A → List ℕ) (answer : Answer A) (lent : List ℕ) {number other : ℕ} {held : List ℕ} → number ≡ other
-    → held ≡ after written answer lent → LoaderTells value answer other → TellsKept value answer number lent held
-tells-kept value written answer lent e m t =
+kept : {A M : Type 0} (value : A → ℕ) (memory : Answer A → M) (answer : Answer A) (lent : M) {number other : ℕ} {held : M} → ((r : Refusal) → memory (refuses r) ≡ lent)
+    → number ≡ other → held ≡ memory answer → LoaderTells value answer other → TellsKept value answer number lent held
+kept value memory answer lent stays e m t =
     let told = tells value answer e t in
     record {
       tells = told;
-      unchanged = λ h. let refused = told .refused-exactly .0 h in m ∙ ap (λ (a : Answer _). after written a lent) (refused .1);
+      unchanged = λ h. let refused = told .refused-exactly .0 h in m ∙ ap memory (refused .1) ∙ stays (refused .0);
     }
+
+tells-kept : {A B : Type 0} (value : A → ℕ) (written : A → List B) (answer : Answer A) (lent : List B) {number other : ℕ} {held : List B} → number ≡ other
+    → held ≡ after written answer lent → LoaderTells value answer other → TellsKept value answer number lent held
+tells-kept value written answer lent = kept value (λ a. after written a lent) answer lent (λ r. refl)
+
+-- No second number and no second memory
+once : {M : Type 0} {fixed number other : ℕ} {then held kept : M} → (number ≡ fixed) × (held ≡ then) → (other ≡ fixed) × (kept ≡ then) → (number ≡ other) × (held ≡ kept)
+once met e = (met .0 ∙ sym (e .0), met .1 ∙ sym (e .1))
 
 -- Check
 module _ (file : List ℕ) where
@@ -50,7 +60,7 @@ module _ (rows channels : ℕ) (stored lent : List ℕ) where
       tells-kept rowsRead cellBytes (unpacking rows channels stored (length lent)) lent (met .0) (met .1) (loaders-tell .unpack rows channels stored (length lent) b)
 
   pub unpack-once : {number other : ℕ} {held kept : List ℕ} → Unpacks rows channels stored lent number held → Unpacks rows channels stored lent other kept → (number ≡ other) × (held ≡ kept)
-  unpack-once met e = (met .0 ∙ sym (e .0), met .1 ∙ sym (e .1))
+  unpack-once = once
 
 -- Pack
 module _ (rows channels : ℕ) (cells lent : List ℕ) where
@@ -64,7 +74,7 @@ module _ (rows channels : ℕ) (cells lent : List ℕ) where
   pack-apart met p e = rw (met .0) (loaders-tell .pack-apart rows channels cells (length lent) p e)
 
   pub pack-once : {number other : ℕ} {held kept : List ℕ} → Packs rows channels cells lent number held → Packs rows channels cells lent other kept → (number ≡ other) × (held ≡ kept)
-  pack-once met e = (met .0 ∙ sym (e .0), met .1 ∙ sym (e .1))
+  pack-once = once
 
 -- Press
 module _ (file lent : List ℕ) where
@@ -73,4 +83,32 @@ module _ (file lent : List ℕ) where
       tells-kept pressedLength (λ (bytes : List ℕ). bytes) (pressing file (length lent)) lent (met .0) (met .1) (loaders-tell .press file (length lent) b)
 
   pub press-once : {number other : ℕ} {held kept : List ℕ} → Presses file lent number held → Presses file lent other kept → (number ≡ other) × (held ≡ kept)
-  press-once met e = (met .0 ∙ sym (e .0), met .1 ∙ sym (e .1))
+  press-once = once
+
+-- The check with tables
+module _ (file : List ℕ) (lent : Tables) where
+  pub tables-tells : {number : ℕ} {held : Tables} → Fills file lent number held → Bytes file → TellsKept Checked.end (checkingInto (roomOf lent) file) number lent held
+  unfolding tablesAfter
+  tables-tells met b =
+      kept Checked.end (λ a. tablesAfter a lent) (checkingInto (roomOf lent) file) lent (λ r. refl) (met .0) (met .1) (loaders-tell .tables (roomOf lent) file b)
+
+  pub tables-once : {number other : ℕ} {held kept : Tables} → Fills file lent number held → Fills file lent other kept → (number ≡ other) × (held ≡ kept)
+  tables-once = once
+
+-- Deltas to values
+module _ (width : ℕ) (bytes : List ℕ) (lent : List ℤ) where
+  pub decode-tells : {number : ℕ} {held : List ℤ} → Decodes width bytes lent number held → TellsKept countWritten (decodingLimited width bytes (length lent)) number lent held
+  decode-tells met =
+      tells-kept countWritten (λ (values : List ℤ). values) (decodingLimited width bytes (length lent)) lent (met .0) (met .1) (loaders-tell .decode width bytes (length lent))
+
+  pub decode-once : {number other : ℕ} {held kept : List ℤ} → Decodes width bytes lent number held → Decodes width bytes lent other kept → (number ≡ other) × (held ≡ kept)
+  decode-once = once
+
+-- Values to deltas
+module _ (width : ℕ) (values : List ℤ) (lent : List ℕ) where
+  pub code-tells : {number : ℕ} {held : List ℕ} → Codes width values lent number held → TellsKept countWritten (codingLimited width values (length lent)) number lent held
+  code-tells met =
+      tells-kept countWritten (λ (bytes : List ℕ). bytes) (codingLimited width values (length lent)) lent (met .0) (met .1) (loaders-tell .code width values (length lent))
+
+  pub code-once : {number other : ℕ} {held kept : List ℕ} → Codes width values lent number held → Codes width values lent other kept → (number ≡ other) × (held ≡ kept)
+  code-once = once

@@ -3,13 +3,16 @@ use Prim.Native.Nat.{ℕ, _^_, _≤_}
 use mathlib.Core.List.{List}
 use mathlib.Core.Logic.{_↔_}
 use mathlib.Core.Path.{_≡_}
+use lib.IntN.{ℤ}
 use lib.ListN.{length}
 use Rattle.xm.specs.Got.{Refusal}
 use Rattle.xm.specs.Answer.{Answer, refuses}
-use Rattle.xm.specs.Table.{checkLoader}
+use Rattle.xm.specs.Table.{checkLoader, checkIntoLoader, Tables, roomOf}
 use Rattle.xm.specs.Packing.{unpackLoader, unpackAfter, packLoader, packAfter}
 use Rattle.xm.specs.Press.{pressLoader, pressAfter}
+use Rattle.xm.specs.Delta.{decodeLoader, decodeLimitedAfter, codeLoader, codeLimitedAfter}
 use Rattle.xm.specs.Demands.{LoaderTells}
+use Rattle.tables.specs.Into.{tablesThen}
 
 -- The contracts.
 abbrev pub Checks : (file : List ℕ) (number : ℕ) → Type 0
@@ -24,12 +27,21 @@ Packs rows channels cells lent number held = (number ≡ packLoader rows channel
 abbrev pub Presses : (file lent : List ℕ) (number : ℕ) (held : List ℕ) → Type 0
 Presses file lent number held = (number ≡ pressLoader file (length lent)) × (held ≡ pressAfter file lent)
 
+abbrev pub Fills : (file : List ℕ) (lent : Tables) (number : ℕ) (held : Tables) → Type 0
+Fills file lent number held = (number ≡ checkIntoLoader (roomOf lent) file) × (held ≡ tablesThen file lent)
+
+abbrev pub Decodes : (width : ℕ) (bytes : List ℕ) (lent : List ℤ) (number : ℕ) (held : List ℤ) → Type 0
+Decodes width bytes lent number held = (number ≡ decodeLoader width bytes (length lent)) × (held ≡ decodeLimitedAfter width bytes lent)
+
+abbrev pub Codes : (width : ℕ) (values : List ℤ) (lent : List ℕ) (number : ℕ) (held : List ℕ) → Type 0
+Codes width values lent number held = (number ≡ codeLoader width values (length lent)) × (held ≡ codeLimitedAfter width values lent)
+
 -- The number tells the answer: the value, below 2^32, or number and place; and which of the two it is, it shows by itself.
 pub record Tells {A : Type 0} (value : A → ℕ) (answer : Answer A) (number : ℕ) : Type 0 where
   pub loaded : LoaderTells value answer number
   pub refused-exactly : (2 ^ 32 ≤ number) ↔ ((r : Refusal) × (answer ≡ refuses r))
 
 -- The same of a call that is lent memory: "All lent memory holds what it held" if the number says refused.
-pub record TellsKept {A : Type 0} (value : A → ℕ) (answer : Answer A) (number : ℕ) (lent held : List ℕ) : Type 0 where
+pub record TellsKept {A M : Type 0} (value : A → ℕ) (answer : Answer A) (number : ℕ) (lent held : M) : Type 0 where
   pub tells : Tells value answer number
   pub unchanged : 2 ^ 32 ≤ number → held ≡ lent

@@ -1,9 +1,11 @@
-// What the loader links: the four calls, each with the loader's one number as its answer.
+// What the loader links: seven calls, each with the loader's one number as its answer.
 ghost use mathlib.Core.Path.{_≡_};
 ghost use lib.ListN.{length};
-ghost use Rattle.xm.specs.Table.{checkLoader};
+ghost use Rattle.xm.specs.Table.{checkLoader, checkIntoLoader, roomOf};
 ghost use Rattle.xm.specs.Packing.{unpackLoader, unpackAfter, packLoader, packAfter};
 ghost use Rattle.xm.specs.Press.{pressLoader, pressAfter};
+ghost use Rattle.xm.specs.Delta.{decodeLoader, decodeLimitedAfter, codeLoader, codeLimitedAfter};
+ghost use Rattle.tables.specs.Into.{lent, tablesThen};
 
 #[no_mangle]
 pub extern "C" fn fiddlemarsh_check(file: &[u8]) -> u64
@@ -48,4 +50,39 @@ pub extern "C" fn fiddlemarsh_press(file: &[u8], out: &mut [u8]) -> u64
 {
     let pressed = press::press(file, out);
     loader::press_number(pressed)
+}
+
+// Three numbers to a pattern, three to an instrument; of a sample four, and its two tunes apart.
+#[no_mangle]
+pub extern "C" fn fiddlemarsh_tables(
+    file: &[u8],
+    patterns: &mut [u32],
+    instruments: &mut [u32],
+    samples: &mut [u32],
+    tunes: &mut [i8],
+) -> u64
+    ensures answer { λ r. ⌜ r ≡ checkIntoLoader (roomOf (lent (now (patterns .entry)) (now (instruments .entry)) (now (samples .entry)) (now (tunes .entry)))) (now (file .entry)) ⌝ }
+    ensures memory { λ _. ⌜ lent (now (patterns .exit)) (now (instruments .exit)) (now (samples .exit)) (now (tunes .exit))
+        ≡ tablesThen (now (file .entry)) (lent (now (patterns .entry)) (now (instruments .entry)) (now (samples .entry)) (now (tunes .entry))) ⌝ }
+{
+    let verdict = tables::check_into(file, patterns, instruments, samples, tunes);
+    loader::check_number(verdict)
+}
+
+#[no_mangle]
+pub extern "C" fn fiddlemarsh_decode(width: usize, bytes: &[u8], values: &mut [i16]) -> u64
+    ensures answer { λ r. ⌜ r ≡ decodeLoader width (now (bytes .entry)) (length (now (values .entry))) ⌝ }
+    ensures memory { λ _. ⌜ now (values .exit) ≡ decodeLimitedAfter width (now (bytes .entry)) (now (values .entry)) ⌝ }
+{
+    let decoded = loader::limit::decode(width, bytes, values);
+    loader::decode_number(decoded)
+}
+
+#[no_mangle]
+pub extern "C" fn fiddlemarsh_code(width: usize, values: &[i16], bytes: &mut [u8]) -> u64
+    ensures answer { λ r. ⌜ r ≡ codeLoader width (now (values .entry)) (length (now (bytes .entry))) ⌝ }
+    ensures memory { λ _. ⌜ now (bytes .exit) ≡ codeLimitedAfter width (now (values .entry)) (now (bytes .entry)) ⌝ }
+{
+    let coded = loader::limit::code(width, values, bytes);
+    loader::code_number(coded)
 }
