@@ -118,6 +118,39 @@ uint64_t fiddlemarsh_pack(size_t rows, size_t channels, const uint8_t *cells, si
    Refusals: those of the check, then 14. */
 uint64_t fiddlemarsh_press(const uint8_t *file, size_t file_len, uint8_t *out, size_t out_len);
 
+/* Checks a whole module, and fills tables of what stands where in it. Their lengths count numbers, not bytes and not rows.
+   To a row belong, in this order:
+     patterns     3 numbers: the place of the data, its size in bytes, and the rows that it reads as
+     instruments  3 numbers: the place, the count of its samples, and the number of its first sample (with no samples, of the next
+                  sample there is)
+     samples      4 numbers: the place of the header, the place of the data, its length in bytes, and its width, 8 or 16
+     tunes        2 numbers for each sample: finetune and relative note, from -128 to 127
+   Rows stand in the order of the file, and patterns, instruments and samples are numbered from 0. Of a pattern row the size and
+   the rows are what fiddlemarsh_unpack takes as data_len and rows; of a sample row, length and width are fiddlemarsh_decode's.
+   Returns the end, as fiddlemarsh_check does, and has filled as many rows as the module has of each; numbers behind them stay.
+   Always enough are 256 x 3 numbers for patterns, 128 x 3 for instruments, 2048 x 4 for samples and 2048 x 2 for tunes. A table
+   that needs no row may be NULL with length 0; numbers at the end that make no whole row are room for none. Tables are aligned as
+   their types ask.
+   Refusals: 1 to 13 with the places that the check gives; then 14, place 0, if any table is too short, and then none is changed. */
+uint64_t fiddlemarsh_tables(const uint8_t *file, size_t file_len, uint32_t *patterns, size_t patterns_len, uint32_t *instruments,
+                            size_t instruments_len, uint32_t *samples, size_t samples_len, int8_t *tunes, size_t tunes_len);
+
+/* Turns a sample's stored bytes into its values: each value is the one before plus the stored difference, wrapped to the width.
+   width is 8 (a byte for each value) or 16 (two bytes for each, low byte first). bytes_len counts bytes, at most 16,777,216, and
+   values_len counts values, from -128 to 127 at 8 bits and from -32,768 to 32,767 at 16.
+   Returns how many values were written, from the front of values: bytes_len x 8 / width. Values behind them stay. No bytes give
+   no values, and then both slices may be NULL. values is aligned as its type asks.
+   Refusals, all with place 0: 16 (width not 8 or 16, bytes_len odd at 16 bits or above 16,777,216), then 14. */
+uint64_t fiddlemarsh_decode(size_t width, const uint8_t *bytes, size_t bytes_len, int16_t *values, size_t values_len);
+
+/* Turns a sample's values into the bytes that are stored: fiddlemarsh_decode at the same width gives the values back, where it
+   takes that many bytes.
+   values_len counts values, at most 16,777,216, and bytes_len counts bytes. At 8 bits each value is from -128 to 127.
+   Returns how many bytes were written, from the front of bytes: values_len x width / 8. Bytes behind them stay. values is aligned
+   as its type asks.
+   Refusals, all with place 0: 16 (width not 8 or 16, values_len above 16,777,216, a value that 8 bits do not hold), then 14. */
+uint64_t fiddlemarsh_code(size_t width, const int16_t *values, size_t values_len, uint8_t *bytes, size_t bytes_len);
+
 /* Taking an answer apart. */
 
 /* 1 if the call was refused, else 0. */

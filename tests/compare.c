@@ -1,4 +1,4 @@
-/* compare.c: the library's four calls against the reference, over many thousand modules, patterns and cells, whole and damaged.
+/* compare.c: the library's calls against the reference, over many thousand modules, patterns, cells and samples, whole and damaged.
 
    Each answer and each byte of lent memory is compared (lent.c). Everything is made from fixed seeds: a run does the same on
    every machine. Prints a line for each group and a total; on the first difference it says what differs, prints the input,
@@ -20,12 +20,50 @@
 #define CELLS_MOST FIDDLEMARSH_CELLS_MOST
 #define FILE_MOST FIDDLEMARSH_FILE_MOST
 #define DATA_MOST FIDDLEMARSH_DATA_MOST
+#define DELTA_MOST FIDDLEMARSH_FILE_MOST
 #define SMALL_RESULT 96 /* cells or packed bytes up to here are tried with every room */
 
 /* Calls */
 
+enum { TABLES = 4 };
+
+static const size_t strides[TABLES] = {3, 3, 4, 2}; /* numbers to a row */
+
+static uint64_t tables(const uint8_t *file, size_t length, const size_t rooms[TABLES])
+{
+    return lent_compare(&(struct call){
+        .name = CALL_TABLES, .input = file, .input_len = length, .room = rooms[0], .rooms = {rooms[1], rooms[2], rooms[3]}});
+}
+
+/* The numbers that a file's tables need; of a refused file none. */
+static void table_needs(const uint8_t *file, size_t length, size_t needs[TABLES])
+{
+    struct reference_checked checked = reference_check(file, length);
+    const size_t rows[TABLES] = {checked.patterns, checked.instruments, checked.samples, checked.samples};
+    for (unsigned i = 0; i < TABLES; i++)
+        needs[i] = strides[i] * rows[i];
+}
+
+/* From file to file with other rooms: one number too few in each table in turn, a last row that is not whole, more rows, and
+   twice just what is needed. */
+static void tables_in_turn(const uint8_t *file, size_t length)
+{
+    enum { NOT_WHOLE = TABLES, MORE, TURNS = 8 };
+    static unsigned turns;
+    unsigned turn = turns++ % TURNS;
+    size_t rooms[TABLES];
+    table_needs(file, length, rooms);
+    for (unsigned i = 0; i < TABLES; i++)
+        rooms[i] += turn == NOT_WHOLE ? 1 : turn == MORE ? 2 * strides[i] + 1 : 0;
+    if (turn < TABLES && rooms[turn] > 0)
+        rooms[turn]--;
+    tables(file, length, rooms);
+}
+
+/* Every check is made with tables, too. */
 static uint64_t check(const uint8_t *file, size_t length)
 {
+    tables_in_turn(file, length);
     return lent_compare(&(struct call){.name = CALL_CHECK, .input = file, .input_len = length});
 }
 
@@ -36,12 +74,24 @@ static uint64_t press(const uint8_t *file, size_t length, size_t room)
 
 static uint64_t unpack(size_t rows, size_t channels, const uint8_t *data, size_t length, size_t room)
 {
-    return lent_compare(&(struct call){CALL_UNPACK, rows, channels, data, length, room});
+    return lent_compare(&(struct call){
+        .name = CALL_UNPACK, .rows = rows, .channels = channels, .input = data, .input_len = length, .room = room});
 }
 
 static uint64_t pack(size_t rows, size_t channels, const uint8_t *cells, size_t length, size_t room)
 {
-    return lent_compare(&(struct call){CALL_PACK, rows, channels, cells, length, room});
+    return lent_compare(&(struct call){
+        .name = CALL_PACK, .rows = rows, .channels = channels, .input = cells, .input_len = length, .room = room});
+}
+
+static uint64_t decode(size_t width, const uint8_t *bytes, size_t length, size_t room)
+{
+    return lent_compare(&(struct call){.name = CALL_DECODE, .input = bytes, .input_len = length, .room = room, .width = width});
+}
+
+static uint64_t code(size_t width, const int16_t *values, size_t length, size_t room)
+{
+    return lent_compare(&(struct call){.name = CALL_CODE, .input = values, .input_len = length, .room = room, .width = width});
 }
 
 /* Check, and press with room that does, that just does, and that just doesn't. */
@@ -143,7 +193,7 @@ static void try_piece(const struct piece *piece)
     uint8_t input[16], want[16], got[16];
     size_t length = from_hex(piece->input, input);
     size_t written = from_hex(piece->output, want);
-    struct call call = {piece->name, 1, 1, input, length, sizeof got};
+    struct call call = {.name = piece->name, .rows = 1, .channels = 1, .input = input, .input_len = length, .room = sizeof got};
     uint64_t answer = lent_compare(&call);
     if (answer != piece->answer)
         lent_unexpected(&call, "not the answer of the paper's bench piece", answer);
@@ -153,6 +203,36 @@ static void try_piece(const struct piece *piece)
         fiddlemarsh_pack(1, 1, input, length, got, sizeof got);
     if (memcmp(got, want, written) != 0)
         lent_unexpected(&call, "not the bytes of the paper's bench piece", answer);
+}
+
+struct delta_piece {
+    size_t width;
+    const char *bytes; /* hex */
+    size_t count;
+    int16_t values[6];
+};
+
+static const struct delta_piece delta_pieces[] = {
+    {8, "0001FF0201FE", 6, {0, 1, 0, 2, 3, 1}},
+    {8, "7F01", 2, {127, -128}},
+    {16, "FF7F0100", 2, {32767, -32768}},
+};
+
+static void try_delta_piece(const struct delta_piece *piece)
+{
+    uint8_t bytes[16], coded[16];
+    int16_t decoded[16];
+    size_t length = from_hex(piece->bytes, bytes);
+    struct call call = {.name = CALL_DECODE, .input = bytes, .input_len = length, .room = piece->count, .width = piece->width};
+    uint64_t values = lent_compare(&call);
+    fiddlemarsh_decode(piece->width, bytes, length, decoded, piece->count);
+    if (values != piece->count || memcmp(decoded, piece->values, sizeof decoded[0] * piece->count) != 0)
+        lent_unexpected(&call, "not the values of the paper's bench piece", values);
+    call = (struct call){.name = CALL_CODE, .input = decoded, .input_len = piece->count, .room = length, .width = piece->width};
+    uint64_t back = lent_compare(&call);
+    fiddlemarsh_code(piece->width, decoded, piece->count, coded, length);
+    if (back != length || memcmp(coded, bytes, length) != 0)
+        lent_unexpected(&call, "not the bytes of the paper's bench piece", back);
 }
 
 /* 336 header bytes (song length 1, 1 channel, 1 pattern, no instruments), then one pattern header. */
@@ -190,6 +270,8 @@ static void group_pieces(void)
 {
     for (size_t i = 0; i < COUNT(pieces); i++)
         try_piece(&pieces[i]);
+    for (size_t i = 0; i < COUNT(delta_pieces); i++)
+        try_delta_piece(&delta_pieces[i]);
     try_bench_file(276, 64, 345);
     try_bench_file(275, 64, REFUSED(4, 0));
     try_bench_file(276, 0, REFUSED(6, 336));
@@ -825,6 +907,212 @@ static void group_longest_pressed(void)
     module_free(&module);
 }
 
+/* Tables */
+
+static void try_table_rooms(const uint8_t *file, size_t length)
+{
+    size_t needs[TABLES], rooms[TABLES];
+    table_needs(file, length, needs);
+    for (unsigned table = 0; table < TABLES; table++) {
+        memcpy(rooms, needs, sizeof rooms);
+        for (rooms[table] = 0; rooms[table] <= needs[table] + 2 * strides[table]; rooms[table]++)
+            tables(file, length, rooms);
+    }
+}
+
+/* Some tables one row short, the others with just enough or more: 14 of any of them leaves all as they are. */
+static void try_short_tables(const uint8_t *file, size_t length)
+{
+    size_t needs[TABLES], rooms[TABLES];
+    table_needs(file, length, needs);
+    for (unsigned mask = 0; mask < 1u << TABLES; mask++)
+        for (size_t more = 0; more <= 5; more += 5) {
+            for (unsigned i = 0; i < TABLES; i++)
+                rooms[i] = mask >> i & 1 ? needs[i] - (needs[i] > 0 ? strides[i] : 0) : needs[i] + more;
+            tables(file, length, rooms);
+        }
+}
+
+static void group_table_rooms(void)
+{
+    for (uint64_t seed = 4101; seed < 4141; seed++) {
+        struct module module = small_module(seed);
+        must_accept(&module);
+        try_table_rooms(module.bytes, module.length);
+        try_short_tables(module.bytes, module.length);
+        try_table_rooms(module.bytes, module.length - 1);
+        module_free(&module);
+    }
+}
+
+static void group_table_shapes(void)
+{
+    struct chance chance = {4201};
+    struct module module = {0};
+    for (unsigned round = 0; round < 200; round++) {
+        struct shape shape = shape_by_chance(&chance, false);
+        module_build(&module, &shape, &chance);
+        try_short_tables(module.bytes, module.length);
+    }
+    module_free(&module);
+}
+
+/* The room that is always enough, and a number less of each, for a module that needs all of it. */
+static void try_most_tables(const uint8_t *file, size_t length)
+{
+    const size_t most[TABLES] = {256 * 3, 128 * 3, 2048 * 4, 2048 * 2};
+    size_t rooms[TABLES];
+    for (unsigned table = 0; table <= TABLES; table++) {
+        memcpy(rooms, most, sizeof rooms);
+        if (table < TABLES)
+            rooms[table]--;
+        uint64_t answer = tables(file, length, rooms);
+        must(fiddlemarsh_refusal(answer) == (table < TABLES ? FIDDLEMARSH_ROOM : FIDDLEMARSH_ACCEPTED), "not the most tables");
+    }
+}
+
+/* Deltas */
+
+/* Values at which something may turn, from the limits of 8 and of 16 bits. */
+static const int16_t turning_values[] = {0,    1,    2,    126,  127,   128,   129,   254,   255,    256,    257,    32766, 32767,
+                                         -1,   -2,   -127, -128, -129,  -130,  -255,  -256,  -257,   -32767, -32768, 255 * 128};
+
+static void bytes_by_chance(uint8_t *bytes, size_t count, struct chance *chance)
+{
+    for (size_t i = 0; i < count; i++)
+        bytes[i] = (uint8_t)chance_next(chance);
+}
+
+/* Values from -reach to reach - 1. */
+static void values_by_chance(int16_t *values, size_t count, uint32_t reach, struct chance *chance)
+{
+    for (size_t i = 0; i < count; i++)
+        values[i] = (int16_t)((int32_t)chance_below(chance, 2 * reach) - (int32_t)reach);
+}
+
+static void try_decode(size_t width, const uint8_t *bytes, size_t length)
+{
+    size_t needed = width == 8 ? length : length / 2;
+    decode(width, bytes, length, needed);
+    decode(width, bytes, length, needed + 3);
+    if (needed > 0)
+        decode(width, bytes, length, needed - 1);
+}
+
+static void try_code(size_t width, const int16_t *values, size_t length)
+{
+    size_t needed = width == 8 ? length : 2 * length;
+    code(width, values, length, needed);
+    code(width, values, length, needed + 3);
+    if (needed > 0)
+        code(width, values, length, needed - 1);
+}
+
+static void group_delta_arguments(void)
+{
+    static const size_t widths[] = {0,  1,  2,  4,   7,   8,     9,     12,             15,              16,              17,
+                                    24, 32, 64, 128, 264, 65552, 65544, TWO_TO(32) + 8, TWO_TO(32) + 16, TWO_TO(63) + 16, SIZE_MAX};
+    struct chance chance = {4301};
+    uint8_t bytes[9];
+    int16_t values[9];
+    for (size_t i = 0; i < COUNT(widths); i++)
+        for (size_t length = 0; length <= COUNT(bytes); length++)
+            for (size_t room = 0; room <= 2 * COUNT(bytes) + 2; room++) {
+                bytes_by_chance(bytes, length, &chance);
+                values_by_chance(values, length, room % 2 ? 128 : 129, &chance);
+                decode(widths[i], bytes, length, room);
+                code(widths[i], values, length, room);
+            }
+}
+
+/* Every value behind every turning one, at both widths; alone where 8 bits do not hold it. */
+static void group_delta_values(void)
+{
+    static int16_t pairs[2 * 65536], narrow[2 * 65536];
+    size_t held = 0;
+    for (size_t i = 0; i < COUNT(turning_values); i++) {
+        for (int32_t value = -32768; value < 32768; value++) {
+            pairs[2 * (value + 32768)] = turning_values[i];
+            pairs[2 * (value + 32768) + 1] = (int16_t)value;
+        }
+        try_code(16, pairs, COUNT(pairs));
+        try_decode(16, (const uint8_t *)pairs, sizeof pairs);
+        try_decode(8, (const uint8_t *)pairs, sizeof pairs);
+        for (size_t j = 0; j < COUNT(turning_values); j++)
+            try_code(8, (const int16_t[]){turning_values[i], turning_values[j]}, 2);
+    }
+    for (int32_t value = -32768; value < 32768; value++)
+        try_code(8, (const int16_t[]){(int16_t)value}, 1);
+    for (int16_t before = -128; before < 128; before++)
+        for (int16_t value = -128; value < 128; value++) {
+            narrow[held++] = before;
+            narrow[held++] = value;
+        }
+    try_code(8, narrow, held);
+}
+
+/* One value that 8 bits do not hold, or just hold, at every place of many. */
+static void group_delta_outside(void)
+{
+    enum { MANY = 70 };
+    int16_t values[MANY];
+    struct chance chance = {4401};
+    for (size_t place = 0; place < MANY; place++)
+        for (size_t i = 0; i < COUNT(turning_values); i++) {
+            values_by_chance(values, MANY, 128, &chance);
+            values[place] = turning_values[i];
+            code(8, values, MANY, MANY);
+            code(8, values, MANY, MANY - 1);
+            code(8, values, place + 1, place + 1);
+            code(16, values, MANY, 2 * MANY);
+        }
+}
+
+static void group_delta_chance(void)
+{
+    enum { MANY = 3000 };
+    static uint8_t bytes[MANY];
+    static int16_t values[MANY];
+    static const uint32_t reaches[] = {3, 128, 128, 129, 32768};
+    struct chance chance = {4501};
+    for (unsigned round = 0; round < 3000; round++) {
+        size_t length = chance_below(&chance, round % 10 == 0 ? MANY + 1 : 40);
+        bytes_by_chance(bytes, length, &chance);
+        values_by_chance(values, length, reaches[chance_below(&chance, COUNT(reaches))], &chance);
+        for (size_t width = 8; width <= 16; width += 8) {
+            try_decode(width, bytes, length);
+            try_code(width, values, length);
+        }
+    }
+}
+
+/* As many as a call takes, and more: with room that would do, and with none. */
+static void group_delta_limit(void)
+{
+    struct chance chance = {4601};
+    struct module noise = {0};
+    module_put_noise(&noise, 2 * DELTA_MOST + 4, &chance);
+    for (size_t width = 8; width <= 16; width += 8) {
+        size_t count = DELTA_MOST * 8 / width;
+        decode(width, noise.bytes, DELTA_MOST, count);
+        decode(width, noise.bytes, DELTA_MOST, count - 1);
+        decode(width, noise.bytes, DELTA_MOST + 1, DELTA_MOST + 1);
+        decode(width, noise.bytes, DELTA_MOST + 2, 0);
+    }
+    decode(16, noise.bytes, DELTA_MOST + 2, DELTA_MOST / 2 + 1);
+    int16_t *values = (int16_t *)(void *)noise.bytes;
+    code(16, values, DELTA_MOST, 2 * DELTA_MOST);
+    code(16, values, DELTA_MOST, 2 * DELTA_MOST - 1);
+    code(16, values, DELTA_MOST + 1, 2 * DELTA_MOST + 2);
+    values_by_chance(values, DELTA_MOST + 1, 128, &chance);
+    code(8, values, DELTA_MOST, DELTA_MOST);
+    code(8, values, DELTA_MOST + 1, DELTA_MOST + 1);
+    code(8, values, DELTA_MOST + 1, 0);
+    values[DELTA_MOST - 1] = 128;
+    code(8, values, DELTA_MOST, 0);
+    module_free(&noise);
+}
+
 /* The largest counts of everything, and samples up to the size limit. */
 static void group_large(void)
 {
@@ -835,6 +1123,7 @@ static void group_large(void)
     module_build(&module, &full, &chance);
     must_accept(&module);
     try_file(module.bytes, module.length);
+    try_most_tables(module.bytes, module.length);
     struct shape samples = {.song_length = 1, .channels = 4, .patterns = 1, .instruments = 2, .rows = 64, .cells = CELLS_DENSE,
                             .samples_least = 16, .samples_most = 16, .sample_length_least = 500000, .sample_length_most = 520000};
     module_build(&module, &samples, &chance);
@@ -860,6 +1149,10 @@ static const struct group groups[] = {
     {"the paper's bench pieces", group_pieces},
     {"modules: every cut", group_every_cut},
     {"modules: every room", group_every_room},
+    {"tables: every room", group_table_rooms},
+    {"decode and code: arguments at their limits", group_delta_arguments},
+    {"code: values outside 8 bits", group_delta_outside},
+    {"decode and code: samples by chance", group_delta_chance},
     {"modules: loops", group_loops},
     {"modules: every field at its limits", group_every_field},
     {"modules: every two faults", group_two_faults},
@@ -879,8 +1172,11 @@ static const struct group groups[] = {
     {"pack: cells of every shape", group_pack_shapes},
     {"modules: every shape", group_module_shapes},
     {"modules: every pattern form, 64 channels", group_wide_pattern_forms},
+    {"tables: modules of every shape", group_table_shapes},
+    {"decode and code: every value", group_delta_values},
     {"modules: large ones of every shape", group_large_shapes},
     {"modules: the longest data", group_longest_data},
+    {"decode and code: the most at once", group_delta_limit},
     {"modules: the largest", group_large},
     {"modules: the longest pressed", group_longest_pressed},
 };
@@ -901,6 +1197,12 @@ static void must_have_met_all(void)
     must_have_met(CALL_UNPACK, 16, 16);
     must_have_met(CALL_PACK, 9, 9);
     must_have_met(CALL_PACK, 14, 16);
+    must_have_met(CALL_TABLES, 0, 14);
+    for (enum call_name name = CALL_DECODE; name <= CALL_CODE; name++) {
+        must_have_met(name, 0, 0);
+        must_have_met(name, 14, 14);
+        must_have_met(name, 16, 16);
+    }
 }
 
 static uint64_t accepted_so_far(void)

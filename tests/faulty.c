@@ -1,4 +1,4 @@
-/* faulty.c: the four calls, answered by a copy of the reference that has a deliberate fault (REFERENCE_COPY names it). The
+/* faulty.c: the library's calls, answered by a copy of the reference that has a deliberate fault (REFERENCE_COPY names it). The
    comparison must notice. */
 
 #define REFERENCE_CALL static
@@ -24,4 +24,21 @@ uint64_t fiddlemarsh_pack(size_t rows, size_t channels, const uint8_t *cells, si
 uint64_t fiddlemarsh_press(const uint8_t *file, size_t file_len, uint8_t *out, size_t out_len)
 {
     return reference_loader_press(file, file_len, out, out_len);
+}
+
+uint64_t fiddlemarsh_tables(const uint8_t *file, size_t file_len, uint32_t *patterns, size_t patterns_len, uint32_t *instruments,
+                            size_t instruments_len, uint32_t *samples, size_t samples_len, int8_t *tunes, size_t tunes_len)
+{
+    return reference_loader_tables(file, file_len, patterns, patterns_len, instruments, instruments_len, samples, samples_len, tunes,
+                                   tunes_len);
+}
+
+uint64_t fiddlemarsh_decode(size_t width, const uint8_t *bytes, size_t bytes_len, int16_t *values, size_t values_len)
+{
+    return reference_loader_decode(width, bytes, bytes_len, values, values_len);
+}
+
+uint64_t fiddlemarsh_code(size_t width, const int16_t *values, size_t values_len, uint8_t *bytes, size_t bytes_len)
+{
+    return reference_loader_code(width, values, values_len, bytes, bytes_len);
 }

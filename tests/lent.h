@@ -6,20 +6,25 @@
 #include <stddef.h>
 #include <stdint.h>
 
-enum call_name { CALL_CHECK, CALL_UNPACK, CALL_PACK, CALL_PRESS, CALL_NAMES };
+enum call_name { CALL_CHECK, CALL_UNPACK, CALL_PACK, CALL_PRESS, CALL_TABLES, CALL_DECODE, CALL_CODE, CALL_NAMES };
 
-/* rows and channels are those of unpacking and packing; room is the length of the slice that is lent for the answer. */
+/* Lengths count what the slice holds: bytes, values of decoding and coding, numbers of a table. */
 struct call {
     enum call_name name;
-    size_t rows;
+    size_t rows;     /* rows and channels: of unpacking and packing */
     size_t channels;
-    const uint8_t *input;
+    const void *input;
     size_t input_len;
-    size_t room;
+    size_t room;     /* of what is lent for the answer; of the tables, that for patterns */
+    size_t rooms[3]; /* of the other tables: instruments, samples, tunes */
+    size_t width;    /* of decoding and coding */
 };
 
-/* The largest input or room of a call. */
-#define LENT_MOST (16777216 + 65536)
+/* The most bytes of a call's input or room. */
+#define LENT_MOST (2 * 16777216 + 65536)
+
+/* The most numbers that a table is lent with. */
+#define LENT_TABLE_MOST 16384
 
 /* Maps the memory, and takes over the signals of wild reads and writes. The input of a call that differs goes to dump_path. */
 void lent_start(const char *dump_path);

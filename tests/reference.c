@@ -14,6 +14,7 @@ enum {
     HEADER_SIZE_LEAST = 276,
     ORDER_TABLE = 256,
     PATTERN_HEADER = 9,
+    PATTERNS_MOST = 256,
     EMPTY_ROWS = 64,        /* of the standard empty pattern */
     ROWS_MOST = 256,
     CHANNELS_MOST = 64,
@@ -21,6 +22,7 @@ enum {
     CELL = 5,
     EMPTY_CELL = 128,       /* the lead byte of a marked cell without fields */
     NOTE_MOST = 97,
+    INSTRUMENTS_MOST = 128,
     INSTRUMENT_LEAST = 29,  /* with no samples */
     INSTRUMENT_FULL = 263,  /* with samples */
     INSTRUMENT_FIELDS = 33, /* note map, envelopes and the rest, up to the reserved bytes */
@@ -239,9 +241,9 @@ static struct header header_fields(const uint8_t *file)
 static bool counts_fit(const struct header *header)
 {
     return header->song_length >= 1 && header->song_length <= 256 &&
-           header->patterns >= 1 && header->patterns <= 256 &&
+           header->patterns >= 1 && header->patterns <= PATTERNS_MOST &&
            header->channels >= 1 && header->channels <= CHANNELS_MOST &&
-           header->instruments <= 128;
+           header->instruments <= INSTRUMENTS_MOST;
 }
 
 static struct reference_refusal try_header(const uint8_t *file, size_t file_len, struct header *header)
@@ -838,4 +840,78 @@ REFERENCE_CALL uint64_t reference_loader_press(const uint8_t *file, size_t file_
 {
     struct reference_count pressed = reference_press(file, file_len, out, out_len);
     return loader_number(pressed.refusal, pressed.count);
+}
+
+/* Numbers to a row of each table, and the most bytes or values of a delta call. */
+enum { PATTERN_NUMBERS = 3, INSTRUMENT_NUMBERS = 3, SAMPLE_NUMBERS = 4, SAMPLE_TUNES = 2, DELTA_MOST = 16777216 };
+
+static void put_pattern_numbers(const struct reference_pattern_row *rows, uint32_t count, uint32_t *to)
+{
+    for (; count > 0; count--, rows++, to += PATTERN_NUMBERS) {
+        to[0] = rows->data_place;
+        to[1] = rows->data_size;
+        to[2] = rows->rows;
+    }
+}
+
+static void put_instrument_numbers(const struct reference_instrument_row *rows, uint32_t count, uint32_t *to)
+{
+    for (; count > 0; count--, rows++, to += INSTRUMENT_NUMBERS) {
+        to[0] = rows->place;
+        to[1] = rows->samples;
+        to[2] = rows->first_sample;
+    }
+}
+
+static void put_sample_numbers(const struct reference_sample_row *rows, uint32_t count, uint32_t *to, int8_t *tunes)
+{
+    for (; count > 0; count--, rows++, to += SAMPLE_NUMBERS, tunes += SAMPLE_TUNES) {
+        to[0] = rows->header_place;
+        to[1] = rows->data_place;
+        to[2] = rows->length;
+        to[3] = rows->width;
+        tunes[0] = rows->finetune;
+        tunes[1] = rows->relative_note;
+    }
+}
+
+static size_t smaller(size_t a, size_t b)
+{
+    return a < b ? a : b;
+}
+
+REFERENCE_CALL uint64_t reference_loader_tables(const uint8_t *file, size_t file_len, uint32_t *patterns, size_t patterns_len,
+                                                uint32_t *instruments, size_t instruments_len, uint32_t *samples,
+                                                size_t samples_len, int8_t *tunes, size_t tunes_len)
+{
+    struct reference_pattern_row pattern_rows[PATTERNS_MOST];
+    struct reference_instrument_row instrument_rows[INSTRUMENTS_MOST];
+    struct reference_sample_row sample_rows[INSTRUMENTS_MOST * SAMPLES_MOST];
+    struct reference_tables tables = {.patterns = pattern_rows, .instruments = instrument_rows, .samples = sample_rows};
+    tables.pattern_room = patterns_len / PATTERN_NUMBERS;
+    tables.instrument_room = instruments_len / INSTRUMENT_NUMBERS;
+    tables.sample_room = smaller(samples_len / SAMPLE_NUMBERS, tunes_len / SAMPLE_TUNES);
+    struct reference_checked checked = reference_check_tables(file, file_len, &tables);
+    put_pattern_numbers(pattern_rows, checked.patterns, patterns); /* a refused file has counts of 0 */
+    put_instrument_numbers(instrument_rows, checked.instruments, instruments);
+    put_sample_numbers(sample_rows, checked.samples, samples, tunes);
+    return loader_number(checked.refusal, checked.end);
+}
+
+REFERENCE_CALL uint64_t reference_loader_decode(size_t width, const uint8_t *bytes, size_t bytes_len, int16_t *values,
+                                                size_t values_len)
+{
+    if (bytes_len > DELTA_MOST)
+        return loader_number(refuse(16, 0), 0);
+    struct reference_count decoded = reference_delta_decode(width, bytes, bytes_len, values, values_len);
+    return loader_number(decoded.refusal, decoded.count);
+}
+
+REFERENCE_CALL uint64_t reference_loader_code(size_t width, const int16_t *values, size_t values_len, uint8_t *bytes,
+                                              size_t bytes_len)
+{
+    if (values_len > DELTA_MOST)
+        return loader_number(refuse(16, 0), 0);
+    struct reference_count coded = reference_delta_code(width, values, values_len, bytes, bytes_len);
+    return loader_number(coded.refusal, coded.count);
 }

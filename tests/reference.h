@@ -119,12 +119,24 @@ REFERENCE_CALL struct reference_count reference_delta_code(size_t width, const i
 REFERENCE_CALL struct reference_stretch reference_sample_stretch(size_t file_len, const struct reference_sample_row *rows,
                                                                  size_t rows_lent, size_t number);
 
-/* The loader's one number for each of its four calls. */
+/* The loader's one number for each of its calls. */
 REFERENCE_CALL uint64_t reference_loader_check(const uint8_t *file, size_t file_len);
 REFERENCE_CALL uint64_t reference_loader_unpack(size_t rows, size_t channels, const uint8_t *data, size_t data_len,
                                                 uint8_t *cells, size_t cells_len);
 REFERENCE_CALL uint64_t reference_loader_pack(size_t rows, size_t channels, const uint8_t *cells, size_t cells_len,
                                               uint8_t *out, size_t out_len);
 REFERENCE_CALL uint64_t reference_loader_press(const uint8_t *file, size_t file_len, uint8_t *out, size_t out_len);
+
+/* Tables of flat numbers: three to a pattern, three to an instrument; of a sample four, and its two tunes apart. Lengths count
+   numbers, and what is left of a last row that is not whole counts for none. */
+REFERENCE_CALL uint64_t reference_loader_tables(const uint8_t *file, size_t file_len, uint32_t *patterns, size_t patterns_len,
+                                                uint32_t *instruments, size_t instruments_len, uint32_t *samples,
+                                                size_t samples_len, int8_t *tunes, size_t tunes_len);
+
+/* More than 16,777,216 bytes to decode or values to code get 16. */
+REFERENCE_CALL uint64_t reference_loader_decode(size_t width, const uint8_t *bytes, size_t bytes_len, int16_t *values,
+                                                size_t values_len);
+REFERENCE_CALL uint64_t reference_loader_code(size_t width, const int16_t *values, size_t values_len, uint8_t *bytes,
+                                              size_t bytes_len);
 
 #endif
