@@ -92,8 +92,8 @@ codeAfter width values lent = after (λ bytes. bytes) (coding width values (leng
 abbrev pub valuesOf : (head bytes : List ℕ) → List ℤ
 valuesOf head bytes = decoded (widthOf head) bytes
 
--- The loader's calls: "No answer may be read two ways: more than 16,777,216 bytes to decode or values to code get 16". The other causes of 16
--- have the same place, so it does not matter which of them is tried first.
+-- The loader's calls: so that no number can be read two ways, more than 16,777,216 bytes to decode or values to code get 16. The other causes of
+-- 16 have the same place, so it does not matter which of them is tried first.
 abbrev pub deltaMost : ℕ
 deltaMost = fileMost
 
@@ -106,7 +106,7 @@ decodingLimited width bytes room = behind (limitTest (length bytes)) (decoding w
 abbrev pub codingLimited : (width : ℕ) (values : List ℤ) (room : ℕ) → Answer (List ℕ)
 codingLimited width values room = behind (limitTest (length values)) (coding width values room)
 
--- The loader's numbers, "how many values" and "how many bytes", and the lent memory afterwards.
+-- The loader's numbers, how many values and how many bytes, and the lent memory afterwards.
 abbrev pub decodeLoader : (width : ℕ) (bytes : List ℕ) (room : ℕ) → ℕ
 decodeLoader width bytes room = loaderNumber countWritten (decodingLimited width bytes room)
 

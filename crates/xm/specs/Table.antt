@@ -154,7 +154,7 @@ checkingInto room file = answered checkedAs (do
 abbrev pub checkIntoNumbers : Room → (file : List ℕ) → List ℕ
 checkIntoNumbers room file = numbers checkResults (checkingInto room file)
 
--- The loader's number: "the end as for the check".
+-- The loader's number: the end, as of the check.
 abbrev pub checkIntoLoader : Room → (file : List ℕ) → ℕ
 checkIntoLoader room file = loaderNumber Checked.end (checkingInto room file)
 
