@@ -10,12 +10,12 @@ use crate::write::put_answer;
 use crate::write::put_lent;
 use crate::write::put_sum;
 use crate::write::refused;
+use asking::Asked;
+use asking::ask_sample;
+use asking::sample_refusal;
+use asking::sample_stretch;
 use samples::Coded;
 use samples::Decoded;
-use tables::ask::Asked;
-use tables::ask::ask_sample;
-use tables::ask::sample_refusal;
-use tables::ask::sample_stretch;
 
 fn of_asked(asked: Asked) -> Answer {
     match asked {

@@ -14,7 +14,7 @@ use Rattle.walk.specs.declared.Verdict.{Verdict}
 use Rattle.walk.specs.declared.Verdict.the-variants as verdict
 use Rattle.tables.specs.Accepted.{listIn}
 use Rattle.tables.specs.Place.{sampleRow, numbersOf, tunesOf}
-use Rattle.tables.specs.declared.ask.Stretch.{Stretch}
+use Rattle.asking.specs.declared.Stretch.{Stretch}
 use Rattle.tables.specs.declared.sample.SampleRow.{SampleRow}
 use Rattle.records.specs.declared.row.RowAsked.{RowAsked}
 use Rattle.records.specs.declared.row.RowAsked.the-variants as asked

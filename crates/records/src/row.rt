@@ -1,9 +1,9 @@
 // What decides of a row of records, in functions that take how many rows are lent and a row by value.
+use asking::Stretch;
+use asking::ask_row;
+use asking::asked_refusal;
+use asking::asked_stretch;
 use refusal::Fault;
-use tables::ask::Stretch;
-use tables::ask::ask_row;
-use tables::ask::asked_refusal;
-use tables::ask::asked_stretch;
 use tables::sample::SampleRow;
 use walk::Verdict;
 ghost use mathlib.Core.Path.{_≡_};

@@ -1,4 +1,4 @@
--- What holds of every answer and memory that meet the contracts of the check with tables and of the calls about a sample. Assumes nothing.
+-- What holds of every answer and memory that meet the contracts of the check with tables. Assumes nothing.
 use Prim.Native.Nat.{ℕ, zero, suc, _+_, _*_, _≤_, _<_}
 use mathlib.Core.List.{List, [], _∷_}
 use mathlib.Core.Path.{_≡_, refl, sym, ap, _∙_}
@@ -7,14 +7,14 @@ use lib.IntN.{ℤ}
 use lib.ListN.{length, getD, drop}
 use Rattle.xm.specs.Number.{Bytes, part}
 use Rattle.xm.specs.Format.{joined}
-use Rattle.xm.specs.Answer.{Answer, gives, refuses, numberOf}
+use Rattle.xm.specs.Answer.{Answer, gives, refuses}
 use Rattle.xm.specs.Stored.{Pattern, standard}
 use Rattle.xm.specs.Packing.{cellBytes, unpacking}
 use Rattle.xm.specs.Instrument.{Instrument}
 use Rattle.xm.specs.Delta.{decoding, valuesOf}
 use Rattle.xm.specs.Press.{contentOf}
 use Rattle.xm.specs.Table.{PatternRow, SampleRow, patternRows, sampleRows, Checked, checkIntoNumbers, checkingInto, patternStride, sampleStride, patternNumbers, sampleNumbers, Tables, Room, roomOf, tablesAfter}
-use Rattle.xm.specs.Asking.{Lies, stretchOf, askingFlat, askNumbers, noRow}
+use Rattle.xm.specs.Asking.{stretchOf, askingFlat, noRow}
 use Rattle.xm.specs.Demands.{RowUnpacks, RowsUnpack, RowDecodes, RowsDecode, AcceptedFile, liesAt}
 use Rattle.xm.proofs.Accepted.{accepted-files, number-at}
 use Rattle.refusal.specs.declared.Fault.{Fault}
@@ -22,20 +22,11 @@ use Rattle.walk.specs.declared.Verdict.{Verdict}
 use Rattle.walk.specs.declared.Verdict.the-variants.{Refused}
 use Rattle.walk.specs.File.{verdictOf, verdictNumbers}
 use Rattle.walk.proofs.Calls.{verdict-numbers}
-use Rattle.tables.specs.declared.ask.Asked.{Asked}
-use Rattle.tables.specs.Ask.{askedOf, askedNumbers}
 use Rattle.tables.proofs.IntoLaws.{into-accepted}
 
 -- The numbers are the paper's
 pub into-numbers : (room : Room) (file : List ℕ) {answer : Verdict} → answer ≡ verdictOf (checkingInto room file) → verdictNumbers answer ≡ checkIntoNumbers room file
 into-numbers room file met = ap verdictNumbers met ∙ verdict-numbers (checkingInto room file)
-
-asked-same : (answer : Answer Lies) → askedNumbers (askedOf answer) ≡ askNumbers answer
-asked-same (gives lies) = refl
-asked-same (refuses r) = refl
-
-pub asked-numbers : (file table : List ℕ) (number : ℕ) {answer : Asked} → answer ≡ askedOf (askingFlat file table number) → askedNumbers answer ≡ askNumbers (askingFlat file table number)
-asked-numbers file table number met = ap askedNumbers met ∙ asked-same (askingFlat file table number)
 
 -- No second answer fits, nor other tables
 pub into-once : (room : Room) (file : List ℕ) {answer other : Verdict} → answer ≡ verdictOf (checkingInto room file) → other ≡ verdictOf (checkingInto room file) → answer ≡ other
@@ -43,16 +34,6 @@ into-once room file met e = met ∙ sym e
 
 pub tables-once : (room : Room) (file : List ℕ) (lent : Tables) {after other : Tables} → after ≡ tablesAfter (checkingInto room file) lent → other ≡ tablesAfter (checkingInto room file) lent → after ≡ other
 tables-once room file lent met e = met ∙ sym e
-
-pub asked-once : (file table : List ℕ) (number : ℕ) {answer other : Asked} → answer ≡ askedOf (askingFlat file table number) → other ≡ askedOf (askingFlat file table number) → answer ≡ other
-asked-once file table number met e = met ∙ sym e
-
--- of a stretch and of the number that tells 0 from 16, flat or by record
-pub stretch-once : (file : List ℕ) (asked : Answer Lies) {stretch other : List ℕ} → stretch ≡ stretchOf file asked → other ≡ stretchOf file asked → stretch ≡ other
-stretch-once file asked met e = met ∙ sym e
-
-pub refusal-once : (asked : Answer Lies) {number other : ℕ} → number ≡ numberOf asked → other ≡ numberOf asked → number ≡ other
-refusal-once asked met e = met ∙ sym e
 
 -- A refused check leaves the tables as they were
 refused-tables : (answer : Answer Checked) (lent : Tables) {fault : Fault} → Refused fault ≡ verdictOf answer → tablesAfter answer lent ≡ lent

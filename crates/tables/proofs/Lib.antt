@@ -7,5 +7,4 @@ pub mod Stores
 pub mod FillLaws
 pub mod VerdictLaws
 pub mod IntoLaws
-pub mod AskLaws
 pub mod Calls

@@ -2,4 +2,3 @@ pub mod Accepted
 pub mod Place
 pub mod Sought
 pub mod Into
-pub mod Ask

@@ -1,16 +1,15 @@
-// The tables of an accepted file, filled in a second pass; and a sample asked for by number.
-pub mod ask;
+// The tables of an accepted file, filled in a second pass.
 pub mod fill;
 pub mod place;
 pub mod sample;
 
+use asking::SAMPLE_STRIDE;
 use fill::INSTRUMENT_STRIDE;
 use fill::PATTERN_STRIDE;
 use fill::fill_instruments;
 use fill::fill_patterns;
 use fill::fill_samples;
 use refusal::Fault;
-use sample::SAMPLE_STRIDE;
 use sample::TUNE_STRIDE;
 use walk::Module;
 use walk::Verdict;

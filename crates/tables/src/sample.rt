@@ -1,6 +1,7 @@
 // The row of a sample, found from the file alone.
 use crate::place::first_instrument;
 use crate::place::instrument_at;
+use asking::SAMPLE_STRIDE;
 use steps::sample::sample_head;
 ghost use mathlib.Core.Path.{_≡_};
 ghost use Prim.Native.Nat.{_+_, _*_, _<_, _≤_, _/_, _%_, _^_};
@@ -16,9 +17,7 @@ ghost use Rattle.tables.specs.Accepted.{listIn};
 ghost use Rattle.tables.specs.Place.{rowOf, sampleRow, numbersOf, tunesOf};
 ghost use Rattle.tables.specs.Sought.{soughtFrom, Seeks};
 
-// Numbers to a row, and tunes.
-pub const SAMPLE_STRIDE: usize = 4;
-
+// Tunes to a row.
 pub const TUNE_STRIDE: usize = 2;
 
 // Header place, data place, length in bytes, width (8 or 16), finetune, relative note.

@@ -1,10 +1,12 @@
 // A sample asked for by number, of a table over flat numbers, or by the numbers of its row.
-use crate::sample::SAMPLE_STRIDE;
 use refusal::Fault;
 ghost use mathlib.Core.Path.{_≡_};
 ghost use Rattle.xm.specs.Answer.{numberOf};
 ghost use Rattle.xm.specs.Asking.{asking, stretchOf, askingFlat};
-ghost use Rattle.tables.specs.Ask.{askedOf, liesIn, Inside, stretchAsked, refusalAsked};
+ghost use Rattle.asking.specs.Ask.{askedOf, liesIn, Inside, stretchAsked, refusalAsked};
+
+// Numbers to a sample's row in a table over flat numbers.
+pub const SAMPLE_STRIDE: usize = 4;
 
 // Where a sample's data lies.
 pub struct Stretch {

@@ -1,9 +1,9 @@
--- `tables::ask::asked_refusal` meets its contract. Assumes nothing.
+-- `asking::asked_refusal` meets its contract. Assumes nothing.
 use mathlib.Core.Path.{sym, ap}
 use borrow.Author.Needs.{needs}
-use Rattle.tables.specs.Ask.{refusalAsked}
-use Rattle.tables.proofs.ask.asked_refusal.Statement.{statement}
-use Rattle.tables.proofs.ask.asked_refusal.Tie as tie
+use Rattle.asking.specs.Ask.{refusalAsked}
+use Rattle.asking.proofs.asked_refusal.Statement.{statement}
+use Rattle.asking.proofs.asked_refusal.Tie as tie
 
 enum-known-asked : tie.Need-enum-known-asked
 enum-known-asked c = search needs

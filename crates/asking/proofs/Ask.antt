@@ -10,10 +10,10 @@ use Rattle.xm.specs.Asking.{Lies, asking, stretchOf}
 use Rattle.xm.proofs.Answer.{gives-passed, gives-same}
 use Rattle.xm.proofs.Accepted.{asks-exactly}
 use Rattle.refusal.specs.Fault.{faultOf}
-use Rattle.tables.specs.Ask.{askedOf, liesIn, Inside, stretchAsked, refusalAsked}
-use Rattle.tables.specs.declared.ask.Stretch.{Stretch}
-use Rattle.tables.specs.declared.ask.Asked.{Asked}
-use Rattle.tables.specs.declared.ask.Asked.the-variants as asked
+use Rattle.asking.specs.Ask.{askedOf, liesIn, Inside, stretchAsked, refusalAsked}
+use Rattle.asking.specs.declared.Stretch.{Stretch}
+use Rattle.asking.specs.declared.Asked.{Asked}
+use Rattle.asking.specs.declared.Asked.the-variants as asked
 
 -- The answer, by the tests that were made
 module _ (file : List ℕ) (rows number : ℕ) (row : Stretch) where

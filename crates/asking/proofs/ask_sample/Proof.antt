@@ -1,12 +1,12 @@
--- `tables::ask::ask_sample` meets its contract. Assumes nothing.
+-- `asking::ask_sample` meets its contract. Assumes nothing.
 use Prim.Native.Nat.{_+_, _*_}
 use mathlib.Core.Path.{ap, _∙_}
 use native.Mathlib.Omega.{arith}
-use Rattle.tables.specs.Ask.{askedOf}
-use Rattle.tables.proofs.AskLaws.{ask-beyond}
+use Rattle.asking.specs.Ask.{askedOf}
+use Rattle.asking.proofs.Ask.{ask-beyond}
 use borrow.Author.Needs.{needs}
-use Rattle.tables.proofs.ask.ask_sample.Statement.{statement}
-use Rattle.tables.proofs.ask.ask_sample.Tie as tie
+use Rattle.asking.proofs.ask_sample.Statement.{statement}
+use Rattle.asking.proofs.ask_sample.Tie as tie
 
 mul-at : tie.Need-mul-at
 mul-at c = search needs

@@ -6,9 +6,9 @@ use Rattle.xm.specs.Number.{part}
 use Rattle.xm.specs.Answer.{Answer, gives, refuses}
 use Rattle.xm.specs.Asking.{Lies}
 use Rattle.refusal.specs.Fault.{faultOf}
-use Rattle.tables.specs.declared.ask.Stretch.{Stretch}
-use Rattle.tables.specs.declared.ask.Asked.{Asked}
-use Rattle.tables.specs.declared.ask.Asked.the-variants as asked
+use Rattle.asking.specs.declared.Stretch.{Stretch}
+use Rattle.asking.specs.declared.Asked.{Asked}
+use Rattle.asking.specs.declared.Asked.the-variants as asked
 
 abbrev pub askedOf : Answer Lies → Asked
 askedOf (gives lies) = asked.Lies (record { place = lies .place; length = lies .size })

@@ -1,9 +1,9 @@
--- `tables::ask::ask_row` meets its contract. Assumes nothing.
+-- `asking::ask_row` meets its contract. Assumes nothing.
 use native.Mathlib.Omega.{arith}
-use Rattle.tables.proofs.AskLaws.{ask-lies, ask-refused}
+use Rattle.asking.proofs.Ask.{ask-lies, ask-refused}
 use borrow.Author.Needs.{needs}
-use Rattle.tables.proofs.ask.ask_row.Statement.{statement}
-use Rattle.tables.proofs.ask.ask_row.Tie as tie
+use Rattle.asking.proofs.ask_row.Statement.{statement}
+use Rattle.asking.proofs.ask_row.Tie as tie
 
 sub-if3 : tie.Need-sub-if3
 sub-if3 c = search needs

@@ -1,13 +1,13 @@
--- `tables::ask::asked_stretch` meets its contract. Assumes nothing.
+-- `asking::asked_stretch` meets its contract. Assumes nothing.
 use Prim.Native.Nat.{ℕ, _+_, _-_}
 use mathlib.Core.Path.{_≡_, sym, ap, _∙_}
 use native.Mathlib.Omega.{arith}
 use Rattle.xm.specs.Number.{part}
-use Rattle.tables.specs.Ask.{stretchAsked}
-use Rattle.tables.proofs.AskLaws.{lies-inside}
+use Rattle.asking.specs.Ask.{stretchAsked}
+use Rattle.asking.proofs.Ask.{lies-inside}
 use borrow.Author.Needs.{needs}
-use Rattle.tables.proofs.ask.asked_stretch.Statement.{statement}
-use Rattle.tables.proofs.ask.asked_stretch.Tie as tie
+use Rattle.asking.proofs.asked_stretch.Statement.{statement}
+use Rattle.asking.proofs.asked_stretch.Tie as tie
 
 enum-known-asked : tie.Need-enum-known-asked
 enum-known-asked c = search needs
