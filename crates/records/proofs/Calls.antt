@@ -1,19 +1,21 @@
 -- What holds of every answer and memory that meet the contracts of the check with records and of the calls about a record. Assumes nothing.
-use Prim.Native.Nat.{ℕ, zero, suc, _/_, _<_, _≤_, min}
+use Prim.Native.Nat.{ℕ, zero, suc, _+_, _/_, _<_, _≤_, min}
+use mathlib.Core.Bool.{Bool, true, false}
 use mathlib.Core.List.{List, [], _∷_, _++_, map}
 use mathlib.Core.Path.{_≡_, refl, sym, ap, ap₂, _∙_}
+use lib.Dec.{leb}
 use lib.IntN.{ℤ}
 use lib.ListN.{length, getD, take, drop, length-map, List·getD-append, List·getD-map}
 use lib.Seq.{take-append-seam}
 use native.Mathlib.Omega.{arith}
 use Rattle.xm.specs.Number.{Bytes}
-use Rattle.xm.specs.Got.{Refusal, _at_}
+use Rattle.xm.specs.Got.{Refusal, _at_, _>>_, ensure, checked}
 use Rattle.xm.specs.Format.{joined}
-use Rattle.xm.specs.Answer.{Answer, gives, refuses, inFront}
+use Rattle.xm.specs.Answer.{Answer, gives, refuses, numberOf, inFront}
 use Rattle.xm.specs.Delta.{decoding}
 use Rattle.xm.specs.Table.{Checked, sampleRows, sampleStride, tuneStride, checkIntoNumbers, checkingInto, roomWith, rowsAfter, Tables, tablesAfter}
 use Rattle.xm.specs.Table as paper
-use Rattle.xm.specs.Asking.{stretchOf, askingRows, noRow}
+use Rattle.xm.specs.Asking.{Lies, asking, stretchOf, askingRows, noRow}
 use Rattle.xm.specs.Demands.{AcceptedFile, liesAt}
 use Rattle.xm.proofs.Accepted.{accepted-files}
 use Rattle.xm.proofs.Table.{joined-map}
@@ -25,10 +27,10 @@ use Rattle.tables.specs.Place.{sampleRow, numbersOf, tunesOf}
 use Rattle.tables.specs.declared.sample.SampleRow.{SampleRow}
 use Rattle.tables.proofs.Calls.{into-numbers, decodes-at, valuesAt}
 use Rattle.tables.proofs.IntoLaws.{into-accepted}
-use Rattle.records.specs.Records.{rowOf, rowsOf, recordsOf, noRecord, checkedRecords, recordsAfter, rowAsking, rowAskingIn, rowAskedOf, rowAskedNumbers, rowAskedTunes, rowNumbers, rowTunes}
+use Rattle.records.specs.Records.{rowOf, rowsOf, recordsOf, noRecord, checkedRecords, recordsAfter, rowAsking, rowAskingIn, rowAskedOf, rowsGiven, rowAskedNumbers, rowAskedTunes, rowNumbers, rowTunes}
 use Rattle.records.specs.declared.row.RowAsked.{RowAsked}
 use Rattle.records.specs.declared.row.RowAsked.the-variants as asked
-use Rattle.records.proofs.Records.{Told, row-lent, row-beyond, asks-row}
+use Rattle.records.proofs.Records.{Told, row-lent, row-beyond}
 
 -- The numbers are the paper's
 pub records-numbers : (file patterns instruments : List ℕ) (records : List SampleRow) {answer : Verdict} → answer ≡ verdictOf (checkedRecords file patterns instruments records)
@@ -43,6 +45,16 @@ tunes-same : (answer : Answer paper.SampleRow) → rowAskedTunes (rowAskedOf ans
 tunes-same (gives row) = refl
 tunes-same (refuses r) = refl
 
+-- The data of the row that is given back: the same question as by its number
+asks-given : (file : List ℕ) (rows : List paper.SampleRow) (number : ℕ)
+    → askingRows file (rowsGiven (rowAskedOf (rowAskingIn rows number))) 0 ≡ askingRows file rows number
+unfolding asking rowAsking checked ensure _>>_
+asks-given file rows number = go (leb (number + 1) (length rows)) refl
+  where
+    go : (b : Bool) → leb (number + 1) (length rows) ≡ b → askingRows file (rowsGiven (rowAskedOf (rowAskingIn rows number))) 0 ≡ askingRows file rows number
+    go true q = rw q
+    go false q = rw q
+
 module _ (records : List SampleRow) (number : ℕ) {answer : RowAsked} (met : answer ≡ rowAskedOf (rowAskingIn (rowsOf records) number)) where
   pub row-numbers : rowAskedNumbers answer ≡ rowNumbers (rowAskingIn (rowsOf records) number)
   row-numbers = ap rowAskedNumbers met ∙ numbers-same (rowAskingIn (rowsOf records) number)
@@ -51,14 +63,22 @@ module _ (records : List SampleRow) (number : ℕ) {answer : RowAsked} (met : an
   row-tunes = ap rowAskedTunes met ∙ tunes-same (rowAskingIn (rowsOf records) number)
 
   -- A row lent is given as it stands, and 16 else
-  asked-here : answer ≡ rowAskedOf (rowAsking (length records) number (rowOf (getD records number noRecord)))
-  asked-here = met ∙ sym (ap rowAskedOf (asks-row records number))
-
   pub row-given : number < length records → answer ≡ asked.Row (getD records number noRecord)
-  row-given low = asked-here ∙ sym (row-lent (length records) number (getD records number noRecord) low)
+  row-given low = met ∙ sym (row-lent records number low)
 
   pub row-refused : length records ≤ number → answer ≡ asked.Refused (faultOf (16 at 0))
-  row-refused high = asked-here ∙ sym (row-beyond (length records) number (getD records number noRecord) high)
+  row-refused high = met ∙ sym (row-beyond records number high)
+
+  -- What is asked with the row that was given back is asked by its number: of its stretch, and of the number that tells 0 from 16
+  asked-by-number : (file : List ℕ) → askingRows file (rowsGiven answer) 0 ≡ askingRows file (rowsOf records) number
+  asked-by-number file = ap (λ (row : RowAsked). askingRows file (rowsGiven row) 0) met ∙ asks-given file (rowsOf records) number
+
+  pub stretch-by-number : (file : List ℕ) {stretch : List ℕ} → stretch ≡ stretchOf file (askingRows file (rowsGiven answer) 0)
+      → stretch ≡ stretchOf file (askingRows file (rowsOf records) number)
+  stretch-by-number file told = told ∙ ap (stretchOf file) (asked-by-number file)
+
+  pub refusal-by-number : (file : List ℕ) {refusal : ℕ} → refusal ≡ numberOf (askingRows file (rowsGiven answer) 0) → refusal ≡ numberOf (askingRows file (rowsOf records) number)
+  refusal-by-number file told = told ∙ ap (λ (a : Answer Lies). numberOf a) (asked-by-number file)
 
   -- No second answer fits
   pub row-once : (other : RowAsked) → other ≡ rowAskedOf (rowAskingIn (rowsOf records) number) → answer ≡ other

@@ -1,7 +1,7 @@
 -- The laws that the walks and the covered functions rest on. Assumes nothing.
 use Prim.Native.Nat.{ℕ, zero, suc, _≤_, _<_}
 use mathlib.Core.List.{List, [], _∷_}
-use mathlib.Core.Path.{_≡_, refl, sym, ap, ap₂, _∙_}
+use mathlib.Core.Path.{_≡_, refl, sym, ap, _∙_}
 use native.Mathlib.Omega.{arith}
 use lib.ListN.{length, getD, set, take, drop, length-map, length-append, length-take, length-drop, List·getD-map}
 use lib.Seq.{take-all}
@@ -10,7 +10,7 @@ use Rattle.xm.specs.Answer.{Answer, gives, refuses, inFront}
 use Rattle.xm.specs.Module.{Found, readFile}
 use Rattle.xm.specs.Table.{Checked, sampleRows, checkingInto}
 use Rattle.xm.specs.Table as paper
-use Rattle.xm.specs.Asking.{asking, noRow, askingRows}
+use Rattle.xm.specs.Asking.{noRow}
 use Rattle.xm.proofs.Got.{pass}
 use Rattle.xm.proofs.Answer.{answer-gives, answer-refuses, tests-fail}
 use Rattle.refusal.specs.Fault.{faultOf}
@@ -21,7 +21,7 @@ use Rattle.tables.specs.Into.{roomFor, patternsAfter, instrumentsAfter}
 use Rattle.tables.specs.Place.{sampleRow}
 use Rattle.tables.specs.declared.sample.SampleRow.{SampleRow}
 use Rattle.tables.proofs.IntoLaws.{into-accepted}
-use Rattle.records.specs.Records.{rowOf, rowsOf, recordsOf, noRecord, recordsIn, checkedRecords, recordsAfter, samplesOf, liesOf, rowAsking, rowAskingIn, rowAskedOf}
+use Rattle.records.specs.Records.{rowOf, rowsOf, recordsOf, noRecord, recordsIn, checkedRecords, recordsAfter, samplesOf, rowAsking, rowAskingIn, rowAskedOf}
 use Rattle.records.specs.declared.row.RowAsked.the-variants as asked
 
 -- One more record is stored
@@ -90,23 +90,15 @@ module _ (file patterns instruments : List ℕ) (lent : List SampleRow) where
         ∙ ap (λ (a : Answer Checked). recordsAfter a lent) room-same;
   }
 
--- A row asked for, by the test that was made
-module _ (rows number : ℕ) (row : SampleRow) where
-  pub row-lent : number < rows → asked.Row row ≡ rowAskedOf (rowAsking rows number (rowOf row))
+-- A row asked for, by the test that is made
+module _ (records : List SampleRow) (number : ℕ) where
+  pub row-lent : number < length records → asked.Row (getD records number noRecord) ≡ rowAskedOf (rowAskingIn (rowsOf records) number)
   unfolding rowAsking
-  row-lent h = sym (ap rowAskedOf (answer-gives _ (pass _ (omega arith, tt) refl)))
+  row-lent h =
+      sym (
+      ap rowAskedOf (answer-gives _ (pass _ (omega (arith, length-map records rowOf), tt) refl))
+      ∙ ap (λ (row : paper.SampleRow). asked.Row (sampleRow row)) (List·getD-map rowOf records number noRecord))
 
-  pub row-beyond : rows ≤ number → asked.Refused (faultOf (16 at 0)) ≡ rowAskedOf (rowAsking rows number (rowOf row))
+  pub row-beyond : length records ≤ number → asked.Refused (faultOf (16 at 0)) ≡ rowAskedOf (rowAskingIn (rowsOf records) number)
   unfolding rowAsking
-  row-beyond h = sym (ap rowAskedOf (answer-refuses _ (tests-fail _ _ (refl, tt) (λ all. omega (arith, all .0)))))
-
--- The row of a number, of records as of the paper's rows
-row-same : (records : List SampleRow) (number : ℕ) → rowOf (getD records number noRecord) ≡ getD (rowsOf records) number noRow
-row-same records number = sym (List·getD-map rowOf records number noRecord)
-
-pub asks-row : (records : List SampleRow) (number : ℕ) → rowAsking (length records) number (rowOf (getD records number noRecord)) ≡ rowAskingIn (rowsOf records) number
-asks-row records number = ap₂ (λ (rows : ℕ) (row : paper.SampleRow). rowAsking rows number row) (sym (length-map records rowOf)) (row-same records number)
-
-pub asks-data : (file : List ℕ) (records : List SampleRow) (number : ℕ)
-    → asking file (length records) number (liesOf (rowOf (getD records number noRecord))) ≡ askingRows file (rowsOf records) number
-asks-data file records number = ap₂ (λ (rows : ℕ) (row : paper.SampleRow). asking file rows number (liesOf row)) (sym (length-map records rowOf)) (row-same records number)
+  row-beyond h = sym (ap rowAskedOf (answer-refuses _ (tests-fail _ _ (refl, tt) (λ all. omega (arith, all .0, length-map records rowOf)))))

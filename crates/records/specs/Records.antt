@@ -8,13 +8,12 @@ use Rattle.xm.specs.Answer.{Answer, gives, refuses, answered, numbers, after}
 use Rattle.xm.specs.Module.{readFile}
 use Rattle.xm.specs.Table.{Checked, sampleRows, sampleTunes, roomWith, checkingInto}
 use Rattle.xm.specs.Table as paper
-use Rattle.xm.specs.Asking.{Lies, noRow}
+use Rattle.xm.specs.Asking.{noRow}
 use Rattle.refusal.specs.Fault.{faultOf}
 use Rattle.walk.specs.declared.Verdict.{Verdict}
 use Rattle.walk.specs.declared.Verdict.the-variants as verdict
 use Rattle.tables.specs.Accepted.{listIn}
 use Rattle.tables.specs.Place.{sampleRow, numbersOf, tunesOf}
-use Rattle.asking.specs.declared.Stretch.{Stretch}
 use Rattle.tables.specs.declared.sample.SampleRow.{SampleRow}
 use Rattle.records.specs.declared.row.RowAsked.{RowAsked}
 use Rattle.records.specs.declared.row.RowAsked.the-variants as asked
@@ -56,13 +55,6 @@ abbrev pub samplesOf : Verdict → ℕ
 samplesOf (verdict.Accepted found) = found .samples
 samplesOf (verdict.Refused fault) = 0
 
--- The data that a row speaks of.
-abbrev pub liesOf : paper.SampleRow → Lies
-liesOf row = record { place = row .dataPlace; size = row .size }
-
-abbrev pub stretchIn : SampleRow → Stretch
-stretchIn row = record { place = row .«data_place»; length = row .length }
-
 -- A row asked for by number: "a number at or above the rows lent" is out of its range.
 unfoldable pub rowAsking : (rows number : ℕ) (row : paper.SampleRow) → Answer paper.SampleRow
 rowAsking rows number row = answered (λ row used. row) (do
@@ -75,6 +67,11 @@ rowAskingIn rows number = rowAsking (length rows) number (getD rows number noRow
 abbrev pub rowAskedOf : Answer paper.SampleRow → RowAsked
 rowAskedOf (gives row) = asked.Row (sampleRow row)
 rowAskedOf (refuses r) = asked.Refused (faultOf r)
+
+-- What was given back, as a table of its own: of this one row, or of none.
+abbrev pub rowsGiven : RowAsked → List paper.SampleRow
+rowsGiven (asked.Row row) = rowOf row ∷ []
+rowsGiven (asked.Refused fault) = []
 
 -- The paper's numbers for each case: number and place of the refusal, header place, data place, length, width; and the two tunes.
 abbrev pub rowAskedNumbers : RowAsked → List ℕ

@@ -1,12 +1,9 @@
-// The sample table as a lent row of records, thin over the flat core. Functions over a slice of records are proved by hand: each
-// reads or stores a record and calls what decides.
+// The sample table as a lent row of records, thin over the flat core. Functions over a slice of records are proved by hand: a row read
+// back, and the filling. What is asked with a row that was read back takes it by value.
 pub mod row;
 
+use refusal::Fault;
 use row::RowAsked;
-use row::no_record;
-use row::row_asked;
-use row::row_refusal;
-use row::row_stretch;
 use row::samples_of;
 use tables::check_beside;
 use tables::sample::SampleRow;
@@ -15,47 +12,24 @@ use tables::sample::row_step;
 use walk::Verdict;
 ghost use mathlib.Core.Path.{_≡_};
 ghost use Prim.Native.Nat.{_≤_};
-ghost use lib.ListN.{length, getD, take};
-ghost use Rattle.xm.specs.Answer.{numberOf, inFront};
-ghost use Rattle.xm.specs.Asking.{stretchOf, askingRows};
+ghost use lib.ListN.{length, take};
+ghost use Rattle.xm.specs.Answer.{inFront};
 ghost use Rattle.walk.specs.File.{verdictOf};
 ghost use Rattle.tables.specs.Into.{patternsAfter, instrumentsAfter};
-ghost use Rattle.records.specs.Records.{noRecord, rowsOf, recordsIn, checkedRecords, recordsAfter, rowAskingIn, rowAskedOf};
-
-// The record of a number; beyond the rows lent, what stands for none.
-fn record_at(samples: &[SampleRow], number: usize) -> SampleRow
-    ensures { λ r. ⌜ r ≡ getD (now (samples .entry)) number noRecord ⌝ }
-{
-    if number < samples.len() {
-        samples[number]
-    } else {
-        no_record()
-    }
-}
+ghost use Rattle.records.specs.Records.{rowsOf, recordsIn, checkedRecords, recordsAfter, rowAskingIn, rowAskedOf};
 
 // A row read back; 16 for a number at or above the rows lent.
 pub fn row_at(samples: &[SampleRow], number: usize) -> RowAsked
     ensures { λ r. ⌜ r ≡ rowAskedOf (rowAskingIn (rowsOf (now (samples .entry))) number) ⌝ }
 {
-    let row = record_at(samples, number);
-    row_asked(samples.len(), number, row)
-}
-
-// A sample's very stretch of the lent file, by its record; an empty one for a number at or above the rows lent, or a row whose data
-// isn't inside the file.
-pub fn record_stretch<'a>(file: &'a [u8], samples: &[SampleRow], number: usize) -> &'a [u8]
-    ensures { λ r. ⌜ now r ≡ stretchOf (now (file .entry)) (askingRows (now (file .entry)) (rowsOf (now (samples .entry))) number) ⌝ }
-{
-    let row = record_at(samples, number);
-    row_stretch(file, samples.len(), number, row)
-}
-
-// Tells 0 from 16 for the same question.
-pub fn record_refusal(file: &[u8], samples: &[SampleRow], number: usize) -> u32
-    ensures { λ r. ⌜ r ≡ numberOf (askingRows (now (file .entry)) (rowsOf (now (samples .entry))) number) ⌝ }
-{
-    let row = record_at(samples, number);
-    row_refusal(file, samples.len(), number, row)
+    if number < samples.len() {
+        RowAsked::Row(samples[number])
+    } else {
+        RowAsked::Refused(Fault {
+            number: 16,
+            place: 0,
+        })
+    }
 }
 
 // Stores the records of the first samples, `count` of them.

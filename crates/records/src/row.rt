@@ -1,4 +1,5 @@
-// What decides of a row of records, in functions that take how many rows are lent and a row by value.
+// A record read back, and the sample's data that it speaks of: functions that take the record by value.
+use asking::Asked;
 use asking::Stretch;
 use asking::ask_row;
 use asking::asked_refusal;
@@ -8,8 +9,9 @@ use tables::sample::SampleRow;
 use walk::Verdict;
 ghost use mathlib.Core.Path.{_≡_};
 ghost use Rattle.xm.specs.Answer.{numberOf};
-ghost use Rattle.xm.specs.Asking.{asking, stretchOf};
-ghost use Rattle.records.specs.Records.{samplesOf, noRecord, rowOf, liesOf, stretchIn, rowAsking, rowAskedOf};
+ghost use Rattle.xm.specs.Asking.{stretchOf, askingRows};
+ghost use Rattle.asking.specs.Ask.{askedOf};
+ghost use Rattle.records.specs.Records.{samplesOf, rowsGiven};
 
 // A row read back; 16 for a number at or above the rows lent.
 pub enum RowAsked {
@@ -27,56 +29,37 @@ pub fn samples_of(verdict: Verdict) -> usize
     }
 }
 
-// What stands for a row where none is lent.
-pub fn no_record() -> SampleRow
-    ensures { λ r. ⌜ r ≡ noRecord ⌝ }
+// Asked as of a table that has this one row, or none if it was refused.
+pub fn ask_record(file: &[u8], asked: RowAsked) -> Asked
+    ensures { λ r. ⌜ r ≡ askedOf (askingRows (now (file .entry)) (rowsGiven asked) 0) ⌝ }
 {
-    SampleRow {
-        header_place: 0,
-        data_place: 0,
-        length: 0,
-        width: 0,
-        finetune: 0,
-        relative_note: 0,
-    }
-}
-
-pub fn row_asked(rows: usize, number: usize, row: SampleRow) -> RowAsked
-    ensures { λ r. ⌜ r ≡ rowAskedOf (rowAsking rows number (rowOf row)) ⌝ }
-{
-    if number < rows {
-        return RowAsked::Row(row);
-    }
-    RowAsked::Refused(Fault {
-        number: 16,
-        place: 0,
-    })
-}
-
-// The data that a record speaks of.
-pub fn stretch_in(row: SampleRow) -> Stretch
-    ensures { λ r. ⌜ r ≡ stretchIn row ⌝ }
-{
-    Stretch {
+    let RowAsked::Row(row) = asked else {
+        let none = Stretch {
+            place: 0,
+            length: 0,
+        };
+        return ask_row(file, 0, 0, none);
+    };
+    let stretch = Stretch {
         place: row.data_place as usize,
         length: row.length as usize,
-    }
+    };
+    ask_row(file, 1, 0, stretch)
 }
 
-// The very stretch of the lent file, or an empty one.
-pub fn row_stretch<'a>(file: &'a [u8], rows: usize, number: usize, row: SampleRow) -> &'a [u8]
-    ensures { λ r. ⌜ now r ≡ stretchOf (now (file .entry)) (asking (now (file .entry)) rows number (liesOf (rowOf row))) ⌝ }
+// A sample's very stretch of the lent file, by what `row_at` gave; an empty one for a row refused, or one whose data isn't inside the
+// file.
+pub fn record_stretch<'a>(file: &'a [u8], asked: RowAsked) -> &'a [u8]
+    ensures { λ r. ⌜ now r ≡ stretchOf (now (file .entry)) (askingRows (now (file .entry)) (rowsGiven asked) 0) ⌝ }
 {
-    let stretch = stretch_in(row);
-    let asked = ask_row(file, rows, number, stretch);
-    asked_stretch(file, asked)
+    let data = ask_record(file, asked);
+    asked_stretch(file, data)
 }
 
 // Tells 0 from 16 for the same question.
-pub fn row_refusal(file: &[u8], rows: usize, number: usize, row: SampleRow) -> u32
-    ensures { λ r. ⌜ r ≡ numberOf (asking (now (file .entry)) rows number (liesOf (rowOf row))) ⌝ }
+pub fn record_refusal(file: &[u8], asked: RowAsked) -> u32
+    ensures { λ r. ⌜ r ≡ numberOf (askingRows (now (file .entry)) (rowsGiven asked) 0) ⌝ }
 {
-    let stretch = stretch_in(row);
-    let asked = ask_row(file, rows, number, stretch);
-    asked_refusal(asked)
+    let data = ask_record(file, asked);
+    asked_refusal(data)
 }
