@@ -1,9 +1,2 @@
-pub mod Step
-pub mod Row
 pub mod Fill
-pub mod Stored
 pub mod Unpacking
-pub mod Wide
-pub mod Run
-pub mod FillRun
-pub mod Scan

@@ -1,30 +1,41 @@
 -- Laws of unpacking: what its tests and its reading say, and its answers and its memory at each exit; that both are fixed.
 -- Assumes nothing.
 use Prim.Native.Nat.{ℕ, zero, suc, _+_, _*_, _≤_}
-use mathlib.Core.Bool.{true}
+use mathlib.Core.Bool.{true, false, cond}
 use mathlib.Core.List.{List, [], _∷_, _++_}
 use mathlib.Core.Path.{_≡_, refl, sym, ap, _∙_}
-use native.Mathlib.Nat.{mul-le-mul}
 use native.Mathlib.Omega.{arith}
+use borrow.Author.Tests.{ne-eqb}
+use lib.Dec.{eqb}
 use lib.ListN.{length, replicate, length-replicate, replicate-append-replicate}
-use Rattle.xm.specs.Got.{Refusal, Got, got, refused, accepted, AllHold}
+use Rattle.xm.specs.Got.{Refusal, got, accepted, allPass}
 use Rattle.xm.specs.Format.{flat}
 use Rattle.xm.specs.Answer.{Answer, gives, refuses, numbers, inFront, after}
-use Rattle.xm.specs.Stored.{Pattern, readRow, readCells, readStored}
+use Rattle.xm.specs.Stored.{standardRows, Pattern, readRow, readCells, readStored}
 use Rattle.xm.specs.Row.{cellsIn}
+use Rattle.xm.specs.PatternInFile.{dataMost}
 use Rattle.xm.specs.Packing.{argumentTests, cellBytes, rowsRead, unpacking, unpackAfter}
-use Rattle.xm.proofs.Got.{passed, bind-got, got-carry}
-use Rattle.xm.proofs.Stored.{stored-empty, stored-some}
-use Rattle.xm.proofs.Row.{row-read}
-use Rattle.refusal.specs.Fault.{faultOf}
+use Rattle.xm.proofs.Got.{no-true, all-pass, all-hold, passed, bind-got, got-carry}
+use Rattle.xm.proofs.Stored.{stored-empty, stored-some, stored-rows}
+use Rattle.xm.proofs.Row.{got-accepted, row-read}
+use Rattle.xm.proofs.Packing.{UnpackRange}
+use Rattle.refusal.specs.declared.Fault.{Fault}
+use Rattle.refusal.specs.declared.Step.{Step}
+use Rattle.refusal.specs.declared.Step.the-variants.{Next}
+use Rattle.refusal.specs.Fault.{faultOf, placeStep}
+use Rattle.refusal.proofs.Steps.{next-got}
 use Rattle.cells.specs.declared.Unpacked.{Unpacked}
 use Rattle.cells.specs.declared.Unpacked.the-variants.{Rows, Refused as RefusedUnpacked}
-use Rattle.refusal.specs.declared.Fault.{Fault}
-use Rattle.cells.specs.Unpacked.{rowsOf, unpackedOf, unpackedNumbers}
+use Rattle.cells.specs.Unpacked.{unpackedOf, unpackedNumbers}
 use Rattle.cells.proofs.Fill.{cells-length}
 
-pub count-most : (rows channels : ℕ) → AllHold (argumentTests rows channels) → rows * channels ≤ 256 * 64
-count-most rows channels h = mul-le-mul (h .0 .1) (h .1 .0 .1)
+-- The tests for 16
+module _ (rows channels : ℕ) (stored : List ℕ) where
+  pub range-holds : allPass (argumentTests rows channels) ≡ true → length stored ≤ dataMost → UnpackRange rows channels stored
+  range-holds e h = let a = all-hold (argumentTests rows channels) e in (a .0, (a .1 .0, (h, tt)))
+
+  pub range-fails : allPass (argumentTests rows channels) ≡ false → UnpackRange rows channels stored → ⊥
+  range-fails e h = no-true (sym e ∙ all-pass (argumentTests rows channels) (h .0, (h .1 .0, tt)))
 
 -- Empty cells, end to end
 pub flat-zeros : (n : ℕ) → flat {A = ℕ} (replicate n (replicate 5 0)) ≡ replicate (n * 5) 0
@@ -40,21 +51,14 @@ pub record Found (channels rows : ℕ) (d : List ℕ) (reported : ℕ) : Type 0 
   pub reads : readStored channels rows 0 d ≡ got pattern used
   pub same : reported ≡ pattern .rows
 
-pub found-of : (channels rows : ℕ) (d : List ℕ) (reported : ℕ) → Rows reported ≡ rowsOf (readStored channels rows 0 d) → Found channels rows d reported
-found-of channels rows d reported e = go (readStored channels rows 0 d) refl e
-  where
-    go : (g : Got Pattern) → readStored channels rows 0 d ≡ g → Rows reported ≡ rowsOf g → Found channels rows d reported
-    go (got p n) q e = record { pattern = p; used = n; reads = q; same = cc }
-    go (refused r) q e = absurd (let z : _≡_ {A = ℕ} 0 1 = cc in omega arith)
+rows-as : (channels rows : ℕ) (d : List ℕ) (p : Pattern) (n : ℕ) → readStored channels rows 0 d ≡ got p n → cond (eqb (length d) 0) standardRows rows ≡ p .rows
+rows-as channels rows [] p n e = sym (ap (λ (p : Pattern). p .rows) (stored-empty channels rows 0 [] p n refl e))
+rows-as channels rows (x ∷ d) p n e = rw (ne-eqb (suc (length d)) 0 (λ z. omega arith)) (sym (stored-rows channels rows 0 (x ∷ d) p n (omega arith) e))
 
-pub fault-of : (channels rows : ℕ) (d : List ℕ) (fault : Fault) → RefusedUnpacked fault ≡ rowsOf (readStored channels rows 0 d)
-    → (r : Refusal) × ((readStored channels rows 0 d ≡ refused r) × (fault ≡ faultOf r))
-fault-of channels rows d fault e = go (readStored channels rows 0 d) refl e
-  where
-    go : (g : Got Pattern) → readStored channels rows 0 d ≡ g → RefusedUnpacked fault ≡ rowsOf g
-        → (r : Refusal) × ((readStored channels rows 0 d ≡ refused r) × (fault ≡ faultOf r))
-    go (got p n) q e = absurd (let z : _≡_ {A = ℕ} 0 1 = cc in omega arith)
-    go (refused r) q e = (r, (q, cc))
+pub found-of : (channels rows : ℕ) (d : List ℕ) {step : Step} {next reported : ℕ} → step ≡ placeStep 0 (readStored channels rows 0 d) → step ≡ Next next
+    → reported ≡ cond (eqb (length d) 0) standardRows rows → Found channels rows d reported
+found-of channels rows d e told r =
+    next-got 0 (readStored channels rows 0 d) (sym told ∙ e) λ p n q en. record { pattern = p; used = n; reads = q; same = r ∙ rows-as channels rows d p n q }
 
 -- With some data, the cells of the pattern are those in a row, and they were accepted
 record FromCells (channels rows : ℕ) (d : List ℕ) (p : Pattern) : Type 0 where
@@ -67,7 +71,7 @@ unfolding readCells
 from-cells channels rows d p n some e =
     bind-got _ _ (sym (stored-some channels rows 0 d some) ∙ e) λ cells m ec e. passed _ _ e λ h e.
     got-carry (λ (q : Pattern) (u : ℕ). FromCells channels rows d q) e
-    (record { rows-same = refl; cells = row-read (rows * channels) 0 d cells m ec .same; fine = ap accepted ec })
+    (record { rows-same = refl; cells = row-read (rows * channels) 0 d cells m ec .same; fine = got-accepted ec })
 
 -- What is to be filled: zeros, or the cells in a row; five bytes a cell
 module _ {channels rows : ℕ} {d : List ℕ} {reported : ℕ} (f : Found channels rows d reported) where

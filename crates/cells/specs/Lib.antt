@@ -1,5 +1,1 @@
-pub mod Step
-pub mod Row
 pub mod Unpacked
-pub mod Inside
-pub mod Quick

@@ -12,7 +12,7 @@ use Rattle.xm.specs.Stored.{writeStored}
 use Rattle.xm.specs.PatternInFile.{PatternFound}
 use Rattle.xm.proofs.Got.{no-true}
 use Rattle.xm.proofs.Format.{cons-path}
-use Rattle.cells.specs.Row.{sameBytes}
+use Rattle.measure.specs.Measure.{sameBytes}
 use Rattle.steps.specs.Mark.{again, copied, nothing, markBy, Marked, Marks}
 
 same-equal : (xs ys : List ℕ) → sameBytes xs ys ≡ true → xs ≡ ys

@@ -16,13 +16,13 @@ use Rattle.xm.proofs.Number.{bytes-drop, bytes-take}
 use Rattle.xm.proofs.Got.{pass, passed, step, step-refused, bind-got, got-value}
 use Rattle.xm.proofs.Fault.{stored-faults}
 use Rattle.refusal.specs.declared.Fault.{Fault}
-use Rattle.cells.specs.Row.{sameBytes}
-use Rattle.cells.specs.Unpacked.{rowsOf, storedOf}
-use Rattle.cells.specs.declared.StoredSize.{StoredSize}
-use Rattle.cells.specs.declared.StoredStep.{StoredStep}
-use Rattle.cells.specs.declared.StoredStep.the-variants as stored
-use Rattle.cells.specs.declared.Unpacked.{Unpacked}
-use Rattle.cells.specs.declared.Unpacked.the-variants as unpacked
+use Rattle.refusal.specs.declared.Step.{Step}
+use Rattle.refusal.specs.declared.Step.the-variants as tried
+use Rattle.refusal.specs.Fault.{placeStep as triedStep}
+use Rattle.measure.specs.Measure.{sameBytes, storedOf}
+use Rattle.measure.specs.declared.StoredSize.{StoredSize}
+use Rattle.measure.specs.declared.StoredStep.{StoredStep}
+use Rattle.measure.specs.declared.StoredStep.the-variants as stored
 use Rattle.steps.specs.Test.{firstFault}
 use Rattle.steps.specs.Step.{storedFault, storedRefused, patternStep, rowsReadAs, rowsFault, rowsRefused, placeStep}
 use Rattle.steps.specs.declared.pattern.PatternStep.{PatternStep}
@@ -60,14 +60,14 @@ module _ (file : List ℕ) (base size : ℕ) (small : size < 65536) where
       go (got p n) q = omega arith
       go (refused r) q = omega (arith, stored-faults channels rows 0 cells r (bytes-take (base + size - base) (bytes-drop base b)) q .to, cells-small)
 
-  pub rows-place : Bytes file → (channels rows : ℕ) {step : Unpacked} → step ≡ rowsOf (readStored channels rows 0 cells) → rowsFault step ≤ dataMost
+  pub rows-place : Bytes file → (channels rows : ℕ) {step : Step} → step ≡ triedStep 0 (readStored channels rows 0 cells) → rowsFault step ≤ dataMost
   rows-place b channels rows e = rw e (go (readStored channels rows 0 cells) refl)
     where
-      go : (g : Got Pattern) → readStored channels rows 0 cells ≡ g → rowsFault (rowsOf g) ≤ dataMost
+      go : (g : Got Pattern) → readStored channels rows 0 cells ≡ g → rowsFault (triedStep 0 g) ≤ dataMost
       go (got p n) q = omega arith
       go (refused r) q = omega (arith, stored-faults channels rows 0 cells r (bytes-take (base + size - base) (bytes-drop base b)) q .to, cells-small)
 
-never-rows : {A : Type 0} {rows : ℕ} {f : Fault} → unpacked.Rows rows ≡ unpacked.Refused f → A
+never-rows : {A : Type 0} {rows : ℕ} {f : Fault} → tried.Next rows ≡ tried.Refused f → A
 never-rows e = absurd (let z : _≡_ {A = ℕ} 0 1 = cc in omega arith)
 
 never-both : {A : Type 0} {size : StoredSize} {f : Fault} → stored.Read size ≡ stored.Refused f → A
@@ -128,12 +128,12 @@ module _ (file : List ℕ) (place : ℕ) where
         ∙ sym (ap (patternStep file place) (pass (patternTests place from) h (step _ (shifts ∙ ap (shifted (place + L)) e) refl)))
     by-pattern (refused r) e told = never-both (sym told)
 
-    scan-by-refusal : (g : Got Pattern) {f : Fault} → readStored channels rows 0 d ≡ g → rowsOf g ≡ unpacked.Refused f → rowsRefused (place + L) (rowsOf g) ≡ placeStep place (readPattern channels place from)
+    scan-by-refusal : (g : Got Pattern) {f : Fault} → readStored channels rows 0 d ≡ g → triedStep 0 g ≡ tried.Refused f → rowsRefused (place + L) (triedStep 0 g) ≡ placeStep place (readPattern channels place from)
     unfolding readPattern shifted
     scan-by-refusal (got p n) e told = never-rows told
     scan-by-refusal (refused r) e told = sym (ap (placeStep place) (pass (patternTests place from) h (step-refused _ (shifts ∙ ap (shifted (place + L)) e))))
 
-    scan-by-rows : (g : Got Pattern) {n : ℕ} → readStored channels rows 0 d ≡ g → rowsOf g ≡ unpacked.Rows n → sample.Next (place + L + S) ≡ placeStep place (readPattern channels place from)
+    scan-by-rows : (g : Got Pattern) {n : ℕ} → readStored channels rows 0 d ≡ g → triedStep 0 g ≡ tried.Next n → sample.Next (place + L + S) ≡ placeStep place (readPattern channels place from)
     unfolding readPattern shifted
     scan-by-rows (got p n) e told =
         ap sample.Next (add-assoc place L S) ∙ sym (ap (placeStep place) (pass (patternTests place from) h (step _ (shifts ∙ ap (shifted (place + L)) e) refl)))
@@ -158,12 +158,12 @@ module _ (file : List ℕ) (place : ℕ) where
             → Read (record { shortest = z .shortest; same = z .same; next = base + size }) ≡ patternStep file place (readPattern channels place from)
         pattern-read told = rw (p, r) (by-pattern _ refl (sym same-step ∙ told))
 
-      module _ {step : Unpacked} (e : step ≡ rowsOf (readStored channels row 0 cut)) where
-        same-rows : step ≡ rowsOf (readStored channels rows 0 d)
-        same-rows = e ∙ ap₂ (λ (n : ℕ) (s : List ℕ). rowsOf (readStored channels n 0 s)) q same-cut
+      module _ {step : Step} (e : step ≡ triedStep 0 (readStored channels row 0 cut)) where
+        same-rows : step ≡ triedStep 0 (readStored channels rows 0 d)
+        same-rows = e ∙ ap₂ (λ (n : ℕ) (s : List ℕ). triedStep 0 (readStored channels n 0 s)) q same-cut
 
-        pub scan-out : {f : Fault} → step ≡ unpacked.Refused f → rowsRefused base step ≡ placeStep place (readPattern channels place from)
+        pub scan-out : {f : Fault} → step ≡ tried.Refused f → rowsRefused base step ≡ placeStep place (readPattern channels place from)
         scan-out told = ap₂ rowsRefused p same-rows ∙ scan-by-refusal _ refl (sym same-rows ∙ told)
 
-        pub scan-read : {n : ℕ} → step ≡ unpacked.Rows n → sample.Next (base + size) ≡ placeStep place (readPattern channels place from)
+        pub scan-read : {n : ℕ} → step ≡ tried.Next n → sample.Next (base + size) ≡ placeStep place (readPattern channels place from)
         scan-read told = rw (p, r) (scan-by-rows _ refl (sym same-rows ∙ told))

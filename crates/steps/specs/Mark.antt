@@ -8,7 +8,7 @@ use lib.ListN.{length}
 use Rattle.xm.specs.Number.{part}
 use Rattle.xm.specs.Stored.{writeStored}
 use Rattle.xm.specs.PatternInFile.{PatternFound}
-use Rattle.cells.specs.Row.{sameBytes}
+use Rattle.measure.specs.Measure.{sameBytes}
 
 -- The three marks: the cells are written again; they stand in their shortest form already and are copied; of 64 empty rows nothing
 -- is written.

@@ -14,11 +14,11 @@ use Rattle.xm.specs.Sample.{SamplesFound, sizeOfFirst, samplesFormat}
 use Rattle.xm.specs.Instrument.{leastInstrument, InstrumentFound, instrumentView, writeInstrument}
 use Rattle.xm.specs.Table.{sampleCount}
 use Rattle.refusal.specs.Fault.{faultOf}
-use Rattle.cells.specs.Row.{sameBytes}
-use Rattle.cells.specs.declared.StoredStep.{StoredStep}
-use Rattle.cells.specs.declared.StoredStep.the-variants as stored
-use Rattle.cells.specs.declared.Unpacked.{Unpacked}
-use Rattle.cells.specs.declared.Unpacked.the-variants as unpacked
+use Rattle.refusal.specs.declared.Step.{Step}
+use Rattle.refusal.specs.declared.Step.the-variants as tried
+use Rattle.measure.specs.Measure.{sameBytes}
+use Rattle.measure.specs.declared.StoredStep.{StoredStep}
+use Rattle.measure.specs.declared.StoredStep.the-variants as stored
 use Rattle.steps.specs.declared.header.HeaderStep.{HeaderStep}
 use Rattle.steps.specs.declared.header.HeaderStep.the-variants as header
 use Rattle.steps.specs.declared.pattern.PatternHead.{PatternHead}
@@ -93,13 +93,13 @@ abbrev pub storedRefused : (base : ℕ) → StoredStep → PatternStep
 storedRefused base (stored.Read size) = pattern.Refused (record { number = 0; place = base })
 storedRefused base (stored.Refused fault) = pattern.Refused (record { number = fault .number; place = base + fault .place })
 
-abbrev pub rowsFault : Unpacked → ℕ
-rowsFault (unpacked.Rows rows) = 0
-rowsFault (unpacked.Refused fault) = fault .place
+abbrev pub rowsFault : Step → ℕ
+rowsFault (tried.Next next) = 0
+rowsFault (tried.Refused fault) = fault .place
 
-abbrev pub rowsRefused : (base : ℕ) → Unpacked → PlaceStep
-rowsRefused base (unpacked.Rows rows) = sample.Next base
-rowsRefused base (unpacked.Refused fault) = sample.Refused (record { number = fault .number; place = base + fault .place })
+abbrev pub rowsRefused : (base : ℕ) → Step → PlaceStep
+rowsRefused base (tried.Next next) = sample.Next base
+rowsRefused base (tried.Refused fault) = sample.Refused (record { number = fault .number; place = base + fault .place })
 
 abbrev pub samplesRefused : PlaceStep → InstrumentStep
 samplesRefused (sample.Next place) = instrument.Refused (record { number = 0; place = place })

@@ -1,8 +1,8 @@
 // The pattern step.
 use crate::sample::PlaceStep;
-use cells::StoredStep;
-use cells::Unpacked;
+use measure::StoredStep;
 use refusal::Fault;
+use refusal::Step;
 use slices::read::long;
 use slices::read::word;
 ghost use mathlib.Core.Path.{_≡_};
@@ -115,7 +115,7 @@ pub fn read_pattern(file: &[u8], at: usize, channels: usize) -> PatternStep
     let head = pattern_head(file, at);
     let place = head.place;
     let next = place + head.size;
-    let step = cells::read_stored(&file[place..next], head.rows, channels);
+    let step = measure::read_stored(&file[place..next], head.rows, channels);
     let StoredStep::Read(stored) = step else {
         return refused_stored(step, place);
     };
@@ -127,14 +127,14 @@ pub fn read_pattern(file: &[u8], at: usize, channels: usize) -> PatternStep
 }
 
 // The same where the pattern is only tried.
-fn refused_rows(step: Unpacked, base: usize) -> PlaceStep
+fn refused_rows(step: Step, base: usize) -> PlaceStep
     requires { ⌜ base ≤ fileMost ⌝ }
     requires { ⌜ rowsFault step ≤ dataMost ⌝ }
     ensures { λ r. ⌜ r ≡ rowsRefused base step ⌝ }
 {
     match step {
-        Unpacked::Rows(rows) => PlaceStep::Next(base),
-        Unpacked::Refused(fault) => PlaceStep::Refused(Fault {
+        Step::Next(rows) => PlaceStep::Next(base),
+        Step::Refused(fault) => PlaceStep::Refused(Fault {
             number: fault.number,
             place: base + fault.place,
         }),
@@ -158,8 +158,8 @@ pub fn scan_pattern(file: &[u8], at: usize, channels: usize) -> PlaceStep
     let head = pattern_head(file, at);
     let place = head.place;
     let next = place + head.size;
-    let step = cells::scan_stored(&file[place..next], head.rows, channels);
-    let Unpacked::Rows(_) = step else {
+    let step = scan::scan_stored(&file[place..next], head.rows, channels);
+    let Step::Next(_) = step else {
         return refused_rows(step, place);
     };
     PlaceStep::Next(next)

@@ -19,7 +19,7 @@ use Rattle.xm.proofs.PatternInFile.{pattern-size, pattern-keeps}
 use Rattle.xm.proofs.Sample.{Sized}
 use Rattle.xm.proofs.Instrument.{instrument-keeps, instrument-tells}
 use Rattle.refusal.specs.declared.Fault.{Fault}
-use Rattle.cells.specs.Row.{sameBytes}
+use Rattle.measure.specs.Measure.{sameBytes}
 use Rattle.steps.specs.Mark.{markBy, Marks}
 use Rattle.steps.specs.Step.{patternStep, placeStep, instrumentStep}
 use Rattle.walk.specs.File.{patternsStep, instrumentsStep, patternRefused, instrumentRefused}

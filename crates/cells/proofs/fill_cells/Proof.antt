@@ -1,33 +1,29 @@
 -- `cells::fill_cells` meets its contract: what is written so far and what is still to come make the whole, and the word is the one that
 -- stands here. Assumes nothing.
 use Prim.Native.Nat.{ℕ, _+_, _*_, _-_, _≤_}
-use mathlib.Core.List.{List, _++_}
-use mathlib.Core.Path.{_≡_, ap, ap₂, _∙_}
+use mathlib.Core.List.{List}
+use mathlib.Core.Path.{_≡_, refl, ap, _∙_}
 use native.Mathlib.Omega.{arith}
 use borrow.Author.Tests.{leb-true}
 use borrow.Rule.Slice.PartMut.{putMid}
-use lib.ListN.{length, getD, take, drop, length-drop, length-append}
+use lib.ListN.{length, take, drop, length-drop, length-append}
 use denote.Ref.{now}
 use Rattle.xm.specs.Format.{flat}
 use Rattle.xm.specs.Answer.{inFront}
-use Rattle.xm.specs.Cell.{cellAt}
-use Rattle.xm.proofs.Cell.{cell-length}
-use Rattle.xm.proofs.Lay.{part-back, part-all}
-use Rattle.cells.specs.Step.{fieldsOf}
 use Rattle.xm.specs.Row.{cellsIn}
-use Rattle.cells.specs.Inside.{firstFields}
-use Rattle.cells.specs.Quick.{WordAt}
-use Rattle.cells.proofs.Step.{fields-of}
-use Rattle.cells.proofs.Fill.{accepted-whole, cells-length, Filling, filling-none}
-use Rattle.cells.proofs.Wide.{length-six}
-use Rattle.cells.proofs.Run.{lead-at, ahead-few}
-use Rattle.cells.proofs.FillRun.{filling-front, filling-last, filling-rest}
+use Rattle.xm.proofs.Lay.{part-all}
+use Rattle.cell.specs.Read.{fieldsOf}
+use Rattle.cell.proofs.ReadLaws.{fields-of}
+use Rattle.ahead.specs.Ahead.{WordAt}
+use Rattle.ahead.proofs.Run.{lead-at}
+use Rattle.cells.specs.Unpacked.{firstFields}
+use Rattle.cells.proofs.Fill.{cells-length, Filling, filling-none, filling-more, filling-front, filling-rest}
 use borrow.Author.Needs.{needs}
 use Rattle.cells.proofs.fill_cells.Statement.{statement}
 use Rattle.cells.proofs.fill_cells.Tie as tie
 
 abbrev Inv-loop : tie.InvT-loop
-Inv-loop stored count out₀ at₀ to₀ left₀ word₀ out at to left word = Filling stored count out₀ out at to left × WordAt stored at word
+Inv-loop stored count out₀ at₀ to₀ left₀ word₀ out at to left word = Filling stored (flat (cellsIn count stored)) out₀ out at to left × WordAt stored at word
 
 abbrev μ-loop : tie.MeasureT-loop
 μ-loop stored count out₀ at₀ to₀ left₀ word₀ out at to left word = left
@@ -36,39 +32,31 @@ abbrev μ-loop : tie.MeasureT-loop
 wide : (c : tie.Then1 Inv-loop μ-loop) → c .before .before .loop .at + 21 ≤ length (now (c .before .before .before .before .before .before .args .stored))
 wide c = omega (arith, leb-true)
 
+abbrev from : tie.After-fill-first Inv-loop μ-loop → tie.At-loop Inv-loop μ-loop
+from c = c .before .before .before .before .before .before
+
 front : (c : tie.After-fill-first Inv-loop μ-loop) {written : List ℕ}
-    → written ≡ inFront (firstFields (c .before .before .before .before .before .before .loop .word) (drop (c .before .before .before .before .before .before .loop .at) (now (c .before .before .before .before .before .before .before .before .before .before .args .stored)))) (take (length (c .before .before .before .before .before .before .loop .out) - c .before .before .before .before .before .before .loop .to) (drop (c .before .before .before .before .before .before .loop .to) (c .before .before .before .before .before .before .loop .out)))
-    → Filling (now (c .before .before .before .before .before .before .before .before .before .before .args .stored)) (c .before .before .before .before .before .before .before .before .before .before .args .count) (now (c .before .before .before .before .before .before .before .before .before .before .args .out)) (putMid (c .before .before .before .before .before .before .loop .to) (length (c .before .before .before .before .before .before .loop .out) - c .before .before .before .before .before .before .loop .to) (c .before .before .before .before .before .before .loop .out) written)
-    (c .before .before .before .look-ahead .result .last) (c .before .before .before .before .before .before .loop .to + c .before .before .before .look-ahead .result .cells * 5) (c .before .before .before .before .before .before .loop .left - c .before .before .before .look-ahead .result .cells)
+    → written ≡ inFront (firstFields (from c .loop .word) (drop (from c .loop .at) (now (from c .before .before .before .before .args .stored)))) (take (length (from c .loop .out) - from c .loop .to) (drop (from c .loop .to) (from c .loop .out)))
+    → Filling (now (from c .before .before .before .before .args .stored)) (flat (cellsIn (from c .before .before .before .before .args .count) (now (from c .before .before .before .before .args .stored)))) (now (from c .before .before .before .before .args .out)) (putMid (from c .loop .to) (length (from c .loop .out) - from c .loop .to) (from c .loop .out) written)
+    (c .before .before .before .look-ahead .result .last) (from c .loop .to + c .before .before .before .look-ahead .result .cells * 5) (from c .loop .left - c .before .before .before .look-ahead .result .cells)
 front c e =
-    let l = c .before .before .before .before .before .before .loop in
-    let s = now (c .before .before .before .before .before .before .before .before .before .before .args .stored) in
-    let small : (i : ℕ) → getD s i 0 ≤ 255 = λ i. omega (arith, c .before .before .before .before .before .before .before .before .before .shared-slice-known .given i) in
+    let l = from c .loop in
     let right = l .inv .1 .right (omega (arith, wide (c .before .before .before .before))) in
-    let room = l .inv .0 .room in
-    filling-front _ (l .word) (l .inv .0) (omega arith) (omega (arith, wide (c .before .before .before .before))) (c .before .before .before .look-ahead .ensures) (lead-at s (l .at) (l .word) small right) _
-    (part-back (l .out) _ (l .to) (omega arith)
-    ∙ ap (λ (x : List ℕ). take (l .to) (l .out) ++ x) (e ∙ ap (inFront (firstFields (l .word) (drop (l .at) s))) (part-all (l .to) (l .out))))
+    filling-front (l .inv .0) (omega arith) (l .word) (c .before .before .before .look-ahead .ensures) (lead-at (now (from c .before .before .before .before .args .stored)) (l .at) (l .word) (λ i. omega (arith, from c .before .before .before .shared-slice-known .given i)) right) e
 
 filled : tie.Need-returns Inv-loop μ-loop
 filled c =
-    let l = c .before .before .before .before .before .before .loop in
-    let s = now (c .before .before .before .before .before .before .before .before .before .before .args .stored) in
-    let room = l .inv .0 .room in
-    filling-rest (l .inv .0) _
-    (part-back (l .out) _ (l .to) (omega arith)
-    ∙ ap (λ (x : List ℕ). take (l .to) (l .out) ++ x)
-    (c .before .before .fill-each .ensures ∙ ap₂ (λ (x y : List ℕ). inFront (flat (cellsIn (l .left) x)) y) (part-all (l .at) s) (part-all (l .to) (l .out))))
+    let l = c .before .before .before .before .before .loop in
+    let s = now (c .before .before .before .before .before .before .before .before .before .args .stored) in
+    filling-rest (l .inv .0) (flat (cellsIn (l .left) (drop (l .at) s))) (c .before .before .fill-each .ensures) refl
 
 first-word-requires : tie.Need-first-word-requires Inv-loop μ-loop
 first-word-requires c κs = search needs
 
 loop-holds : tie.Need-loop-holds Inv-loop μ-loop
 loop-holds c =
-    let a = c .before .before .before .args in (
-      filling-none _ _ _ _ (omega arith) (accepted-whole (a .count) 0 (now (a .stored)) (c .before .before .before .pre .0)) (c .before .before .before .pre .1),
-      c .first-word .ensures,
-    )
+    let a = c .before .before .before .args in
+    (filling-none (now (a .stored)) 0 (a .count) (omega arith) (c .before .before .before .pre .0) (c .before .before .before .pre .1) (omega arith), c .first-word .ensures)
 
 sub-if1 : tie.Need-sub-if1 Inv-loop μ-loop
 sub-if1 c = omega (arith, c .before .loop .inv .0 .inside)
@@ -77,9 +65,7 @@ look-ahead-requires : tie.Need-look-ahead-requires Inv-loop μ-loop
 look-ahead-requires c κs = (omega (arith, wide c), c .before .before .loop .inv .1 .right (omega (arith, wide c)))
 
 word-requires : tie.Need-word-requires Inv-loop μ-loop
-word-requires c κs =
-    let a = c .look-ahead .ensures in
-    omega (arith, wide (c .before), a .near, a .next, length-six (getD (now (c .before .before .before .before .before .before .before .args .stored)) (c .look-ahead .result .last) 0))
+word-requires c κs = omega (arith, wide (c .before), c .look-ahead .ensures .reach)
 
 sub-fill-first : tie.Need-sub-fill-first Inv-loop μ-loop
 sub-fill-first c = omega (arith, c .before .before .before .before .loop .inv .0 .room)
@@ -96,13 +82,13 @@ fill-first-requires c κs =
     (omega (arith, wide (c .before .before .before)), rw part-all (omega (arith, length-drop (l .to) (l .out), l .inv .0 .room)))
 
 mul-to : tie.Need-mul-to Inv-loop μ-loop
-mul-to c = omega (arith, ahead-few (c .before .before .before .before .before .before .look-ahead .ensures))
+mul-to c = omega (arith, c .before .before .before .before .before .before .look-ahead .ensures .few)
 
 add-to : tie.Need-add-to Inv-loop μ-loop
-add-to c = omega (arith, ahead-few (c .before .before .before .before .before .before .look-ahead .ensures), c .before .before .before .before .before .before .before .before .before .loop .inv .0 .room)
+add-to c = omega (arith, c .before .before .before .before .before .before .look-ahead .ensures .few, c .before .before .before .before .before .before .before .before .before .loop .inv .0 .room)
 
-take-at-requires : tie.Need-take-at-requires Inv-loop μ-loop
-take-at-requires c κs = omega (arith, wide (c .before .before .before .before .before .before .before), c .before .before .before .before .before .before .look-ahead .ensures .near)
+take-over-requires : tie.Need-take-over-requires Inv-loop μ-loop
+take-over-requires c κs = omega (arith, wide (c .before .before .before .before .before .before .before), c .before .before .before .before .before .before .look-ahead .ensures .near)
 
 sub-store-cell : tie.Need-sub-store-cell Inv-loop μ-loop
 sub-store-cell c = omega (arith, front (c .before .before .before .before) (c .before .before .before .before .fill-first .ensures) .room)
@@ -115,62 +101,53 @@ part-store-cell-end c = omega (arith, front (c .before .before .before .before) 
 
 store-cell-requires : tie.Need-store-cell-requires Inv-loop μ-loop
 store-cell-requires c κs =
-    let few = ahead-few (c .before .before .before .before .before .before .before .before .look-ahead .ensures) in
+    let few = c .before .before .before .before .before .before .before .before .look-ahead .ensures .few in
     let room = front (c .before .before .before .before .before) (c .before .before .before .before .before .fill-first .ensures) .room in
     rw (part-all, length-drop) (omega arith)
 
 add-to-2 : tie.Need-add-to-2 Inv-loop μ-loop
 add-to-2 c =
-    let room = front (c .before .before .before .before .before .before .before .before) (c .before .before .before .before .before .before .before .before .fill-first .ensures) .room in
-    let few = ahead-few (c .before .before .before .before .before .before .before .before .before .before .before .look-ahead .ensures) in
+    let few = c .before .before .before .before .before .before .before .before .before .before .before .look-ahead .ensures .few in
     let f = front (c .before .before .before .before .before .before .before .before) (c .before .before .before .before .before .before .before .before .fill-first .ensures) in
-    let known = c .before .before .before .before .before .before .before .before .before .before .before .before .before .before .before .before in omega (arith, f .writes .kept)
+    let room = f .room in
+    let known = c .before .before .before .before .before .before .before .before .before .before .before .before .before .before .before .before in
+    omega (arith, f .writes .kept)
 
 add-left : tie.Need-add-left Inv-loop μ-loop
-add-left c = omega (arith, ahead-few (c .before .before .before .before .before .before .before .before .before .before .before .before .look-ahead .ensures))
+add-left c = omega (arith, c .before .before .before .before .before .before .before .before .before .before .before .before .look-ahead .ensures .few)
 
 sub-left : tie.Need-sub-left Inv-loop μ-loop
-sub-left c = omega (arith, ahead-few (c .before .before .before .before .before .before .before .before .before .before .before .before .look-ahead .ensures))
+sub-left c = omega (arith, c .before .before .before .before .before .before .before .before .before .before .before .before .look-ahead .ensures .few)
 
 loop-less : tie.Need-loop-less Inv-loop μ-loop
 loop-less c = omega arith
 
 loop-again : tie.Need-loop-again Inv-loop μ-loop
 loop-again c =
-    let last = drop (c .before .before .before .before .before .before .before .before .before .before .before .before .look-ahead .result .last) (now (c .before .before .before .before .before .before .before .before .before .before .before .before .before .before .before .before .before .before .before .args .stored)) in
-    let few = ahead-few (c .before .before .before .before .before .before .before .before .before .before .before .before .look-ahead .ensures) in
-    let fields = ap fieldsOf (c .before .before .before .before .before .take-at .ensures) ∙ fields-of (cellAt last) (cell-length last) in (
-      filling-last (front (c .before .before .before .before .before .before .before .before .before) (c .before .before .before .before .before .before .before .before .before .fill-first .ensures)) (omega arith) (c .before .before .before .store-cell .ensures) fields (c .before .before .before .before .before .before .before .before .before .before .before .before .look-ahead .ensures .next) (omega arith),
+    let few = c .before .before .before .before .before .before .before .before .before .before .before .before .look-ahead .ensures .few in
+    let f = front (c .before .before .before .before .before .before .before .before .before) (c .before .before .before .before .before .before .before .before .before .fill-first .ensures) in (
+      filling-more f (fieldsOf (c .before .before .before .before .before .take-over .result)) (c .before .before .before .store-cell .ensures) (omega arith) (fields-of _ (c .before .before .before .before .before .take-over .ensures)) (c .before .before .before .before .before .before .before .before .before .before .before .before .look-ahead .ensures .next) (omega arith),
       record { right = λ h. c .before .before .before .before .before .before .before .before .before .before .before .word .ensures },
     )
 
 sub-fill-each : tie.Need-sub-fill-each Inv-loop μ-loop
-sub-fill-each c = omega (arith, c .before .loop .inv .0 .inside)
+sub-fill-each c = omega (arith, c .before .loop .inv .0 .room)
 
 part-fill-each-start : tie.Need-part-fill-each-start Inv-loop μ-loop
-part-fill-each-start c = omega (arith, c .before .loop .inv .0 .inside)
+part-fill-each-start c = omega (arith, c .before .loop .inv .0 .room)
 
 part-fill-each-end : tie.Need-part-fill-each-end Inv-loop μ-loop
-part-fill-each-end c = omega (arith, c .before .loop .inv .0 .inside)
-
-sub-fill-each-2 : tie.Need-sub-fill-each-2 Inv-loop μ-loop
-sub-fill-each-2 c = omega (arith, c .before .before .loop .inv .0 .room)
-
-part-fill-each-start-2 : tie.Need-part-fill-each-start-2 Inv-loop μ-loop
-part-fill-each-start-2 c = omega (arith, c .before .before .loop .inv .0 .room)
-
-part-fill-each-end-2 : tie.Need-part-fill-each-end-2 Inv-loop μ-loop
-part-fill-each-end-2 c = omega (arith, c .before .before .loop .inv .0 .room)
+part-fill-each-end c = omega (arith, c .before .loop .inv .0 .room)
 
 fill-each-requires : tie.Need-fill-each-requires Inv-loop μ-loop
 fill-each-requires c κs =
-    let l = c .before .before .before .loop in
-    (rw part-all (l .inv .0 .whole), rw part-all (omega (arith, length-drop (l .to) (l .out), l .inv .0 .room)))
+    let l = c .before .before .loop in
+    (l .inv .0 .inside, (l .inv .0 .fine, rw part-all (omega (arith, length-drop (l .to) (l .out), l .inv .0 .room))))
 
 same-length : tie.Need-same-length Inv-loop μ-loop
 same-length c =
-    let a = c .before .before .before .before .before .before .before .before .before .before .args in
-    let room = c .before .before .before .before .before .before .before .before .before .before .pre .1 in
+    let a = c .before .before .before .before .before .before .before .before .before .args in
+    let room = c .before .before .before .before .before .before .before .before .before .pre .1 in
     ap length (filled c) ∙ simp (length-append, length-drop) (omega (arith, cells-length (a .count) (now (a .stored))))
 
 returns : tie.Need-returns Inv-loop μ-loop
@@ -193,7 +170,7 @@ fill-cells-spec =
     fill-first-requires
     mul-to
     add-to
-    take-at-requires
+    take-over-requires
     sub-store-cell
     part-store-cell-start
     part-store-cell-end
@@ -206,9 +183,6 @@ fill-cells-spec =
     sub-fill-each
     part-fill-each-start
     part-fill-each-end
-    sub-fill-each-2
-    part-fill-each-start-2
-    part-fill-each-end-2
     fill-each-requires
     same-length
     returns)

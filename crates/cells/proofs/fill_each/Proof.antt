@@ -1,77 +1,62 @@
 -- `cells::fill_each` meets its contract: what is written so far and what is still to come make the whole. Assumes nothing.
-use Prim.Native.Nat.{ℕ}
-use mathlib.Core.List.{List, _++_}
-use mathlib.Core.Path.{sym, ap, ap₂, _∙_}
+use Prim.Native.Nat.{ℕ, _+_}
+use mathlib.Core.Path.{refl, ap}
 use native.Mathlib.Omega.{arith}
-use lib.ListN.{getD, take, drop, length-drop}
+use lib.ListN.{getD, drop, length-drop}
 use denote.Ref.{now}
-use Rattle.xm.specs.Answer.{inFront}
-use Rattle.xm.specs.Cell.{lengthBy, cellAt}
-use Rattle.xm.proofs.Cell.{cell-length, length-some}
-use Rattle.xm.proofs.Lay.{part-back, part-all, head-at}
-use Rattle.cells.specs.Step.{cellOf, fieldsOf}
-use Rattle.cells.proofs.Step.{fields-of}
-use Rattle.cells.proofs.Fill.{Filling, filling-none, filling-first, filling-more, filling-done}
+use Rattle.xm.specs.Format.{flat}
+use Rattle.xm.specs.Row.{cellsIn}
+use Rattle.xm.proofs.Cell.{length-some}
+use Rattle.xm.proofs.Lay.{part-all}
+use Rattle.cell.specs.Read.{fieldsOf}
+use Rattle.cell.proofs.ReadLaws.{fields-of}
+use Rattle.cell.proofs.ReadRows.{First, row-first}
+use Rattle.cells.proofs.Fill.{Filling, filling-none, filling-more, filling-done}
 use borrow.Author.Needs.{needs}
 use Rattle.cells.proofs.fill_each.Statement.{statement}
 use Rattle.cells.proofs.fill_each.Tie as tie
 
 abbrev Inv-loop : tie.InvT-loop
-Inv-loop stored count out₀ at₀ to₀ left₀ out at to left = Filling stored count out₀ out at to left
+Inv-loop stored from count out₀ at₀ to₀ left₀ out at to left = Filling stored (flat (cellsIn count (drop from stored))) out₀ out at to left
 
 abbrev μ-loop : tie.MeasureT-loop
-μ-loop stored count out₀ at₀ to₀ left₀ out at to left = left
+μ-loop stored from count out₀ at₀ to₀ left₀ out at to left = left
+
+first : (c : tie.In-loop Inv-loop μ-loop) → First (now (c .before .before .before .before .args .stored)) (c .before .loop .at) (c .before .loop .left)
+first c = let l = c .before .loop in row-first (now (c .before .before .before .before .args .stored)) (l .at) (l .left) (c .loop-test .taken) (l .inv .inside) (l .inv .fine)
 
 loop-holds : tie.Need-loop-holds Inv-loop μ-loop
-loop-holds c = filling-none _ _ _ _ (omega arith) (c .before .before .pre .0) (c .before .before .pre .1)
-
-sub-take-cell : tie.Need-sub-take-cell Inv-loop μ-loop
-sub-take-cell c = omega arith
-
-part-take-cell-start : tie.Need-part-take-cell-start Inv-loop μ-loop
-part-take-cell-start c = omega arith
-
-part-take-cell-end : tie.Need-part-take-cell-end Inv-loop μ-loop
-part-take-cell-end c = omega arith
+loop-holds c =
+    let a = c .before .before .args in
+    let p = c .before .before .pre in
+    filling-none (now (a .stored)) (a .from) (a .count) (p .0) (p .1 .0) (p .1 .1) refl
 
 take-cell-requires : tie.Need-take-cell-requires Inv-loop μ-loop
-take-cell-requires c κs =
-    let l = c .before .before .loop in
-    let s = now (c .before .before .before .before .before .args .stored) in
-    let g = filling-first (l .inv) (c .before .loop-test .taken) in
-    rw part-all (g .fits)
+take-cell-requires c κs = first c .fits
 
 sub-store-cell : tie.Need-sub-store-cell Inv-loop μ-loop
-sub-store-cell c = omega arith
+sub-store-cell c = omega (arith, c .before .before .loop .inv .room)
 
 part-store-cell-start : tie.Need-part-store-cell-start Inv-loop μ-loop
-part-store-cell-start c = omega arith
+part-store-cell-start c = omega (arith, c .before .before .loop .inv .room)
 
 part-store-cell-end : tie.Need-part-store-cell-end Inv-loop μ-loop
-part-store-cell-end c = omega arith
+part-store-cell-end c = omega (arith, c .before .before .loop .inv .room)
 
 store-cell-requires : tie.Need-store-cell-requires Inv-loop μ-loop
-store-cell-requires c κs = let l = c .before .before .before .before .loop in rw part-all (omega (arith, length-drop (l .to) (l .out)))
+store-cell-requires c κs = let l = c .before .before .before .loop in rw part-all (omega (arith, length-drop (l .to) (l .out), l .inv .room))
 
 shared-slice-read-cell-length : tie.Need-shared-slice-read-cell-length Inv-loop μ-loop
-shared-slice-read-cell-length c =
-    let l = c .before .before .before .before .before .before .before .before .loop in
-    let s = now (c .before .before .before .before .before .before .before .before .before .before .before .args .stored) in
-    let g = filling-first (l .inv) (c .before .before .before .before .before .before .before .loop-test .taken) in
-    omega (arith, g .fits, length-some (getD (drop (l .at) s) 0 0), length-drop (l .at) s)
+shared-slice-read-cell-length c = let d = c .before .before .before .before .before .before in omega (arith, first d .fits, length-some (getD (now (d .before .before .before .before .args .stored)) (d .before .loop .at) 0))
 
 cell-length-requires : tie.Need-cell-length-requires Inv-loop μ-loop
 cell-length-requires c κs = search needs
 
 add-at : tie.Need-add-at Inv-loop μ-loop
-add-at c =
-    let l = c .before .before .before .before .before .before .before .before .before .loop in
-    let s = now (c .before .before .before .before .before .before .before .before .before .before .before .before .args .stored) in
-    let g = filling-first (l .inv) (c .before .before .before .before .before .before .before .before .loop-test .taken) in
-    omega (arith, g .fits, c .cell-length .ensures, ap lengthBy (head-at (l .at) s 0), length-drop (l .at) s)
+add-at c = omega (arith, first (c .before .before .before .before .before .before .before) .fits, c .cell-length .ensures)
 
 add-to : tie.Need-add-to Inv-loop μ-loop
-add-to c = omega arith
+add-to c = omega (arith, c .before .before .before .before .before .before .before .before .loop .inv .room)
 
 sub-left : tie.Need-sub-left Inv-loop μ-loop
 sub-left c = omega arith
@@ -81,14 +66,8 @@ loop-less c = omega arith
 
 loop-again : tie.Need-loop-again Inv-loop μ-loop
 loop-again c =
-    let l = c .before .before .before .before .before .before .before .before .before .loop in
-    let s = now (c .before .before .before .before .before .before .before .before .before .before .before .before .args .stored) in
-    let w =
-    ap fieldsOf (c .before .before .before .before .before .before .take-cell .ensures ∙ ap (λ (x : List ℕ). cellOf (cellAt x)) (part-all (l .at) s))
-    ∙ fields-of (cellAt (drop (l .at) s)) (cell-length (drop (l .at) s)) in
-    filling-more (l .inv) (c .before .before .before .before .before .before .before .before .loop-test .taken) _ _ (c .cell-length .ensures ∙ ap lengthBy (sym (head-at (l .at) s 0)))
-    (part-back (l .out) _ (l .to) (omega arith)
-    ∙ ap (λ (x : List ℕ). take (l .to) (l .out) ++ x) (c .before .before .before .before .store-cell .ensures ∙ ap₂ inFront w (part-all (l .to) (l .out))))
+    let d = c .before .before .before .before .before .before in
+    filling-more (d .before .before .loop .inv) (fieldsOf (d .take-cell .result)) (c .before .before .before .before .store-cell .ensures) (omega arith) (fields-of _ (d .take-cell .ensures)) (ap (λ (n : ℕ). d .before .before .loop .at + n) (c .cell-length .ensures)) refl
 
 same-length : tie.Need-same-length Inv-loop μ-loop
 same-length c = c .before .loop .inv .writes .kept
@@ -103,9 +82,6 @@ fill-each-spec =
     Inv-loop
     μ-loop
     loop-holds
-    sub-take-cell
-    part-take-cell-start
-    part-take-cell-end
     take-cell-requires
     sub-store-cell
     part-store-cell-start

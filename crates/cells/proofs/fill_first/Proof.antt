@@ -3,13 +3,9 @@ use Prim.Native.Nat.{ℕ}
 use mathlib.Core.List.{List}
 use mathlib.Core.Path.{ap, _∙_}
 use borrow.Author.Tests.{eq-eqb, ne-eqb}
-use lib.ListN.{drop}
 use denote.Ref.{now}
 use Rattle.xm.specs.Answer.{inFront}
-use Rattle.xm.specs.Cell.{cellAt}
-use Rattle.xm.proofs.Cell.{cell-length}
-use Rattle.cells.specs.Step.{fieldsOf}
-use Rattle.cells.proofs.Step.{fields-of}
+use Rattle.cell.proofs.ReadLaws.{fields-of}
 use borrow.Author.Needs.{needs}
 use Rattle.cells.proofs.fill_first.Statement.{statement}
 use Rattle.cells.proofs.fill_first.Tie as tie
@@ -17,8 +13,8 @@ use Rattle.cells.proofs.fill_first.Tie as tie
 clear-requires : tie.Need-clear-requires
 clear-requires c κs = search needs
 
-take-at-requires : tie.Need-take-at-requires
-take-at-requires c κs = search needs
+take-over-requires : tie.Need-take-over-requires
+take-over-requires c κs = search needs
 
 store-cell-requires : tie.Need-store-cell-requires
 store-cell-requires c κs = search needs
@@ -35,17 +31,14 @@ same-length-2 c = search needs
 returns-2 : tie.Need-returns-2
 returns-2 c =
     let a = c .before .before .before .before .before .before .before .before .args in
-    let d = drop (a .place) (now (a .stored)) in
-    rw (ne-eqb _ _ (c .before .before .before .before .before .if1 .left))
-    (c .before .before .store-cell .ensures
-    ∙ ap (λ (x : List ℕ). inFront x (now (a .out))) (ap fieldsOf (c .before .before .before .before .take-at .ensures) ∙ fields-of (cellAt d) (cell-length d)))
+    rw (ne-eqb _ _ (c .before .before .before .before .before .if1 .left)) (c .before .before .store-cell .ensures ∙ ap (λ (x : List ℕ). inFront x (now (a .out))) (fields-of _ (c .before .before .before .before .take-over .ensures)))
 
 pub fill-first-spec : {M : Type 1} → statement M
 fill-first-spec =
     tie.close
     (tie.spec
     clear-requires
-    take-at-requires
+    take-over-requires
     store-cell-requires
     same-length
     returns

@@ -1,7 +1,8 @@
 -- `cells::store_cell` meets its contract. Assumes nothing.
 use native.Mathlib.Omega.{arith}
 use lib.ListN.{length-set}
-use Rattle.cells.proofs.Fill.{store-five}
+use lib.Seq.{sets-eq}
+use Rattle.cell.specs.Read.{fieldsOf}
 use borrow.Author.Needs.{needs}
 use Rattle.cells.proofs.store_cell.Statement.{statement}
 use Rattle.cells.proofs.store_cell.Tie as tie
@@ -25,7 +26,7 @@ same-length : tie.Need-same-length
 same-length c = search needs
 
 returns : tie.Need-returns
-returns c = store-five (c .args .out .now) _ _ _ _ _ (c .pre)
+returns c = sets-eq (fieldsOf (c .args .cell)) (c .args .out .now) 0 (c .pre)
 
 pub store-cell-spec : {M : Type 1} → statement M
 store-cell-spec =

@@ -1,0 +1,135 @@
+// What the fast loops stand on: eight bytes at once, empty cells among them, and two cells ahead.
+use cell::read::chosen;
+use slices::read::wide;
+ghost use mathlib.Core.Path.{_≡_};
+ghost use Prim.Native.Nat.{_+_, _*_, _/_, _%_, _≤_};
+ghost use lib.ListN.{length, getD};
+ghost use Rattle.xm.specs.Cell.{lengthBy};
+ghost use Rattle.ahead.specs.Ahead.{eightAt, WordAt, Empties, AheadOf, behind, lengthsBy, noteBy};
+
+// Of cells from a place on: how many stand in front of the last one, where that stands, and what follows it.
+pub struct Ahead {
+    pub cells: usize,
+    pub last: usize,
+    pub next: usize,
+}
+
+// Eight bytes as one number, low first. A loop keeps the number from turn to turn: so it stays one load.
+pub fn word(stored: &[u8], place: usize) -> u64
+    requires { ⌜ place + 8 ≤ length (now stored) ⌝ }
+    ensures { λ r. ⌜ r ≡ eightAt (now (stored .entry)) place ⌝ }
+{
+    let b0 = wide(stored[place]);
+    let b1 = wide(stored[place + 1]);
+    let b2 = wide(stored[place + 2]);
+    let b3 = wide(stored[place + 3]);
+    let b4 = wide(stored[place + 4]);
+    let b5 = wide(stored[place + 5]);
+    let b6 = wide(stored[place + 6]);
+    let b7 = wide(stored[place + 7]);
+    b0
+        + 256 * b1
+        + 65536 * b2
+        + 16777216 * b3
+        + 4294967296 * b4
+        + 1099511627776 * b5
+        + 281474976710656 * b6
+        + 72057594037927936 * b7
+}
+
+// The first eight bytes, where there are so many.
+pub fn first_word(stored: &[u8]) -> u64
+    ensures { λ r. ⌜ WordAt (now (stored .entry)) 0 r ⌝ }
+{
+    if stored.len() < 8 {
+        return 0;
+    }
+    word(stored, 0)
+}
+
+// How many of a word's first seven bytes, from the first on, are empty cells: less seven times 128, they are the zero bytes below.
+pub fn empty_run(word: u64) -> usize
+    ensures { λ r. ⌜ Empties word r ⌝ }
+{
+    let rest = word % 72057594037927936 + 9187201950435737472;
+    let zeros = u64::trailing_zeros(rest);
+    (zeros / 8) as usize
+}
+
+// Sixteen lengths, four bits each, by the lead byte's low four bits: a word's first cell is plain, or marked with no parameter or one.
+fn lengths_by(word: u64) -> u64
+    ensures { λ r. ⌜ r ≡ lengthsBy word ⌝ }
+{
+    if word % 256 < 128 {
+        return 0x5555555555555555;
+    }
+    if word / 16 % 2 == 0 {
+        return 0x5443433243323221;
+    }
+    0x6554544354434332
+}
+
+// The bits that a word's first cell takes.
+fn cell_bits(word: u64) -> u64
+    ensures { λ r. ⌜ r ≡ 8 * lengthBy (word % 256) ⌝ }
+{
+    let lengths = lengths_by(word);
+    (lengths >> (word % 16 * 4)) % 16 * 8
+}
+
+// The bytes that a cell takes.
+pub fn length_by(lead: u8) -> usize
+    ensures { λ r. ⌜ r ≡ lengthBy lead ⌝ }
+{
+    let bits = cell_bits(wide(lead));
+    (bits / 8) as usize
+}
+
+// The cell behind some bits of a word, and what follows it.
+fn ahead_by(word: u64, place: usize, cells: usize, bits: u64) -> Ahead
+    requires { ⌜ place + 13 ≤ 18446744073709551615 ⌝ }
+    requires { ⌜ bits ≤ 56 ⌝ }
+    ensures { λ r. ⌜ r ≡ behind word place cells bits ⌝ }
+{
+    let last = place + (bits / 8) as usize;
+    let length = cell_bits(word >> bits) / 8;
+    Ahead {
+        cells: cells,
+        last: last,
+        next: last + length as usize,
+    }
+}
+
+// Two cells, or empty cells and another one, by the word that stands at a place.
+pub fn look_ahead(stored: &[u8], place: usize, word: u64) -> Ahead
+    requires { ⌜ place + 13 ≤ length (now stored) ⌝ }
+    requires { ⌜ word ≡ eightAt (now stored) place ⌝ }
+    ensures { λ r. ⌜ AheadOf (now (stored .entry)) place r ⌝ }
+{
+    if word % 256 == 128 {
+        let empty = empty_run(word);
+        return ahead_by(word, place, empty, (8 * empty) as u64);
+    }
+    ahead_by(word, place, 1, cell_bits(word))
+}
+
+// A cell's note, of its lead byte and the next one.
+fn note_by(lead: u8, second: u8) -> u8
+    ensures { λ r. ⌜ r ≡ noteBy lead second ⌝ }
+{
+    chosen(lead < 128, lead, chosen(lead % 2 == 0, 0, second))
+}
+
+// The note of a word's first cell, and of the cell at a place.
+pub fn first_note(word: u64) -> u8
+    ensures { λ r. ⌜ r ≡ noteBy (word % 256) (word / 256 % 256) ⌝ }
+{
+    note_by((word % 256) as u8, (word / 256 % 256) as u8)
+}
+
+pub fn note_at(stored: &[u8], place: usize) -> u8
+    requires { ⌜ place + 2 ≤ length (now stored) ⌝ }
+    ensures { λ r. ⌜ r ≡ noteBy (getD (now (stored .entry)) place 0) (getD (now (stored .entry)) (place + 1) 0) ⌝ }
+{
+    note_by(stored[place], stored[place + 1])
+}
