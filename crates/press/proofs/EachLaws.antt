@@ -10,10 +10,9 @@ use Rattle.xm.specs.Got.{Got, got, refused}
 use Rattle.xm.specs.Format.{Format, each}
 use Rattle.xm.specs.Answer.{inFront}
 use Rattle.xm.proofs.Got.{bind-got, got-value, got-used, got-carry}
-use Rattle.xm.proofs.Lay.{Laid, laid-none, laid-done, laid-long}
+use Rattle.xm.proofs.Lay.{Laid, laid-none, laid-part, laid-done, laid-long}
 use Rattle.shortest.specs.Found.{rewritten}
 use Rattle.writers.specs.Found.{Told, readAt, pressedAt, endOf}
-use Rattle.writers.proofs.Writing.{laid-part}
 
 -- A reading with a property was accepted
 pub told-got : {A R : Type 0} (P : A → Type 0) (g : Got A) → Told P g → ((a : A) (n : ℕ) → g ≡ got a n → P a → R) → R

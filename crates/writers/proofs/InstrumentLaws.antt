@@ -18,7 +18,7 @@ use Rattle.xm.proofs.Format.{flat-append}
 use Rattle.xm.proofs.Sample.{samples-keeps}
 use Rattle.xm.proofs.Instrument.{heads-used}
 use Rattle.xm.specs.Answer.{inFront}
-use Rattle.xm.proofs.Lay.{Laid, laid-none, laid-done}
+use Rattle.xm.proofs.Lay.{Laid, laid-none, laid-part, laid-done}
 use Rattle.shortest.specs.Found.{rewritten}
 use Rattle.steps.specs.Sample.{headsFrom}
 use Rattle.steps.specs.Step.{instrumentStep}
@@ -30,7 +30,6 @@ use Rattle.steps.proofs.SampleLaws.{heads-viewed, samples-counted, samples-size
 use Rattle.refusal.specs.declared.Fault.{Fault}
 use Rattle.writers.specs.Found.{readAt, pressedAt}
 use Rattle.writers.specs.Instrument.{InstrumentIs, frontOf, voiceAt}
-use Rattle.writers.proofs.Writing.{laid-part}
 use Rattle.writers.proofs.Kept.{part-length, part-split, byte-kept, word-kept}
 
 -- Name, type and k, copied

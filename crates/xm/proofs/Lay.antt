@@ -89,6 +89,13 @@ module _ {A : Type 0} {lent goal out : List A} {to : ℕ} {rest : List A} (l : L
         laid = ap₂ (λ (x : List A) (k : ℕ). lay x k rest′) en n ∙ lay-more out to w rest′ (omega (arith, q, l .room)) ∙ ap (lay out to) (sym e) ∙ l .laid;
       }
 
+  -- w is written in front of a lent part, `&mut out[to..]`
+  pub laid-part : (w rest′ : List A) {written left : List A} {next : ℕ} → rest ≡ w ++ rest′ → written ≡ w → next ≡ to + length w
+      → left ≡ inFront written (take (length out - to) (drop to out)) → Laid lent goal (putMid to (length out - to) out left) next rest′
+  laid-part w rest′ {written} {left} {next} e same n el =
+      laid-more w rest′ (putMid to (length out - to) out left) next e n
+      (part-back out left to (omega (arith, l .room)) ∙ ap (λ (x : List A). take to out ++ x) (el ∙ ap₂ inFront same (part-all to out)))
+
   -- one element is stored, at `to`
   pub laid-set : (x : A) (rest′ : List A) → rest ≡ x ∷ rest′ → Laid lent goal (set out to x) (to + 1) rest′
   unfolding lay
@@ -101,3 +108,12 @@ module _ {A : Type 0} {lent goal out : List A} {to : ℕ} {rest : List A} (l : L
 
   pub laid-long : rest ≡ [] → to ≡ length goal
   laid-long e = omega (arith, l .count, ap length e)
+
+-- The first piece is written; and the last one, in front of a lent part
+pub laid-first : {A : Type 0} (lent goal piece later : List A) {out : List A} {next : ℕ} → goal ≡ piece ++ later → length goal ≤ length lent → next ≡ length piece
+    → out ≡ inFront piece lent → Laid lent goal out next later
+laid-first lent goal piece later {out} {next} e h n w = laid-more (laid-none lent goal h) piece later out next e (omega arith) w
+
+pub laid-last : {A : Type 0} {lent goal out rest : List A} {to : ℕ} → Laid lent goal out to rest → {written left : List A} → rest ≡ written
+    → left ≡ inFront written (take (length out - to) (drop to out)) → putMid to (length out - to) out left ≡ inFront goal lent
+laid-last l {written} e w = laid-done (laid-part l written [] (e ∙ sym (append-nil written)) refl refl w) refl

@@ -7,12 +7,11 @@ use Rattle.xm.specs.Format.{each}
 use Rattle.xm.specs.Header.{writeHeader}
 use Rattle.xm.specs.PatternInFile.{patternFormat}
 use Rattle.xm.specs.Instrument.{instrumentFormat}
-use Rattle.xm.proofs.Lay.{part-all}
+use Rattle.xm.proofs.Lay.{part-all, laid-part, laid-first, laid-last}
 use Rattle.writers.specs.Found.{pressedAt}
 use Rattle.writers.specs.Header.{headerWith}
 use Rattle.press.specs.Module.{pressedFile}
 use Rattle.press.specs.declared.module.Reached.{Reached}
-use Rattle.writers.proofs.Writing.{laid-first, laid-part, laid-last}
 use Rattle.press.proofs.ModuleLaws.{numbers-inside, ModuleLies, module-lies}
 use borrow.Author.Needs.{needs}
 use Rattle.press.proofs.module.write_module.Statement.{statement}

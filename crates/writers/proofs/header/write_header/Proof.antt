@@ -3,8 +3,8 @@ use mathlib.Core.Path.{refl, sym}
 use native.Mathlib.Omega.{arith}
 use lib.ListN.{length}
 use Rattle.xm.specs.Header.{writeHeader}
+use Rattle.xm.proofs.Lay.{laid-first, laid-part, laid-last}
 use Rattle.writers.specs.Header.{headerWith, namesOf, numbersOf}
-use Rattle.writers.proofs.Writing.{laid-first, laid-part, laid-last}
 use Rattle.writers.proofs.HeaderLaws.{header-parts, names-size, header-size}
 use borrow.Author.Needs.{needs}
 use Rattle.writers.proofs.header.write_header.Statement.{statement}

@@ -3,8 +3,8 @@ use mathlib.Core.Path.{refl}
 use native.Mathlib.Omega.{arith}
 use Rattle.xm.specs.Number.{part, byte}
 use Rattle.xm.specs.Header.{idText, mark}
+use Rattle.xm.proofs.Lay.{laid-first, laid-part, laid-last}
 use Rattle.writers.specs.Header.{namesOf}
-use Rattle.writers.proofs.Writing.{laid-first, laid-part, laid-last}
 use Rattle.writers.proofs.Kept.{part-length}
 use Rattle.writers.proofs.HeaderLaws.{names-size}
 use borrow.Author.Needs.{needs}

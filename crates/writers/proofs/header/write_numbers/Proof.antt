@@ -4,8 +4,8 @@ use mathlib.Core.Path.{refl, sym, ap, _∙_}
 use native.Mathlib.Omega.{arith}
 use Rattle.xm.specs.Number.{Bytes, wordAt, word, long}
 use Rattle.xm.specs.Header.{channelsAt, restartOf}
+use Rattle.xm.proofs.Lay.{laid-first, laid-part, laid-last}
 use Rattle.writers.specs.Header.{numbersOf}
-use Rattle.writers.proofs.Writing.{laid-first, laid-part, laid-last}
 use Rattle.writers.proofs.Kept.{word-kept}
 use Rattle.writers.proofs.HeaderLaws.{four-words}
 use borrow.Author.Needs.{needs}

@@ -5,8 +5,8 @@ use mathlib.Core.Path.{refl}
 use native.Mathlib.Omega.{arith}
 use lib.ListN.{length, replicate}
 use Rattle.xm.specs.Header.{ordersMost}
+use Rattle.xm.proofs.Lay.{laid-first, laid-last}
 use Rattle.writers.specs.Header.{ordersOf}
-use Rattle.writers.proofs.Writing.{laid-first, laid-last}
 use Rattle.writers.proofs.HeaderLaws.{orders-size}
 use borrow.Author.Needs.{needs}
 use Rattle.writers.proofs.header.write_orders.Statement.{statement}

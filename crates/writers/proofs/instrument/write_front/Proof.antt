@@ -4,8 +4,8 @@ use native.Mathlib.Omega.{arith}
 use lib.ListN.{drop, length-drop}
 use Rattle.xm.specs.Number.{Bytes, long}
 use Rattle.xm.proofs.Number.{bytes-drop}
+use Rattle.xm.proofs.Lay.{laid-first, laid-last}
 use Rattle.writers.specs.Instrument.{frontOf}
-use Rattle.writers.proofs.Writing.{laid-first, laid-last}
 use Rattle.writers.proofs.Kept.{part-cut}
 use Rattle.writers.proofs.InstrumentLaws.{front-kept, front-size}
 use borrow.Author.Needs.{needs}

@@ -7,11 +7,10 @@ use lib.ListN.{drop, length-take, length-drop}
 use Rattle.xm.specs.Format.{flat}
 use Rattle.xm.specs.Answer.{inFront}
 use Rattle.xm.specs.Instrument.{instrumentFormat}
-use Rattle.xm.proofs.Lay.{part-all}
+use Rattle.xm.proofs.Lay.{part-all, laid-part, laid-first, laid-last}
 use Rattle.steps.specs.Sample.{headsFrom}
 use Rattle.writers.specs.Found.{pressedAt}
 use Rattle.writers.specs.Instrument.{frontOf, voiceAt}
-use Rattle.writers.proofs.Writing.{laid-first, laid-part, laid-last}
 use Rattle.writers.proofs.InstrumentLaws.{BareLies, bare-lies, SomeLie, some-lie}
 use borrow.Author.Needs.{needs}
 use Rattle.writers.proofs.instrument.write_instrument.Statement.{statement}

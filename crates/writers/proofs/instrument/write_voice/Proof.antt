@@ -4,8 +4,8 @@ use native.Mathlib.Omega.{arith}
 use lib.ListN.{drop, length-drop}
 use Rattle.xm.specs.Number.{part, long}
 use Rattle.xm.specs.Instrument.{voiceFrom, voiceSize}
+use Rattle.xm.proofs.Lay.{laid-first, laid-part, laid-last}
 use Rattle.writers.specs.Instrument.{voiceAt}
-use Rattle.writers.proofs.Writing.{laid-first, laid-part, laid-last}
 use Rattle.writers.proofs.Kept.{part-length, part-cut}
 use Rattle.writers.proofs.InstrumentLaws.{voice-size}
 use borrow.Author.Needs.{needs}

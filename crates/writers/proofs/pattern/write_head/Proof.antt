@@ -2,8 +2,8 @@
 use mathlib.Core.Path.{refl}
 use native.Mathlib.Omega.{arith}
 use Rattle.xm.specs.Number.{byte, word, long}
+use Rattle.xm.proofs.Lay.{laid-first, laid-part, laid-last}
 use Rattle.writers.specs.Pattern.{patternHead}
-use Rattle.writers.proofs.Writing.{laid-first, laid-part, laid-last}
 use borrow.Author.Needs.{needs}
 use Rattle.writers.proofs.pattern.write_head.Statement.{statement}
 use Rattle.writers.proofs.pattern.write_head.Tie as tie
