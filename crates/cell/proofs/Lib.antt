@@ -1,2 +1,5 @@
 pub mod ReadLaws
 pub mod ReadRows
+pub mod WriteLaws
+pub mod Over
+pub mod WriteRows

@@ -28,9 +28,11 @@ use Rattle.cell.specs.Read.{bitsBy, fieldsFrom, FirstField, NextField, c
 pub fields-of : (s : List ℕ) {cell : Cell} → cell ≡ cellOf (cellAt s) → fieldsOf cell ≡ cellAt s
 fields-of s e = ap fieldsOf e ∙ five-same (cellAt s) (cell-length s)
 
+pub kept-fields : (cell : Cell) → keptCount cell ≡ length (kepts (fieldsOf cell))
+kept-fields cell = sym (kepts-sum (cell .note) (cell .instrument) (cell .volume) (cell .effect) (cell .parameter))
+
 pub kept-of : (s : List ℕ) {cell : Cell} → cell ≡ cellOf (cellAt s) → keptCount cell ≡ length (kepts (cellAt s))
-kept-of s {cell} e =
-    sym (kepts-sum (cell .note) (cell .instrument) (cell .volume) (cell .effect) (cell .parameter)) ∙ ap (λ (l : List ℕ). length (kepts l)) (fields-of s e)
+kept-of s {cell} e = kept-fields cell ∙ ap (λ (l : List ℕ). length (kepts l)) (fields-of s e)
 
 -- The three answers of reading the cell at a place
 module _ (place : ℕ) (s : List ℕ) where

@@ -34,16 +34,6 @@ pub fn chosen(test: bool, yes: u8, no: u8) -> u8
     if test { yes } else { no }
 }
 
-// The bytes that a cell takes.
-pub fn cell_length(lead: u8) -> usize
-    ensures { λ r. ⌜ r ≡ lengthBy lead ⌝ }
-{
-    if lead < 128 {
-        return 5;
-    }
-    1 + (u8::count_ones(lead & 31) as usize)
-}
-
 // The bits of its fields: a plain cell has all five.
 pub fn bits_by(lead: u8) -> u8
     ensures { λ r. ⌜ r ≡ bitsBy lead ⌝ }
@@ -60,6 +50,14 @@ pub fn fields_from(lead: u8) -> usize
         return 0;
     }
     1
+}
+
+// The bytes that a cell takes: "one more than the number of ones", and those of a plain cell too, with no jump.
+pub fn cell_length(lead: u8) -> usize
+    ensures { λ r. ⌜ r ≡ lengthBy lead ⌝ }
+{
+    let bits = bits_by(lead);
+    fields_from(lead) + (u8::count_ones(bits & 31) as usize)
 }
 
 // A field, which stands at `place` if the lowest bit says so.

@@ -1,3 +1,4 @@
+pub mod Lent
 pub mod Measure
 pub mod Exit
 pub mod Calls

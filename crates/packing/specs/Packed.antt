@@ -1,12 +1,11 @@
 -- The code's answers as the definitions' ones.
-use Prim.Native.Nat.{ℕ, _*_}
-use mathlib.Core.List.{List, [], _∷_, _++_}
+use Prim.Native.Nat.{ℕ}
+use mathlib.Core.List.{List, [], _∷_}
 use lib.ListN.{length}
 use Rattle.refusal.specs.Fault.{faultOf}
-use Rattle.xm.specs.Got.{Got, got, refused, AllHold, exactly, _at_}
+use Rattle.xm.specs.Got.{Got, got, refused}
 use Rattle.xm.specs.Answer.{Answer, gives, refuses}
 use Rattle.xm.specs.Stored.{Pattern, writeStored}
-use Rattle.xm.specs.Packing.{argumentTests}
 use Rattle.packing.specs.declared.Packed.{Packed}
 use Rattle.packing.specs.declared.Packed.the-variants.{Stored, Refused}
 use Rattle.packing.specs.declared.Measured.{Measured}
@@ -22,10 +21,7 @@ abbrev pub packedNumbers : Packed → List ℕ
 packedNumbers (Stored form) = 0 ∷ 0 ∷ form .length ∷ form .rows ∷ []
 packedNumbers (Refused fault) = fault .number ∷ fault .place ∷ 0 ∷ 0 ∷ []
 
--- For contracts inside the crate: the tests for 16, over the count of cell bytes; and the notes' tests with the length of the cells.
-abbrev pub ArgumentsHold : (rows channels bytes : ℕ) → Type 0
-ArgumentsHold rows channels bytes = AllHold (argumentTests rows channels ++ (exactly (rows * channels * 5) bytes (16 at 0) ∷ []))
-
+-- For contracts inside the crate: the notes' tests with the length of the cells.
 abbrev pub measuredOf : Got (Unit {0}) → (shortest : ℕ) → Measured
 measuredOf (got u n) shortest = Shortest shortest
 measuredOf (refused r) shortest = Faulty (faultOf r)

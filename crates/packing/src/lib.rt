@@ -1,20 +1,25 @@
 // Packing: the cells of a pattern in their shortest stored form.
+use cell::pattern::in_range;
+use cell::pattern::stored_size;
+use cell::read::Cell;
+use cell::read::NOTE_MOST;
+use cell::read::kept_count;
+use cell::read::shortest_by;
+use cell::write::write_cell;
+use cell::write::write_over;
 use refusal::Fault;
-use shortest::cell;
 use slices::read::wide;
 ghost use mathlib.Core.Path.{_≡_};
 ghost use Prim.Native.Nat.{_+_, _*_, _≤_};
-ghost use mathlib.Core.Bool.{true};
-ghost use lib.ListN.{length, drop};
+ghost use lib.ListN.{length, drop, replicate};
 ghost use Rattle.xm.specs.Got.{_at_, checked};
 ghost use Rattle.xm.specs.Format.{joined};
 ghost use Rattle.xm.specs.Answer.{refuses, inFront};
-ghost use Rattle.xm.specs.Cell.{five, writeCell};
+ghost use Rattle.xm.specs.Cell.{cellSize, five, writeCell};
 ghost use Rattle.xm.specs.Stored.{cellsOf};
-ghost use Rattle.xm.specs.Row.{sizeBy};
 ghost use Rattle.xm.specs.Packing.{packing, packAfter, noteTests};
-ghost use Rattle.shortest.specs.Fields.{fields};
-ghost use Rattle.packing.specs.Packed.{packedOf, ArgumentsHold, measuredOf};
+ghost use Rattle.cell.specs.Read.{fieldsOf};
+ghost use Rattle.packing.specs.Packed.{packedOf, measuredOf};
 
 // A stored form that was written: how many data bytes, and its row number.
 pub struct Form {
@@ -33,24 +38,18 @@ enum Measured {
     Faulty(Fault),
 }
 
-// Rows and channels are in range, and the cell bytes are those of so many cells.
-fn arguments_hold(rows: usize, channels: usize, bytes: usize) -> bool
-    ensures { λ r. ⌜ (r ≡ true → ArgumentsHold rows channels bytes) ⌝ }
-    ensures { λ r. ⌜ (ArgumentsHold rows channels bytes → r ≡ true) ⌝ }
+// The lent cell at a place.
+fn cell_at(cells: &[u8], place: usize) -> Cell
+    requires { ⌜ place + 5 ≤ length (now cells) ⌝ }
+    ensures { λ r. ⌜ five (drop place (now (cells .entry))) ≡ fieldsOf r ⌝ }
 {
-    if rows < 1 {
-        return false;
+    Cell {
+        note: cells[place],
+        instrument: cells[place + 1],
+        volume: cells[place + 2],
+        effect: cells[place + 3],
+        parameter: cells[place + 4],
     }
-    if 256 < rows {
-        return false;
-    }
-    if channels < 1 {
-        return false;
-    }
-    if 64 < channels {
-        return false;
-    }
-    bytes == rows * channels * 5
 }
 
 // The first pass over lent cells: a note above 97, or how many bytes the cells take in their shortest form.
@@ -62,42 +61,26 @@ fn measure_cells(cells: &[u8], count: usize) -> Measured
     let mut shortest: usize = 0;
     let mut left = count;
     while 0 < left {
-        let note = cells[place];
-        if 97 < note {
+        let cell = cell_at(cells, place);
+        let note = cell.note;
+        if NOTE_MOST < note {
             return Measured::Faulty(Fault {
                 number: 9,
                 place: place,
             });
         }
-        shortest += cell::shortest_length(
-            note,
-            cells[place + 1],
-            cells[place + 2],
-            cells[place + 3],
-            cells[place + 4],
-        );
+        let kept = kept_count(cell);
+        shortest += shortest_by(kept);
         place += 5;
         left -= 1;
     }
     Measured::Shortest(shortest)
 }
 
-// The data size of a pattern whose cells take `shortest` bytes: none for 64 rows of empty cells, which take a byte each.
-fn stored_size(rows: usize, count: usize, shortest: usize) -> usize
-    ensures { λ r. ⌜ r ≡ sizeBy rows count shortest ⌝ }
-{
-    if rows == 64 {
-        if shortest == count {
-            return 0;
-        }
-    }
-    shortest
-}
-
 // A number that is 0 only for an empty cell: four of its bytes are one load.
 fn weight(cells: &[u8], place: usize) -> u64
     requires { ⌜ place + 5 ≤ length (now cells) ⌝ }
-    ensures { λ r. ⌜ (r ≡ 0 → five (drop place (now (cells .entry))) ≡ fields 0 0 0 0 0) ⌝ }
+    ensures { λ r. ⌜ (r ≡ 0 → five (drop place (now (cells .entry))) ≡ replicate cellSize 0) ⌝ }
 {
     let first = wide(cells[place]);
     let second = wide(cells[place + 1]);
@@ -107,37 +90,45 @@ fn weight(cells: &[u8], place: usize) -> u64
     first + 256 * second + 65536 * third + 16777216 * fourth + fifth
 }
 
-// The second pass over lent cells: each in its shortest form, `size` bytes in all, at the front of out.
-fn write_cells(cells: &[u8], count: usize, size: usize, out: &mut [u8])
+// Lent cells from a place on, one by one, each in its shortest form at the front of out.
+fn write_each(cells: &[u8], from: usize, count: usize, out: &mut [u8])
+    requires { ⌜ from + count * 5 ≤ length (now cells) ⌝ }
+    requires { ⌜ length (joined writeCell (cellsOf count (drop from (now cells)))) ≤ length (now out) ⌝ }
+    ensures { λ _. ⌜ now (out .exit) ≡ inFront (joined writeCell (cellsOf count (drop from (now (cells .entry))))) (now (out .entry)) ⌝ }
+{
+    let mut place = from;
+    let mut to: usize = 0;
+    let mut unwritten = count;
+    while 0 < unwritten {
+        to += write_cell(cell_at(cells, place), &mut out[to..]);
+        place += 5;
+        unwritten -= 1;
+    }
+}
+
+// The second pass over lent cells: each in its shortest form, at the front of out. A cell takes a byte at least: five behind this one
+// leave room for six bytes. Where the rest begins is told by the count, so that the loop needs no more than a pointer.
+fn write_cells(cells: &[u8], count: usize, out: &mut [u8])
     requires { ⌜ count * 5 ≤ length (now cells) ⌝ }
-    requires { ⌜ size ≡ length (joined writeCell (cellsOf count (now cells))) ⌝ }
-    requires { ⌜ size ≤ length (now out) ⌝ }
+    requires { ⌜ length (joined writeCell (cellsOf count (now cells))) ≤ length (now out) ⌝ }
     ensures { λ _. ⌜ now (out .exit) ≡ inFront (joined writeCell (cellsOf count (now (cells .entry)))) (now (out .entry)) ⌝ }
 {
     let mut place: usize = 0;
     let mut to: usize = 0;
-    let mut unwritten = count;
-    while 0 < unwritten {
+    let mut left = count;
+    while 5 < left {
         let at = place;
         let sum = weight(cells, at);
         place += 5;
-        unwritten -= 1;
+        left -= 1;
         if sum == 0 {
             out[to] = 128;
             to += 1;
             continue;
         }
-        let note = cells[at];
-        let instrument = cells[at + 1];
-        let volume = cells[at + 2];
-        let effect = cells[at + 3];
-        let parameter = cells[at + 4];
-        if size - to < 6 {
-            to += cell::write_cell(note, instrument, volume, effect, parameter, &mut out[to..]);
-            continue;
-        }
-        to += cell::write_over(note, instrument, volume, effect, parameter, &mut out[to..]);
+        to += write_over(cell_at(cells, at), &mut out[to..]);
     }
+    write_each(cells, (count - left) * 5, left, &mut out[to..]);
 }
 
 fn refused(number: u32) -> Packed
@@ -154,11 +145,14 @@ pub fn pack(rows: usize, channels: usize, cells: &[u8], out: &mut [u8]) -> Packe
     ensures { λ r. ⌜ r ≡ packedOf (packing rows channels (now (cells .entry)) (length (now (out .entry)))) ⌝ }
     ensures { λ _. ⌜ now (out .exit) ≡ packAfter rows channels (now (cells .entry)) (now (out .entry)) ⌝ }
 {
-    let hold = arguments_hold(rows, channels, cells.len());
-    if !hold {
+    let fits = in_range(rows, channels);
+    if !fits {
         return refused(16);
     }
     let count = rows * channels;
+    if cells.len() != count * 5 {
+        return refused(16);
+    }
     let measured = measure_cells(cells, count);
     match measured {
         Measured::Faulty(fault) => Packed::Refused(fault),
@@ -171,7 +165,7 @@ pub fn pack(rows: usize, channels: usize, cells: &[u8], out: &mut [u8]) -> Packe
                 return refused(14);
             }
             if 0 < size {
-                write_cells(cells, count, size, out);
+                write_cells(cells, count, out);
             }
             Packed::Stored(Form {
                 length: size,

@@ -1,5 +1,1 @@
-pub mod Fields
-pub mod Over
-pub mod Row
-pub mod Bits
 pub mod Read

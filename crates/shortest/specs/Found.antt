@@ -5,19 +5,14 @@ use mathlib.Core.List.{List, []}
 use mathlib.Core.Path.{_≡_}
 use lib.ListN.{length}
 use Rattle.xm.specs.Got.{Got, got, refused, accepted}
-use Rattle.xm.specs.Format.{joined}
-use Rattle.xm.specs.Cell.{writeCell}
-use Rattle.xm.specs.Stored.{readRow, readStored, writeStored}
+use Rattle.xm.specs.Stored.{readStored, writeStored}
 
 -- The bytes that `write` gives of what was found; none, if the reading was refused.
 abbrev pub rewritten : {A : Type 0} → (A → List ℕ) → Got A → List ℕ
 rewritten write (got a n) = write a
 rewritten write (refused r) = []
 
--- Stored cells, and a stored form, in their shortest form.
-abbrev pub cellsPressed : (count : ℕ) (stored : List ℕ) → List ℕ
-cellsPressed count stored = rewritten (joined writeCell) (readRow count 0 stored)
-
+-- A stored form in its shortest form.
 abbrev pub storedPressed : (rows channels : ℕ) (stored : List ℕ) → List ℕ
 storedPressed rows channels stored = rewritten writeStored (readStored channels rows 0 stored)
 

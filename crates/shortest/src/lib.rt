@@ -1,3 +1,2 @@
-// Cells in their shortest form: one cell, and stored cells pressed again.
-pub mod cell;
+// Stored cells in their shortest form: pressed again.
 pub mod stored;

@@ -1,0 +1,54 @@
+-- Laws of one cell written: plain or marked by how many fields are kept, and these put one after the other. Assumes nothing.
+use Prim.Native.Nat.{ℕ, zero, suc, _+_, _≤_, _<_}
+use mathlib.Core.Path.{_≡_, refl, sym, ap, _∙_}
+use mathlib.Core.List.{List, [], _∷_, _++_}
+use native.Mathlib.Omega.{arith}
+use borrow.Author.Tests.{le-ltb}
+use lib.ListN.{length, getD, take, set, replicate}
+use lib.Seq.{drop-drop}
+use Rattle.xm.specs.Answer.{inFront}
+use Rattle.xm.specs.Lay.{lay}
+use Rattle.xm.specs.Cell.{cellSize, bit, kept, marks, kepts, marked, plainBy, goesPlain, writeCell}
+use Rattle.xm.proofs.Cell.{kept-length, kepts-most, marked-length, write-plain, write-marked, many-plain}
+use Rattle.xm.proofs.Lay.{Laid, laid-none, laid-more, laid-set, laid-done, laid-long}
+
+-- Plain if all five fields are kept, else marked
+pub count-plain : (cell : List ℕ) → 5 ≤ length (kepts cell) → writeCell cell ≡ cell
+unfolding goesPlain
+count-plain cell h = write-plain cell (many-plain (getD cell 0 0) (length (kepts cell)) h)
+
+pub count-marked : (cell : List ℕ) → length (kepts cell) < 5 → writeCell cell ≡ marked cell
+unfolding goesPlain plainBy
+count-marked cell h = write-marked cell (le-ltb 5 (1 + length (kepts cell)) (omega arith))
+
+pub written-marked : (cell : List ℕ) → length (kepts cell) < 5 → length (writeCell cell) ≡ 1 + length (kepts cell)
+written-marked cell h = ap length (count-marked cell h) ∙ marked-length cell
+
+-- A cell of which all is kept
+pub kepts-full : (cell : List ℕ) → length cell ≤ length (kepts cell) → kepts cell ≡ cell
+unfolding kepts kept
+kepts-full [] h = refl
+kepts-full (zero ∷ xs) h = absurd (omega (arith, kepts-most xs))
+kepts-full (suc x ∷ xs) h = ap (λ (l : List ℕ). suc x ∷ l) (kepts-full xs (omega arith))
+
+-- An empty cell is its lead byte
+pub empty-written : writeCell (replicate cellSize 0) ≡ 128 ∷ []
+unfolding writeCell goesPlain plainBy marked marks kepts kept
+empty-written = refl
+
+-- The lead byte, and behind it the fields that are kept, which are still to be laid
+pub put-first : (lent cell : List ℕ) (lead : ℕ) → lead ≡ 128 + marks cell → 1 + length (kepts cell) ≤ length lent → Laid lent (marked cell) (set lent 0 lead) 1 (kepts cell)
+unfolding marked
+put-first lent cell lead e h = laid-set (laid-none lent (marked cell) (omega (arith, marked-length cell))) lead (kepts cell) (ap (λ (x : ℕ). x ∷ kepts cell) (sym e))
+
+pub put-more : {lent goal out : List ℕ} {to : ℕ} (x : ℕ) (xs : List ℕ) → Laid lent goal out to (kepts (x ∷ xs)) → {new : List ℕ} {next : ℕ}
+    → (next ≡ to + bit x) × (new ≡ lay out to (kept x)) → Laid lent goal new next (kepts xs)
+unfolding kepts lay
+put-more {out = out} {to} x xs l {new} {next} q =
+    laid-more l (kept x) (kepts xs) new next refl (omega (arith, q .0, kept-length x))
+    (q .1 ∙ ap (λ (left : List ℕ). take to out ++ (kept x ++ left)) (sym (drop-drop (length (kept x)) to out)))
+
+pub put-done : {lent out : List ℕ} {to : ℕ} (cell : List ℕ) → Laid lent (marked cell) out to (kepts []) → length (kepts cell) < 5
+    → (to ≡ length (writeCell cell)) × (out ≡ inFront (writeCell cell) lent)
+unfolding kepts
+put-done cell l h = rw (count-marked cell h) (laid-long l refl, laid-done l refl)
