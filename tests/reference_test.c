@@ -1,5 +1,5 @@
-/* reference_test.c: what the library has no call for (tables, structures, deltas, stretches), held against numbers worked out by
-   hand from the rules paper; and laws between them over generated modules. */
+/* reference_test.c: the reference's tables, structures, deltas and stretches, held against numbers worked out by hand from the
+   rules paper; and laws between them over generated modules. */
 
 #include "modules.h"
 #include "reference.h"
@@ -130,6 +130,43 @@ static void tables_of_the_hand_module(void)
     must(samples[2].header_place == 0x55555555);
 }
 
+/* The loader's form of the same: flat numbers, and numbers behind the last row stay. */
+static void flat_tables_of_the_hand_module(void)
+{
+    const uint32_t want_patterns[] = {348, 2, 1, 359, 0, 64}, want_instruments[] = {359, 0, 0, 388, 2, 0, 741, 0, 2, 7, 7};
+    const uint32_t want_samples[] = {652, 734, 3, 8, 693, 737, 4, 16, 7, 7, 7};
+    const int8_t want_tunes[] = {-128, 127, -1, -128, 7};
+    uint8_t file[HAND_LENGTH];
+    uint32_t patterns[6], instruments[11], samples[11] = {[8] = 7, 7, 7};
+    int8_t tunes[5] = {[4] = 7};
+    instruments[9] = instruments[10] = 7;
+    hand_module(file);
+    must(reference_loader_tables(file, sizeof file, patterns, 6, instruments, 11, samples, 11, tunes, 5) == 771);
+    must(memcmp(patterns, want_patterns, sizeof patterns) == 0 && memcmp(instruments, want_instruments, sizeof instruments) == 0);
+    must(memcmp(samples, want_samples, sizeof samples) == 0 && memcmp(tunes, want_tunes, sizeof tunes) == 0);
+    must(reference_loader_tables(file, sizeof file, patterns, 5, instruments, 9, samples, 8, tunes, 4) == (uint64_t)14 << 32);
+    must(reference_loader_tables(file, sizeof file, patterns, 6, instruments, 8, samples, 8, tunes, 4) == (uint64_t)14 << 32);
+    must(reference_loader_tables(file, sizeof file, patterns, 6, instruments, 9, samples, 7, tunes, 4) == (uint64_t)14 << 32);
+    must(reference_loader_tables(file, sizeof file, patterns, 6, instruments, 9, samples, 8, tunes, 3) == (uint64_t)14 << 32);
+    must(reference_loader_tables(file, 770, NULL, 0, NULL, 0, NULL, 0, NULL, 0) == ((uint64_t)1 << 32 | 741));
+}
+
+/* The limit is tried before anything is read, and before room. */
+static void deltas_have_a_limit(void)
+{
+    const uint8_t byte[1] = {0xFF};
+    const int16_t value[1] = {-1};
+    int16_t decoded[1];
+    uint8_t coded[2];
+    must(reference_loader_decode(8, byte, 1, decoded, 1) == 1 && decoded[0] == -1);
+    must(reference_loader_code(16, value, 1, coded, 2) == 2 && coded[0] == 0xFF && coded[1] == 0xFF);
+    must(reference_loader_decode(8, NULL, 16777216, NULL, 0) == (uint64_t)14 << 32);
+    must(reference_loader_decode(8, NULL, 16777217, NULL, 0) == (uint64_t)16 << 32);
+    must(reference_loader_decode(16, NULL, 16777218, NULL, 8388609) == (uint64_t)16 << 32);
+    must(reference_loader_code(16, NULL, 16777216, NULL, 0) == (uint64_t)14 << 32);
+    must(reference_loader_code(16, NULL, 16777217, NULL, 33554434) == (uint64_t)16 << 32);
+}
+
 static void a_short_table_leaves_all_alone(void)
 {
     uint8_t file[HAND_LENGTH];
@@ -237,7 +274,9 @@ int main(void)
     deltas_hold_the_papers_pieces();
     deltas_refuse_in_order();
     deltas_come_back();
+    deltas_have_a_limit();
     tables_of_the_hand_module();
+    flat_tables_of_the_hand_module();
     a_short_table_leaves_all_alone();
     structures_of_the_hand_module();
     stretches();

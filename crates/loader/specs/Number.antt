@@ -42,12 +42,12 @@ abbrev pub pressNumber : Pressed → ℕ
 pressNumber (pressed.Length length) = length
 pressNumber (pressed.Refused fault) = refusalNumber fault
 
--- "how many values"
+-- how many values
 abbrev pub decodeNumber : Decoded → ℕ
 decodeNumber (decoded.Values count) = count
 decodeNumber (decoded.Refused fault) = refusalNumber fault
 
--- "how many bytes"
+-- how many bytes
 abbrev pub codeNumber : Coded → ℕ
 codeNumber (coded.Bytes count) = count
 codeNumber (coded.Refused fault) = refusalNumber fault

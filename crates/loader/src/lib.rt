@@ -1,5 +1,5 @@
 // The loader's one number for the answer of each call: "refusal number × 2^32 + place, or else the end, the rows, length + 65,536 × rows,
-// the length"; "how many values; how many bytes".
+// the length"; and of deltas, how many values or bytes were written.
 pub mod limit;
 
 use cells::Unpacked;

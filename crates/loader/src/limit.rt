@@ -1,4 +1,4 @@
-// The loader's limit: "more than 16,777,216 bytes to decode or values to code get 16". So a count is always told from a refusal.
+// The loader's limit: more than 16,777,216 bytes to decode or values to code get 16. So a count is always told from a refusal.
 use refusal::Fault;
 use samples::Coded;
 use samples::Decoded;
