@@ -114,12 +114,15 @@ into-fault room file r b e =
     refused-bind (readFile file) _ (refuses-refused _ _ e) (own-sound file r b)
     λ found end er e. refused-tests OwnFault _ _ e (omega arith) λ hs e. absurd (got-never e)
 
-into-loads : (room : Room) (file : List ℕ) → Bytes file → LoaderTells Checked.end (checkingInto room file) (checkIntoLoader room file)
+into-end : (room : Room) (file : List ℕ) (c : Checked) → Bytes file → checkingInto room file ≡ gives c → c .end ≤ fileMost
 unfolding checkingInto
+into-end room file c b e =
+    gives-bound _ (readFile file) _ e λ found end q e. gives-passed _ _ _ e λ hs e.
+    let h = end-inside file found end b q in omega (arith, ap Checked.end (gives-same e))
+
+into-loads : (room : Room) (file : List ℕ) → Bytes file → LoaderTells Checked.end (checkingInto room file) (checkIntoLoader room file)
 into-loads room file b =
-    loader-tells Checked.end (checkingInto room file) (checkIntoLoader room file) refl
-    (λ c e. gives-bound _ (readFile file) _ e λ found end q e. gives-passed _ _ _ e λ hs e.
-    let h = end-inside file found end b q in omega (arith, ap Checked.end (gives-same e)))
+    loader-tells Checked.end (checkingInto room file) (checkIntoLoader room file) refl (λ c e. omega (arith, into-end room file c b e))
     (λ r e. let f = into-fault room file r b e in (f .sound .low, omega (arith, f .small)))
 
 tables-kept : (file : List ℕ) (lent : Tables) → Bytes file → TablesKept file lent
