@@ -1,38 +1,68 @@
-/* fiddlemarsh.h: checking, unpacking, packing and pressing FastTracker II (XM) modules, version 0x0104.
+/* fiddlemarsh.h: checking, unpacking, packing and pressing FastTracker II (XM) modules, version 0x0104. This file is the manual.
 
-   Link with libfiddlemarsh.a; of other libraries it needs at most memset and memcpy, which every libc has. C99 or later, and C++.
+   C99 or later, and C++. Link with libfiddlemarsh.a; of other libraries it needs at most memset and memcpy, which every libc has.
+   Where it is installed:
+
+       cc program.c $(pkg-config --cflags --libs fiddlemarsh)
 
 
    Memory
 
-   Every slice is a pointer and its length in bytes. The caller owns all of it, before, during and after a call: the library
-   allocates nothing, frees nothing, and keeps no pointer. A pointer must be good for its whole length (readable, and for 'cells'
-   of unpacking and 'out' writable), and may be NULL if the length is 0. No alignment is asked for.
+   Every slice is a pointer and its length. Lengths count bytes, unless a call says otherwise. The caller owns all of it,
+   before, during and after a call: the library allocates nothing, frees nothing, and keeps no pointer. A pointer must be good for
+   its whole length (readable, and for what a call fills writable), and may be NULL if the length is 0. Bytes need no alignment.
    What a call writes must not overlap what it reads: pressing or packing in place is not possible.
 
    Threads
 
    There is no state. Any number of threads may call at once, also on the same input, as long as no two calls write to the same
-   memory and nobody changes a call's input while it runs. A call takes little stack, never waits and never fails to return.
+   memory and nobody changes a call's input while it runs. A call never waits, and never fails to return.
 
    Answers
 
    Each call returns one 64-bit number. From 2^32 up it is a refusal: the refusal's number times 2^32, plus the place. Below
-   2^32 the call did its work, and the answer is what is said at the call. Take an answer apart with the functions at the end of
-   this file:
-
-       uint64_t answer = fiddlemarsh_press(file, file_len, out, out_len);
-       if (fiddlemarsh_refused(answer))
-           printf("refusal %u at place %u\n", (unsigned)fiddlemarsh_refusal(answer), (unsigned)fiddlemarsh_place(answer));
-       else
-           fwrite(out, 1, fiddlemarsh_length(answer), pressed);
+   2^32 the call did its work, and the answer is what is said at the call. The functions behind the calls take an answer apart,
+   and give a name and a sentence for each refusal number. The end of this file shows a whole program.
 
    A refused call changed nothing: all memory lent to it holds what it held. A call that did its work changed only what it is
-   said to fill; bytes beyond that stay. Input is never changed. Every number and every byte is fixed by the input: the same
+   said to fill; what lies beyond stays. Input is never changed. Every number and every byte is fixed by the input: the same
    call gives the same answer, always.
 
    The first fault in the order of the file is the answer. A place counts bytes from 0, from the start of the slice that is
-   read. */
+   read.
+
+   Machine
+
+   The library is code for x86-64 by the System V ABI, as Linux and the BSDs have it: pointers and size_t of 64 bits. It is
+   position independent, and uses no registers but the general ones and those of SSE2, which every x86-64 has.
+
+   Stack and time
+
+   Stack is what a call takes below its caller's, return address included: the most that was measured on x86-64.
+
+       call       stack, bytes    time grows with
+       check               272    file_len: what stands in headers and patterns is read once, sample data are passed over
+       unpack              232    data_len + rows x channels
+       pack                136    cells_len
+       press               752    file_len: as the check, and what is written is written once
+
+   Time grows in proportion to that and no faster, whatever the input holds.
+
+   Pressed files and players
+
+   A pressed file begins with the ID text "Extended module: ", as the rules of the boards have it. FastTracker II writes a capital
+   M there, and players that insist on it do not open pressed files (xmp and openmpt123 open none of 70). The boards read the mark
+   (byte 37) and the version (bytes 58 and 59), and so does the check.
+
+   Versions
+
+   Header and library have one version, FIDDLEMARSH_VERSION below, and belong together: the header of one version is not for the
+   library of another. From one version to the next there may change,
+       if only the patch number is another: time, stack, and the sentences for people, which nobody should compare;
+       if the minor number is another: also, there may be more calls, functions, constants, and refusal numbers that only new
+           calls give;
+       if the major number is another: anything, such as which files are accepted, what a number stands for, and the tables' rows.
+   So treat a refusal number that you do not know as a refusal like any other. */
 
 #ifndef FIDDLEMARSH_H
 #define FIDDLEMARSH_H
@@ -43,6 +73,11 @@
 #ifdef __cplusplus
 extern "C" {
 #endif
+
+#define FIDDLEMARSH_VERSION_MAJOR 1
+#define FIDDLEMARSH_VERSION_MINOR 0
+#define FIDDLEMARSH_VERSION_PATCH 0
+#define FIDDLEMARSH_VERSION "1.0.0"
 
 /* The refusal numbers, and the place that comes with each. */
 enum fiddlemarsh_number {
@@ -84,35 +119,69 @@ enum fiddlemarsh_number {
 };
 
 /* Limits, for callers that set memory aside beforehand. */
-#define FIDDLEMARSH_FILE_MOST 16777216  /* bytes of a module */
-#define FIDDLEMARSH_DATA_MOST 65535     /* bytes of one pattern's stored cells */
-#define FIDDLEMARSH_ROWS_MOST 256
+#define FIDDLEMARSH_FILE_MOST 16777216 /* bytes of a module */
+#define FIDDLEMARSH_DATA_MOST 65535    /* bytes of one pattern's stored cells */
+#define FIDDLEMARSH_ROWS_MOST 256      /* rows of a pattern */
 #define FIDDLEMARSH_CHANNELS_MOST 64
-#define FIDDLEMARSH_CELL_BYTES 5        /* note, instrument, volume, effect, parameter */
-#define FIDDLEMARSH_CELLS_MOST (FIDDLEMARSH_ROWS_MOST * FIDDLEMARSH_CHANNELS_MOST * FIDDLEMARSH_CELL_BYTES)
+#define FIDDLEMARSH_PATTERNS_MOST 256
+#define FIDDLEMARSH_INSTRUMENTS_MOST 128
+#define FIDDLEMARSH_SAMPLES_MOST 2048 /* of a module: 128 instruments with 16 each */
+
+/* Cells: five bytes each (note, instrument, volume, effect, parameter), row by row and in a row channel by channel. */
+#define FIDDLEMARSH_CELL_BYTES 5
+#define FIDDLEMARSH_CELLS_SIZE(rows, channels) ((size_t)(rows) * (size_t)(channels) * FIDDLEMARSH_CELL_BYTES) /* bytes */
+#define FIDDLEMARSH_CELLS_MOST 81920 /* bytes of the largest pattern's cells, 256 rows of 64 channels */
+
+/* The tables of a module: how many numbers make a row, where each stands in it, and how many numbers are enough for every
+   module. All are uint32_t but for the tunes, which are int8_t: finetune and relative note are signed.
+   Rows have the order of the file, and are counted from 0. */
+#define FIDDLEMARSH_PATTERN_NUMBERS 3
+#define FIDDLEMARSH_PATTERN_DATA_PLACE 0 /* where its stored cells begin */
+#define FIDDLEMARSH_PATTERN_DATA_SIZE 1  /* their bytes */
+#define FIDDLEMARSH_PATTERN_ROWS 2       /* the rows it reads as */
+#define FIDDLEMARSH_PATTERN_TABLE_MOST 768
+
+#define FIDDLEMARSH_INSTRUMENT_NUMBERS 3
+#define FIDDLEMARSH_INSTRUMENT_PLACE 0
+#define FIDDLEMARSH_INSTRUMENT_SAMPLES 1      /* how many it has */
+#define FIDDLEMARSH_INSTRUMENT_FIRST_SAMPLE 2 /* the number of its first one, or of the next one if it has none */
+#define FIDDLEMARSH_INSTRUMENT_TABLE_MOST 384
+
+#define FIDDLEMARSH_SAMPLE_NUMBERS 4
+#define FIDDLEMARSH_SAMPLE_HEADER_PLACE 0
+#define FIDDLEMARSH_SAMPLE_DATA_PLACE 1
+#define FIDDLEMARSH_SAMPLE_LENGTH 2 /* bytes of its data */
+#define FIDDLEMARSH_SAMPLE_WIDTH 3  /* 8 or 16 bits to a value */
+#define FIDDLEMARSH_SAMPLE_TABLE_MOST 8192
+
+#define FIDDLEMARSH_SAMPLE_TUNES 2
+#define FIDDLEMARSH_SAMPLE_FINETUNE 0
+#define FIDDLEMARSH_SAMPLE_RELATIVE_NOTE 1
+#define FIDDLEMARSH_TUNE_TABLE_MOST 4096
+
+/* The calls. */
 
 /* Checks a whole module.
    Returns the end: the place behind the last structure. Bytes from there to file_len are no part of the module.
    Refusals: 1 to 13. */
 uint64_t fiddlemarsh_check(const uint8_t *file, size_t file_len);
 
-/* Unpacks one pattern's stored data, as it stands in a module, into cells: five bytes each (note, instrument, volume, effect,
-   parameter), row by row and in a row channel by channel.
+/* Unpacks one pattern's stored data, as it stands in a module, into cells.
    rows 1..256 and channels 1..64 come from the pattern's header and the module's; data_len is at most 65,535.
-   Returns the rows, and has filled rows x channels x 5 bytes of cells. With data_len 0 the pattern is the standard empty one:
-   the answer is 64 rows, whatever rows says, and 64 x channels x 5 bytes are filled with 0.
+   Returns the rows, and has filled FIDDLEMARSH_CELLS_SIZE(rows, channels) bytes of cells. With data_len 0 the pattern is the
+   standard empty one: the answer is 64 rows, whatever rows says, and FIDDLEMARSH_CELLS_SIZE(64, channels) bytes are filled with 0.
    Room of FIDDLEMARSH_CELLS_MOST bytes is enough for every pattern.
    Refusals, in this order: 16 (rows, channels or data_len), then 7, 9 and 8 over the data, then 14. */
 uint64_t fiddlemarsh_unpack(size_t rows, size_t channels, const uint8_t *data, size_t data_len, uint8_t *cells, size_t cells_len);
 
 /* Packs cells, laid out as unpacking gives them, into the shortest stored data.
-   rows 1..256, channels 1..64, and cells_len is exactly rows x channels x 5.
+   rows 1..256, channels 1..64, and cells_len is exactly FIDDLEMARSH_CELLS_SIZE(rows, channels).
    Returns length + 65,536 x rows, and has filled length bytes of out. 64 rows of empty cells have length 0.
    Room of FIDDLEMARSH_DATA_MOST bytes is enough for every pattern.
    Refusals, in this order: 16 (rows, channels or cells_len), 9 over all cells, 15, 14. */
 uint64_t fiddlemarsh_pack(size_t rows, size_t channels, const uint8_t *cells, size_t cells_len, uint8_t *out, size_t out_len);
 
-/* Presses a module: writes the shortest file of the same content.
+/* Presses a module: writes the shortest file of the same content, in one fixed form (see 'Pressed files and players' above).
    Returns the length, and has filled that many bytes of out. The length never exceeds file_len, so room of file_len bytes is
    always enough. A pressed file is accepted, and pressing it again gives the same bytes.
    Refusals: those of the check, then 14. */
@@ -201,8 +270,122 @@ static inline uint32_t fiddlemarsh_length(uint64_t answer)
     return fiddlemarsh_refused(answer) ? 0 : (uint32_t)answer;
 }
 
+/* What a refusal number means. */
+
+/* Its name: that of its constant, in small letters and without FIDDLEMARSH_. "unknown" of a number that this header has not. */
+static inline const char *fiddlemarsh_refusal_name(uint32_t number)
+{
+    switch (number) {
+    case FIDDLEMARSH_ACCEPTED: return "accepted";
+    case FIDDLEMARSH_CUT: return "cut";
+    case FIDDLEMARSH_FILE_TOO_LONG: return "file_too_long";
+    case FIDDLEMARSH_MARK_OR_VERSION: return "mark_or_version";
+    case FIDDLEMARSH_HEADER_SIZE: return "header_size";
+    case FIDDLEMARSH_HEADER_COUNTS: return "header_counts";
+    case FIDDLEMARSH_PATTERN_HEADER: return "pattern_header";
+    case FIDDLEMARSH_CELL_CUT: return "cell_cut";
+    case FIDDLEMARSH_CELLS_LEFT_OVER: return "cells_left_over";
+    case FIDDLEMARSH_NOTE: return "note";
+    case FIDDLEMARSH_INSTRUMENT: return "instrument";
+    case FIDDLEMARSH_SAMPLE_HEADER_SIZE: return "sample_header_size";
+    case FIDDLEMARSH_SAMPLE_KIND: return "sample_kind";
+    case FIDDLEMARSH_SAMPLE_LOOP_OR_LENGTH: return "sample_loop_or_length";
+    case FIDDLEMARSH_ROOM: return "room";
+    case FIDDLEMARSH_PACKED_TOO_LONG: return "packed_too_long";
+    case FIDDLEMARSH_ARGUMENT: return "argument";
+    default: return "unknown";
+    }
+}
+
+/* A sentence for whoever sent the module: what is wrong, and what to do about it. It starts with a small letter and has no
+   full stop, so that it can follow a file's name. */
+static inline const char *fiddlemarsh_refusal_words(uint32_t number)
+{
+    switch (number) {
+    case FIDDLEMARSH_ACCEPTED:
+        return "nothing is wrong with it";
+    case FIDDLEMARSH_CUT:
+        return "the file ends before all of it is there: it was cut short on its way, or a size in it is wrong; save it anew and "
+               "send it again";
+    case FIDDLEMARSH_FILE_TOO_LONG:
+        return "the file is over 16,777,216 bytes, too large for a board: shorten its samples";
+    case FIDDLEMARSH_MARK_OR_VERSION:
+        return "this is no XM module, or a stripped or very old one: save it as XM 1.04";
+    case FIDDLEMARSH_HEADER_SIZE:
+        return "the header has no room for the order table: save the module with another tracker";
+    case FIDDLEMARSH_HEADER_COUNTS:
+        return "FastTracker II allows 1 to 256 orders, 1 to 256 patterns, 1 to 64 channels and up to 128 instruments, and this "
+               "module has more, or none: keep to them";
+    case FIDDLEMARSH_PATTERN_HEADER:
+        return "the pattern at this place has no rows or over 256, or its header is cut: give it 1 to 256 rows, or save the module "
+               "with another tracker";
+    case FIDDLEMARSH_CELL_CUT:
+        return "the pattern's stored size is too small for its rows: save the module with another tracker";
+    case FIDDLEMARSH_CELLS_LEFT_OVER:
+        return "the pattern's stored size is too large for its rows: save the module with another tracker";
+    case FIDDLEMARSH_NOTE:
+        return "there is no such note as the one at this place, 96 is the highest and 97 is key off: enter it again";
+    case FIDDLEMARSH_INSTRUMENT:
+        return "the instrument at this place has over 16 samples, or its header is cut: leave it 16, or save the module with "
+               "another tracker";
+    case FIDDLEMARSH_SAMPLE_HEADER_SIZE:
+        return "the samples of the instrument at this place were written by a broken tool: save the module with another tracker";
+    case FIDDLEMARSH_SAMPLE_KIND:
+        return "the sample at this place is packed as ADPCM: save it plain";
+    case FIDDLEMARSH_SAMPLE_LOOP_OR_LENGTH:
+        return "the loop of the sample at this place does not lie inside it, or goes forward and back at once, or half a value is "
+               "left at the sample's end: set its loop and its end again";
+    case FIDDLEMARSH_ROOM:
+        return "the room lent for the answer is too short: nothing is wrong with the module, the program has to lend more";
+    case FIDDLEMARSH_PACKED_TOO_LONG:
+        return "the pattern would take over 65,535 bytes: there is too much in it, so split it";
+    case FIDDLEMARSH_ARGUMENT:
+        return "an argument is out of its range: nothing is wrong with the module, the program asked for what is not there";
+    default:
+        return "this program does not know that number: it is older than the library that gave it";
+    }
+}
+
 #ifdef __cplusplus
 }
 #endif
+
+/* A whole program, for 'program FILE': it checks a module, and tells the length that it would be pressed into.
+
+       #include <fiddlemarsh.h>
+       #include <stdio.h>
+       #include <stdlib.h>
+
+       static uint8_t file[FIDDLEMARSH_FILE_MOST + 1]; // a byte more than a module may have: refused as too long, not cut
+       static uint8_t pressed[FIDDLEMARSH_FILE_MOST];
+
+       static void stop_if_refused(const char *call, uint64_t answer)
+       {
+           uint32_t number = fiddlemarsh_refusal(answer);
+           if (!fiddlemarsh_refused(answer))
+               return;
+           printf("%s: refused, number %u (%s) at place %u: %s\n", call, (unsigned)number, fiddlemarsh_refusal_name(number),
+                  (unsigned)fiddlemarsh_place(answer), fiddlemarsh_refusal_words(number));
+           exit(1);
+       }
+
+       int main(int argc, char **argv)
+       {
+           FILE *in = argc == 2 ? fopen(argv[1], "rb") : NULL;
+           if (in == NULL)
+               return 2;
+           size_t file_len = fread(file, 1, sizeof file, in);
+           fclose(in);
+
+           uint64_t answer = fiddlemarsh_check(file, file_len);
+           stop_if_refused("check", answer);
+           printf("accepted, ends at place %u\n", (unsigned)fiddlemarsh_end(answer));
+
+           answer = fiddlemarsh_press(file, file_len, pressed, sizeof pressed);
+           stop_if_refused("press", answer);
+           printf("%zu bytes pressed into %u\n", file_len, (unsigned)fiddlemarsh_length(answer));
+           return 0;
+       }
+*/
 
 #endif

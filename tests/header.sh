@@ -1,0 +1,54 @@
+#!/bin/sh
+# header.sh: the header as a manual. Each of its constants and functions is named in a test, and the program at its end does what it
+# says. The last line is 'header: N passed, 0 failed'.
+#
+#   header.sh BUILD EXAMPLE     EXAMPLE is the module that cli/example.c makes; CC, CFLAGS, LDFLAGS, LIBRARY and RUN are taken from
+#                               the environment
+set -u
+header=../include/fiddlemarsh.h
+build=$1 example=$2
+passed=0 failed=0
+
+# ok DESCRIPTION COMMAND...: the command must succeed.
+ok() {
+    description=$1
+    shift
+    if "$@"; then
+        passed=$((passed + 1))
+    else
+        failed=$((failed + 1))
+        echo "FAILED: $description"
+    fi
+}
+
+# A constant that no test names could have any value.
+for constant in $(grep -oE 'FIDDLEMARSH_[A-Z_]*[A-Z]' $header | sort -u | grep -v '^FIDDLEMARSH_H$'); do
+    ok "$constant is named in header_test.c" grep -qw "$constant" header_test.c
+done
+for function in $(grep -oE 'fiddlemarsh_[a-z_]*\(' $header | tr -d '(' | sort -u); do
+    ok "$function is named in a test" grep -qw "$function" header_test.c compare.c lent.c
+done
+
+# The program: the indented lines of the header's last comment.
+program=$build/header-program
+sed -n '/^\/\* A whole program/,/^\*\//s/^       //p' $header >"$program.c"
+# shellcheck disable=SC2086  # lists
+compile() { $CC -std=c99 -Wall -Wextra -Wpedantic -Werror -I../include $CFLAGS $LDFLAGS "$program.c" "$LIBRARY" -o "$program"; }
+run() { ${RUN:-} "$program" "$@" >"$program.said"; }
+says() { [ "$(cat "$program.said")" = "$1" ]; }
+refuses() { ! run "$1" && says "$2"; }
+
+ok "the header's program compiles" compile
+ok "it takes the example" run "$example"
+ok "it says end and length" says 'accepted, ends at place 6042
+6042 bytes pressed into 2862'
+head -c 400 "$example" >"$program.xm"
+ok "it refuses half of it" refuses "$program.xm" "check: refused, number 1 (cut) at place 336: the file ends before all of it is there: \
+it was cut short on its way, or a size in it is wrong; save it anew and send it again"
+truncate -s 16777217 "$program.xm"
+ok "it refuses a long one" refuses "$program.xm" \
+    "check: refused, number 2 (file_too_long) at place 0: the file is over 16,777,216 bytes, too large for a board: shorten its samples"
+rm -f "$program.xm"
+
+echo "header: $passed passed, $failed failed"
+[ "$failed" -eq 0 ]
