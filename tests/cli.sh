@@ -1,138 +1,111 @@
 #!/bin/sh
-# cli.sh: the command-line program, used as a person would use it. The last line is 'cli: N passed, 0 failed'.
+# cli.sh: the command-line program as a person and a script would use it: usage, checking, names, directories, records. cli_press.sh
+# has pressing. The last line is 'cli: N passed, 0 failed'.
 #
-#   cli.sh PROGRAM EXAMPLE     EXAMPLE is the module that cli/example.c makes; RUN may name an emulator
-set -u
-work=$(mktemp -d)
-trap 'rm -rf "$work"' EXIT
-cp "$1" "$work/program"
-cp "$2" "$work/example.xm"
-chmod 755 "$work" "$work/program"
-chmod 644 "$work/example.xm"
-cd "$work" || exit 2
-passed=0 failed=0 skipped=0
+#   cli.sh PROGRAM EXAMPLE README     README's table has the words of each refusal
+readme=$(realpath "$3") || exit 2
+# shellcheck source=tests/cli_tools.sh
+. ./cli_tools.sh
 
-# Runs the program; its exit status goes to $status, what it says to the files said and complained.
-fiddlemarsh() {
-    status=0
-    ${RUN:-} ./program "$@" >said 2>complained || status=$?
-}
+words_of() { sed -n "s/^| $1 | .* | \(.*\) |\$/\1/p" "$readme"; }
 
-# ok DESCRIPTION COMMAND...: the command must succeed.
-ok() {
-    description=$1
-    shift
-    if "$@"; then
-        passed=$((passed + 1))
-    else
-        failed=$((failed + 1))
-        echo "FAILED: $description (exit status $status)"
-        sed 's/^/  said: /' said
-        sed 's/^/  complained: /' complained
-    fi
-}
-
-exits() { [ "$status" -eq "$1" ]; }
-says() { grep -q -e "$1" said; }
-complains() { grep -q -e "$1" complained; }
-lines() { [ "$(wc -l <said)" -eq "$1" ]; }
-is_same() { cmp -s "$1" "$2"; }
-is_missing() { [ ! -e "$1" ]; }
-no_half_file() { [ -z "$(find . -name '.fiddlemarsh*')" ]; }
-
-# A copy of the example with one byte changed: with_byte NAME PLACE OCTAL
-with_byte() {
-    cp example.xm "$1"
-    # shellcheck disable=SC2059
-    printf "\\$3" | dd of="$1" bs=1 seek="$2" conv=notrunc 2>/dev/null
-}
-
-with_byte badnote.xm 345 142  # the first cell's note: 98
-with_byte badmark.xm 37 000
 printf 'what stood here' >precious
-cp precious precious.copy
 head -c 400 example.xm >cut.xm
 : >empty.xm
+with_byte badnote.xm 345 142 # the first cell's note: 98
 
-# Help and usage
+# Help, version and usage
 fiddlemarsh --help
-ok "--help says how" says '^usage: fiddlemarsh check FILE'
+ok "--help says how" says '^usage: fiddlemarsh check \[--quiet\] \[--tsv\] FILE\.\.\.$'
 ok "--help exits 0" exits 0
+ok "--help fits a terminal" [ -z "$(awk 'length > 80' said)" ]
+ok "--help says which ID text is written" says 'ID text "Extended module: "'
+ok "--help says which players do not open it" says 'xmp and openmpt123 open none of 70'
+cp said help
+for option in quiet tsv 'into DIR' help version; do
+    ok "--help has --$option" says "^  -[a-zA-Z], --$option  "
+done
 fiddlemarsh check --help
-ok "--help behind a command" says '^usage:'
+ok "--help behind a command" is_same said help
+fiddlemarsh -h
+ok "-h is --help" is_same said help
+version=$(sed -n 's/^#define FIDDLEMARSH_VERSION "\(.*\)"$/\1/p' "$(dirname "$readme")/include/fiddlemarsh.h")
+fiddlemarsh --version
+ok "--version" says_only "fiddlemarsh $version"
+fiddlemarsh -V
+ok "-V is --version" says_only "fiddlemarsh $version"
 fiddlemarsh
 ok "no command" exits 2
 ok "no command names --help" complains '--help'
 fiddlemarsh squeeze example.xm
 ok "unknown command" exits 2
-ok "unknown command is named" complains 'no such command: squeeze'
-fiddlemarsh --fast
-ok "unknown option" exits 2
-fiddlemarsh check -q example.xm
-ok "unknown option of a command" exits 2
-fiddlemarsh check
-ok "check of nothing" exits 2
-fiddlemarsh press example.xm
-ok "press without OUT" exits 2
-fiddlemarsh press example.xm one.xm two.xm
-ok "press of three" exits 2
-ok "press of three writes nothing" is_missing one.xm
-fiddlemarsh press example.xm -
-ok "OUT of -" exits 2
+ok "unknown command is named" complains 'no such command: squeeze$'
+for option in --fast -x -xq --quiet=3; do
+    fiddlemarsh check example.xm "$option"
+    ok "unknown option $option" exits 2
+    ok "$option is named" complains "no such option (a file of that name goes behind --): ${option%q}\$"
+    ok "and nothing is done" [ ! -s said ]
+done
+for usage in 'check' 'check --into . example.xm' 'press example.xm' 'press example.xm one.xm two.xm' 'press --tsv example.xm one.xm' \
+    'press example.xm -' 'press --into' 'press --into .' 'press --into . -'; do
+    # shellcheck disable=SC2086  # words
+    fiddlemarsh $usage
+    ok "wrong usage: $usage" exits 2
+    ok "it is told: $usage" complains "^Try 'fiddlemarsh --help'.\$"
+done
+ok "wrong usage writes nothing" is_missing one.xm
 
-# Checking
+# Checking one file
 fiddlemarsh check example.xm
 ok "an accepted file" exits 0
-ok "an accepted file's line" says '^example.xm: accepted, ends at place 6042 (0x179A)$'
-fiddlemarsh check badnote.xm
-ok "a refused file" exits 1
-ok "number, place, hex and words" says '^badnote.xm: refused, number 9 at place 345 (0x159): this cell.s note is above 97$'
-fiddlemarsh check badmark.xm
-ok "a wrong mark" says 'refused, number 3 at place 0 (0x0): '
-fiddlemarsh check cut.xm
-ok "a cut file" says 'refused, number 1 at place 336 (0x150): '
-fiddlemarsh check empty.xm
-ok "an empty file" says 'refused, number 1 at place 0 (0x0): '
-fiddlemarsh check example.xm badnote.xm example.xm
-ok "several files: the worst counts" exits 1
-ok "several files: a line each" lines 3
-fiddlemarsh check example.xm missing.xm badnote.xm
-ok "a missing file" exits 2
-ok "a missing file is named" complains '^fiddlemarsh: missing.xm: cannot be opened: '
-ok "the others are checked all the same" lines 2
-mkdir directory
-fiddlemarsh check directory
-ok "a directory" exits 2
-ok "a directory is told" complains 'directory: cannot be read: '
+ok "its line, and the count" says_only 'example.xm: accepted, ends at place 6042 (0x179A)
+1 file: 1 accepted, 0 refused, 0 troubles'
+cat example.xm precious >behind.xm
+fiddlemarsh check behind.xm
+ok "bytes behind the module are told" says '(0x179A); 15 bytes follow that are no part of it$'
 fiddlemarsh check - <example.xm
-ok "standard input" says '^standard input: accepted'
-fiddlemarsh check - <&-
+ok "standard input" says '^standard input: accepted, ends at place 6042 '
+run eval 'program check - <&-'
 ok "standard input that is closed" exits 2
-cp example.xm "two
-lines.xm"
-fiddlemarsh check "two
-lines.xm"
-ok "a name of two lines is told in one" lines 1
+ok "and is told" complains '^fiddlemarsh: standard input: cannot be read: '
 cp example.xm ./-x
 fiddlemarsh check -- -x
 ok "a name that looks like an option" exits 0
-cat example.xm precious >behind.xm
-fiddlemarsh check behind.xm
-ok "bytes behind the module are told" says '; 15 bytes follow'
-if [ -w /dev/full ]; then
-    status=0
-    ${RUN:-} ./program check example.xm >/dev/full 2>complained || status=$?
-    ok "a line that cannot be written" exits 2
-fi
+fiddlemarsh check missing.xm
+ok "a missing file" exits 2
+ok "a missing file is named" complains_only 'fiddlemarsh: missing.xm: cannot be opened: No such file or directory'
+ok "and counted" says_only '1 file: 0 accepted, 0 refused, 1 trouble'
+
+# Every refusal that a file can get, in README's words. The example: header 336 bytes, three patterns of 9 + 1280, an instrument
+# of 263 at 4203, its sample's header at 4466.
+refused() { # NUMBER PLACE PLACE-IN-HEX LENGTH-OR-NOTHING
+    fiddlemarsh check refused.xm
+    ok "number $1" exits 1
+    ok "number $1 has words" [ -n "$(words_of "$1")" ]
+    ok "the line of number $1" says_only "refused.xm: refused, number $1 at place $2 (0x$3)$4: $(words_of "$1")
+1 file: 0 accepted, 1 refused, 0 troubles"
+}
+cp cut.xm refused.xm && refused 1 336 150 ' of 400 bytes'
+cp empty.xm refused.xm && refused 1 0 0 ' of 0 bytes'
+head -c 6041 example.xm >refused.xm && refused 1 4506 119A ' of 6041 bytes'
+cp example.xm refused.xm && truncate -s 16777217 refused.xm && refused 2 0 0 ''
+with_byte refused.xm 37 000 && refused 3 0 0 ''
+with_byte refused.xm 60 023 && refused 4 0 0 ''
+with_byte refused.xm 68 000 && refused 5 0 0 ''
+with_byte refused.xm 341 000 && refused 6 336 150 ''
+with_byte refused.xm 341 101 && refused 7 1625 659 ''
+with_byte refused.xm 341 077 && refused 8 1605 645 ''
+with_byte refused.xm 345 142 && refused 9 345 159 ''
+with_byte refused.xm 4230 021 && refused 10 4203 106B ''
+with_byte refused.xm 4232 047 && refused 11 4203 106B ''
+with_byte refused.xm 4483 255 && refused 12 4466 1172 ''
+with_byte refused.xm 4480 003 && refused 13 4466 1172 ''
 
 # The size limit
 cp example.xm limit.xm
 truncate -s 16777216 limit.xm
 fiddlemarsh check limit.xm
 ok "16,777,216 bytes" exits 0
-truncate -s 16777217 limit.xm
-fiddlemarsh check limit.xm
-ok "one byte more" says 'refused, number 2 at place 0'
 truncate -s 20G limit.xm 2>/dev/null && {
     fiddlemarsh check limit.xm
     ok "20 gigabytes" says 'refused, number 2 at place 0'
@@ -141,116 +114,178 @@ rm -f limit.xm
 fiddlemarsh check /dev/zero
 ok "a file without end" says 'refused, number 2 at place 0'
 
-# Pressing
-fiddlemarsh press example.xm pressed.xm
-ok "press" exits 0
-ok "press says what it did" says '^example.xm: 6042 bytes pressed into [0-9]*, written to pressed.xm$'
-ok "what is pressed is shorter" [ "$(wc -c <pressed.xm)" -lt 6042 ]
-fiddlemarsh check pressed.xm
-ok "what is pressed is accepted" exits 0
-fiddlemarsh press pressed.xm again.xm
-ok "pressing again changes nothing" is_same pressed.xm again.xm
-cp example.xm itself.xm
-fiddlemarsh press itself.xm itself.xm
-ok "IN and OUT the same" is_same pressed.xm itself.xm
-status=0
-head -c 100000 example.xm | ${RUN:-} ./program press - piped.xm >said 2>complained || status=$?
-ok "from a pipe" is_same pressed.xm piped.xm
-mkdir -p some/where
-fiddlemarsh press example.xm some/where/out.xm
-ok "into another directory" is_same pressed.xm some/where/out.xm
-ok "no half file" no_half_file
-
-# A refusal changes nothing
-fiddlemarsh press badnote.xm precious
-ok "a refused press" exits 1
-ok "a refused press says why" complains '^badnote.xm: refused, number 9 at place 345 (0x159): '
-ok "a refused press leaves OUT" is_same precious precious.copy
-fiddlemarsh press badnote.xm new.xm
-ok "a refused press makes no OUT" is_missing new.xm
-fiddlemarsh press badnote.xm badnote.xm
-ok "a refused press in place" [ "$(wc -c <badnote.xm)" -eq 6042 ]
-fiddlemarsh press missing.xm precious
-ok "a press of a missing file" exits 2
-ok "a press of a missing file leaves OUT" is_same precious precious.copy
-ok "no half file after refusals" no_half_file
-
-# Trouble with OUT
-fiddlemarsh press example.xm directory
-ok "OUT is a directory" exits 2
-ok "OUT is a directory: told" complains 'directory: is a directory'
-fiddlemarsh press example.xm nowhere/out.xm
-ok "OUT's directory is missing" exits 2
-if mknod device c 1 3 2>/dev/null; then # not /dev/null itself: a program that fails here would replace it
-    fiddlemarsh press example.xm device
-    ok "OUT is a device" exits 2
-    ok "the device stays one" [ -c device ]
-fi
+# Pipes
+cp example.xm long.xm
+truncate -s 300000 long.xm
+run eval '{ head -c 100000 long.xm; sleep 0.1; tail -c +100001 long.xm; } | program check -'
+ok "a pipe of 300,000 bytes" says '^standard input: accepted, ends at place 6042 (0x179A); 293958 bytes follow'
 mkfifo pipe
-fiddlemarsh press example.xm pipe
-ok "OUT is a pipe" exits 2
-ok "the pipe stays one" [ -p pipe ]
-ln -s nothing dangling
-fiddlemarsh press example.xm dangling
-ok "OUT links to nothing" exits 2
-cp precious linked
-ln -s linked link
-fiddlemarsh press example.xm link
-ok "OUT is a link: what it links to is written" is_same linked pressed.xm
-ok "OUT is a link: it stays one" [ -L link ]
+fiddlemarsh check pipe
+ok "a pipe that nobody writes to is not waited for" exits 2
+ok "and told" complains_only 'fiddlemarsh: pipe: is a pipe, and nothing comes out of it'
+{ sleep 0.3 && cat example.xm >&3; } 3<>pipe &
+sleep 0.1
+fiddlemarsh check pipe
+ok "a pipe that somebody writes to" says '^pipe: accepted, ends at place 6042 (0x179A)$'
+run eval 'program check /dev/fd/4 4<empty.xm'
+ok "an empty file by its number" says '^/dev/fd/4: refused, number 1 at place 0'
 
-# A disk that is full, by a limit of one block on the size of files
-status=0
-(ulimit -f 1 && ${RUN:-} ./program press example.xm precious) >said 2>complained || status=$?
-ok "a full disk" exits 2
-ok "a full disk is told" complains 'precious: cannot be written: '
-ok "a full disk leaves OUT" is_same precious precious.copy
-ok "a full disk leaves no half file" no_half_file
-status=0
-(ulimit -f 1 && ${RUN:-} ./program press example.xm new.xm) >said 2>complained || status=$?
-ok "a full disk makes no OUT" is_missing new.xm
+# Several files
+fiddlemarsh check example.xm badnote.xm example.xm
+ok "several files: the worst counts" exits 1
+ok "several files: a line each, in their order, and the count" [ "$(sed 's/[ ,].*//' said | tr '\n' ' ')" = 'example.xm: badnote.xm: example.xm: 3 ' ]
+ok "the count of three" says '^3 files: 2 accepted, 1 refused, 0 troubles$'
+fiddlemarsh check badnote.xm missing.xm badnote.xm example.xm absent.xm
+ok "trouble counts more than a refusal" exits 2
+ok "the others are checked all the same" says '^5 files: 1 accepted, 2 refused, 2 troubles$'
+run eval 'program check example.xm missing.xm example.xm 2>&1'
+ok "lines and troubles come in the order of the files" [ "$(sed 's/: .*//; s/ .*//' said | tr '\n' ' ')" = 'example.xm fiddlemarsh example.xm 3 ' ]
 
-# Permissions: OUT keeps its own, a new one gets the usual
-cp precious modes && chmod 640 modes
-fiddlemarsh press example.xm modes
-ok "OUT keeps its permissions" [ "$(stat -c %a modes)" = 640 ]
-status=0
-(umask 027 && ${RUN:-} ./program press example.xm masked) >said 2>complained || status=$?
-ok "a new OUT heeds the mask" [ "$(stat -c %a masked)" = 640 ]
+# Only what needs a person
+fiddlemarsh check --quiet example.xm
+ok "--quiet of an accepted file" says_nothing
+ok "exits 0" exits 0
+fiddlemarsh check example.xm badnote.xm missing.xm -q
+ok "-q, behind the files" exits 2
+ok "has the refused one's line alone" [ "$(sed 's/[ ,].*//' said)" = 'badnote.xm:' ]
+ok "and the trouble" complains '^fiddlemarsh: missing.xm: '
 
-# The rest needs somebody whom permissions bind
-if [ "$(id -u)" -eq 0 ]; then
-    somebody='setpriv --reuid=65534 --regid=65534 --clear-groups'
-else
-    somebody=
+# Names: one line stays one line, and nothing reaches the terminal that it would obey
+newline='
+'
+escape=$(printf '\033')
+csi=$(printf '\233')
+tab=$(printf '\t')
+name="l\"'\\ t$newline$escape$tab${csi}[31m$(printf '\302\233').xm"
+cp example.xm "$name"
+no_control() { [ -z "$(tr -d '\n\040-\176' <said | tr -d '\303\274')" ] && [ -z "$(tr -d '\n\040-\176' <complained)" ]; }
+fiddlemarsh check "$name"
+ok "a strange name is told in one line" says_only "l\"'\\ t????[31m??.xm: accepted, ends at place 6042 (0x179A)
+1 file: 1 accepted, 0 refused, 0 troubles"
+LC_ALL=C.UTF-8 fiddlemarsh check "$name"
+ok "in UTF-8 too" no_control
+cp example.xm "$(printf 'f\303\274r.xm')"
+LC_ALL=C.UTF-8 fiddlemarsh check "$(printf 'f\303\274r.xm')"
+ok "letters stay letters where they are letters" says "^$(printf 'f\303\274r.xm'): accepted"
+fiddlemarsh check "$(printf 'f\303\274r.xm')"
+ok "and nowhere else" says '^f??r.xm: accepted'
+fiddlemarsh check "missing$name"
+ok "a strange missing name" no_control
+fiddlemarsh "$name"
+ok "a strange command" no_control
+fiddlemarsh check "--$name"
+ok "a strange option" no_control
+fiddlemarsh check "-$csi"
+ok "a strange letter" no_control
+fiddlemarsh press example.xm "nowhere/$name"
+ok "a strange OUT" no_control
+
+# Records for scripts
+record() { printf '%s\t' "$1" "$2" "$3" "$4" "$5" "$6" "$7" "$8" && printf '%s' "$9"; }
+fiddlemarsh check --tsv example.xm badnote.xm cut.xm missing.xm behind.xm - <example.xm
+ok "a record a file, and no count" says_only "$(record accepted 0 accepted - - - 6042 6042 example.xm)
+$(record refused 9 note 345 - - - 6042 badnote.xm)
+$(record refused 1 cut 336 - 400 - 400 cut.xm)
+$(record trouble - - - - - - - missing.xm)
+$(record accepted 0 accepted - - - 6042 6057 behind.xm)
+$(record accepted 0 accepted - - - 6042 6042 -)"
+ok "the trouble is told as well" complains '^fiddlemarsh: missing.xm: cannot be opened: '
+ok "records leave the status alone" exits 2
+fiddlemarsh check -tq example.xm badnote.xm missing.xm
+ok "--tsv --quiet" says_only "$(record refused 9 note 345 - - - 6042 badnote.xm)
+$(record trouble - - - - - - - missing.xm)"
+fiddlemarsh check --tsv "$name"
+ok "a strange name in a record" says_only "$(record accepted 0 accepted - - - 6042 6042 "l\"'\\0134 t\\0012\\0033\\0011\\0233[31m\\0302\\0233.xm")"
+# shellcheck disable=SC2034  # all nine are read
+IFS=$tab read -r verdict number word place value limit end length escaped <said
+# shellcheck disable=SC2059
+ok "which printf gives back" [ "$(printf '%b' "$escaped")" = "$name" ]
+# shellcheck disable=SC2059
+every=$(i=1 && while [ $i -le 255 ]; do
+    [ $i -eq 47 ] || printf "\\$(printf '%03o' $i)"
+    i=$((i + 1))
+done)
+if cp example.xm "./$every" 2>/dev/null; then
+    fiddlemarsh check --tsv "./$every"
+    ok "every byte that a name can have" [ "$(printf '%b' "$(cut -f 9 said)")" = "./$every" ]
+    ok "is one line of printable ASCII" [ -z "$(tr -d '\011\012\040-\176' <said)" ]
+    ok "one line" lines 1
 fi
-as_somebody() {
-    status=0
-    # shellcheck disable=SC2086  # RUN is a list
-    $somebody ${RUN:-} ./program "$@" >said 2>complained || status=$?
-}
-# shellcheck disable=SC2086
-if $somebody ${RUN:-} ./program --help >/dev/null 2>&1; then
+
+# Directories
+mkdir -p morning/b morning/a/deep morning/c.xm empty
+cp example.xm morning/song.xm
+cp example.xm morning/a/LOUD.XM
+cp badnote.xm morning/a/deep/bad.xm
+cp badnote.xm morning/b/notes.txt
+cp badnote.xm morning/b/xm
+cp example.xm morning/c.xm/in.xm
+ln -s ../../example.xm morning/b/linked.xm
+ln -s .. morning/b/up
+fiddlemarsh check morning
+ok "a directory: its modules in the order of their names" [ "$(sed 's/: .*//' said | tr '\n' ' ')" = \
+    'morning/a/LOUD.XM morning/a/deep/bad.xm morning/b/linked.xm morning/c.xm/in.xm morning/song.xm 5 files ' ]
+ok "and their count" says '^5 files: 4 accepted, 1 refused, 0 troubles$'
+fiddlemarsh check morning/a/ example.xm
+ok "a directory with a slash, and a file" [ "$(sed 's/: .*//' said | tr '\n' ' ')" = 'morning/a/LOUD.XM morning/a/deep/bad.xm example.xm 3 files ' ]
+fiddlemarsh check empty
+ok "a directory without modules" exits 2
+ok "is told" complains_only 'fiddlemarsh: empty: has no .xm file in it'
+mkfifo morning/pipe.xm
+ln -s nothing morning/dangling.xm
+ln -s b morning/lane.xm
+fiddlemarsh check morning
+ok "a pipe in a directory is not waited for" exits 2
+ok "a pipe in a directory is told" complains '^fiddlemarsh: morning/pipe.xm: is not a regular file$'
+ok "so is a link to nothing" complains '^fiddlemarsh: morning/dangling.xm: cannot be opened: '
+ok "and a link to a directory" complains '^fiddlemarsh: morning/lane.xm: is not a regular file$'
+ok "and the rest is checked" says '^8 files: 4 accepted, 1 refused, 3 troubles$'
+sleep 5 3<>morning/pipe.xm &
+fiddlemarsh check morning
+kill $!
+ok "nor if somebody has it open" complains '^fiddlemarsh: morning/pipe.xm: is not a regular file$'
+rm morning/*.xm 2>/dev/null
+
+# Lines that cannot be written
+run eval 'program check example.xm >/dev/full'
+ok "a line that cannot be written" exits 2
+ok "is told" complains '^fiddlemarsh: standard output: cannot be written: No space left on device$'
+run eval 'program --help >/dev/full'
+ok "help that cannot be written" exits 2
+run eval 'program check example.xm missing.xm >/dev/full'
+ok "a line that could not be written early" complains '^fiddlemarsh: standard output: cannot be written: '
+run eval 'program check example.xm >&-'
+ok "standard output that is closed" exits 2
+run eval 'program check --quiet example.xm >&-'
+ok "and not needed" exits 0
+run eval 'program check missing.xm example.xm 2>&-'
+ok "standard error that is closed" says '^2 files: 1 accepted, 0 refused, 1 trouble$'
+
+# Permissions
+if permissions_bind; then
     cp example.xm secret.xm && chmod 000 secret.xm
     as_somebody check secret.xm
     ok "an unreadable file" exits 2
-    ok "an unreadable file is told" complains 'secret.xm: cannot be opened: '
-    mkdir -m 777 open
-    cp precious open/readonly && chmod 444 open/readonly
-    as_somebody press example.xm open/readonly
-    ok "a read-only OUT" exits 2
-    ok "a read-only OUT stays" is_same open/readonly precious
-    mkdir shut
-    cp precious shut/out && chmod 666 shut/out && chmod 555 shut
-    as_somebody press example.xm shut/out
-    ok "a directory that may not be written" exits 2
-    ok "OUT in it stays" is_same shut/out precious
-    ok "no half file in them" no_half_file
-    chmod 755 shut
+    ok "an unreadable file is told" complains 'secret.xm: cannot be opened: Permission denied$'
+    mkdir -p locked/in && cp example.xm locked/song.xm && chmod 000 locked/in
+    as_somebody check locked
+    ok "an unreadable directory" exits 2
+    ok "an unreadable directory is told" complains_only 'fiddlemarsh: locked/in: cannot be read: Permission denied'
+    ok "and the rest is checked" says '^2 files: 1 accepted, 0 refused, 1 trouble$'
+    chmod 755 locked/in
 else
-    skipped=7
-    echo "skipped: permissions, which bind nobody here"
+    skip 5 "permissions, which bind nobody here"
 fi
 
-echo "cli: $passed passed, $failed failed$([ $skipped -eq 0 ] || echo ", $skipped skipped")"
-[ "$failed" -eq 0 ]
+# Progress, on a terminal that shows no lines
+on_terminal() { run script --quiet --return --command "$1" /dev/null; }
+slow='{ sleep 1.2; cat example.xm; } |'
+on_terminal "$slow ${RUN:-} ./program check --quiet - example.xm"
+ok "long work tells how far it has come, and takes it back" [ "$(tr '\r' '\n' <said)" = "
+1 of 2 files
+            " ]
+on_terminal "$slow ${RUN:-} ./program check - example.xm"
+ok "but not between lines" [ "$(grep -c ' of 2 files' said)" -eq 0 ]
+ok "which are all there" says '^2 files: 2 accepted, 0 refused, 0 troubles'
+
+verdict cli

@@ -1,0 +1,17 @@
+/* commands.h: what the program does. */
+
+#ifndef COMMANDS_H
+#define COMMANDS_H
+
+#include "say.h"
+
+/* Checks each file, and each in a directory. */
+enum status check_files(struct manner manner, int count, char **named);
+
+/* Presses one file into another. */
+enum status press_file(struct manner manner, char *in, const char *out);
+
+/* Presses each file into a directory, under its own name. */
+enum status press_into(struct manner manner, const char *directory, int count, char **named);
+
+#endif

@@ -1,0 +1,151 @@
+/* press.c: fiddlemarsh press. */
+
+#define _XOPEN_SOURCE 700
+
+#include "commands.h"
+
+#include "../include/fiddlemarsh.h"
+#include "output.h"
+
+#include <errno.h>
+#include <stdlib.h>
+#include <string.h>
+
+/* The files that were written into a directory so far: none of them is written over for another one. */
+struct written {
+    struct stat *first;
+    size_t count;
+};
+
+/* One file to press. */
+struct job {
+    struct manner manner;
+    const struct name *in;
+    const char *out;
+    struct written *written; /* NULL where the user names OUT */
+};
+
+/* In a directory */
+
+/* The user named no OUT, so nothing of the user's own is written over unasked. */
+static bool may_replace(const struct job *job, const struct input *input, const struct output *output)
+{
+    const struct written *written = job->written;
+    if (written == NULL || !output->replaces)
+        return true;
+    if (same_file(&input->about, &output->about)) {
+        trouble(job->in->text, "would be written over itself: not done");
+        return false;
+    }
+    for (size_t i = 0; i < written->count; i++)
+        if (same_file(&written->first[i], &output->about)) {
+            trouble(job->in->text, "would be written over another of these files: not done");
+            return false;
+        }
+    return true;
+}
+
+static void remember(struct written *written, const struct output *output)
+{
+    if (written != NULL && stat(output->path, &written->first[written->count]) == 0)
+        written->count++;
+}
+
+/* One file */
+
+/* Told before OUT is replaced: if it cannot be told, OUT stays as it was. */
+static bool say_pressed(const struct job *job, size_t length, size_t pressed, const struct output *output)
+{
+    if (job->manner.quiet)
+        return true;
+    clear_progress();
+    say_name(stdout, job->in->text);
+    printf(": %zu bytes pressed into %zu, written to ", length, pressed);
+    say_name(stdout, output->name);
+    if (output->replaces && output->about.st_nlink > 1)
+        printf("; hard links that still hold the old bytes: %lu", (unsigned long)output->about.st_nlink - 1);
+    putchar('\n');
+    return fflush(stdout) == 0;
+}
+
+static enum status write_pressed(const struct job *job, const struct input *input, const struct output *output, struct bytes pressed)
+{
+    if (!may_replace(job, input, output) || put_aside(output, pressed) != ACCEPTED)
+        return TROUBLE;
+    if (!say_pressed(job, input->bytes.length, pressed.length, output)) {
+        int because = errno;
+        remove_temporary();
+        exit(trouble("standard output", "cannot be written: %s", strerror(because)));
+    }
+    if (put_in_place(output) != ACCEPTED)
+        return TROUBLE;
+    remember(job->written, output);
+    return ACCEPTED;
+}
+
+/* A pressed module is never longer than its input, so there is room for it. */
+static enum status press_input(const struct job *job, const struct input *input, uint8_t *room)
+{
+    uint64_t answer = fiddlemarsh_press(input->bytes.first, input->bytes.length, room, input->bytes.length);
+    if (fiddlemarsh_refused(answer))
+        return say_refusal(stderr, (struct finding){job->in->text, answer, input->bytes.length});
+    struct output output;
+    enum status status = find_output(job->out, &output);
+    if (status == ACCEPTED)
+        status = write_pressed(job, input, &output, (struct bytes){room, fiddlemarsh_length(answer)});
+    free_output(&output);
+    return status;
+}
+
+static enum status press_one(const struct job *job)
+{
+    struct input input;
+    if (!is_file(job->in) || !read_input(job->in, &input))
+        return TROUBLE;
+    uint8_t *room = malloc(input.bytes.length + 1);
+    enum status status = room == NULL ? trouble(job->in->text, "not enough memory") : press_input(job, &input, room);
+    free(room);
+    free(input.bytes.first);
+    return status;
+}
+
+enum status press_file(struct manner manner, char *in, const char *out)
+{
+    struct name name = {.text = in};
+    return press_one(&(struct job){manner, &name, out, NULL});
+}
+
+/* Many files */
+
+static enum status press_found(struct manner manner, const struct name *in, const char *directory, struct written *written)
+{
+    const char *slash = strrchr(in->text, '/');
+    char *out = join(directory, slash == NULL ? in->text : slash + 1);
+    enum status status = press_one(&(struct job){manner, in, out, written});
+    free(out);
+    return status;
+}
+
+enum status press_into(struct manner manner, const char *directory, int count, char **named)
+{
+    struct stat about;
+    struct names names = {NULL, 0, 0};
+    struct counts counts = {{0}};
+    if (stat(directory, &about) != 0)
+        return trouble(directory, "cannot be written into: %s", strerror(errno));
+    if (!S_ISDIR(about.st_mode))
+        return trouble(directory, "is not a directory");
+    for (int i = 0; i < count; i++)
+        add_named(&names, named[i], &about);
+    struct written written = {calloc(names.count, sizeof(struct stat)), 0};
+    if (written.first == NULL)
+        return trouble(directory, "not enough memory");
+    for (size_t i = 0; i < names.count; i++) {
+        say_progress(manner, i, names.count);
+        counts.of[press_found(manner, &names.first[i], directory, &written)]++;
+    }
+    say_counts(manner, counts, "pressed");
+    free(written.first);
+    free_names(&names);
+    return worst_of(counts);
+}
