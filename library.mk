@@ -3,15 +3,18 @@
 #   CC, CFLAGS, LDFLAGS, RUN    for what is linked with the library, which is for x86-64. On an Arm machine CC is Debian's cross
 #                               compiler (package gcc-x86-64-linux-gnu), and RUN the toolchain's emulator
 #   HOST_CC, HOST_CXX           the machine's own compilers, for what isn't
+#   PROGRAM                     the command-line program that CC makes: RUN, where there is one, runs it
 
 ROOT := $(dir $(lastword $(MAKEFILE_LIST)))
+include $(ROOT)names.mk
+
 LIBRARY = $(ROOT)target/staticlib/libfiddlemarsh.a
 LISTING = $(ROOT)target/bin/listing
 HEADER = $(ROOT)include/fiddlemarsh.h
 PROGRAM_SOURCES = $(patsubst %,$(ROOT)cli/%.c,fiddlemarsh check press input output names say)
 BUILD = build
 CFLAGS = -O2 -g
-WARNINGS = -std=c11 -Wall -Wextra -Werror
+WARNINGS = -std=c11 -Wall -Wextra
 HOST_CC = cc
 HOST_CXX = c++
 RUN =
@@ -25,6 +28,8 @@ endif
 LDFLAGS = -static
 RUN = $(TOOLCHAIN)/bin/qemu-x86_64
 endif
+
+PROGRAM = $(ROOT)cli/$(BUILD)/fiddlemarsh$(if $(RUN),.x86-64)
 
 # A proved program runs with the toolchain's C library.
 RUN_PROVED = $(RUN) $(TOOLCHAIN)/lib/ld-linux-x86-64.so.2 --library-path $(TOOLCHAIN)/lib
