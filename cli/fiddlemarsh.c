@@ -8,7 +8,6 @@
 #include "output.h"
 
 #include <errno.h>
-#include <fcntl.h>
 #include <getopt.h>
 #include <locale.h>
 #include <stdlib.h>
@@ -87,7 +86,7 @@ static enum status no_such_option(char **arguments)
 static enum status read_options(int count, char **arguments, struct request *request)
 {
     int option;
-    opterr = 0; /* getopt's own messages show an option's bytes as they are */
+    /* the colon in front: getopt tells nothing itself, since it would show an option's bytes as they are */
     while ((option = getopt_long(count, arguments, ":qti:hV", long_options, NULL)) != -1)
         switch (option) {
         case QUIET: case 'q': request->manner.quiet = true; break;
@@ -148,27 +147,17 @@ static enum status run(int count, char **arguments)
     return wrong_usage("no such command: ", command);
 }
 
-/* A standard file that is closed would let another one take its number, and lines for people go there. */
-static void hold_standard_files(void)
-{
-    const int modes[] = {O_WRONLY, O_RDONLY, O_RDONLY}; /* the other way round, so that using it fails */
-    for (int file = STDIN_FILENO; file <= STDERR_FILENO; file++)
-        if (fcntl(file, F_GETFD) < 0)
-            (void)!open("/dev/null", modes[file]);
-}
-
-/* Whatever could not be told is trouble. */
+/* Whatever could not be told is trouble; if nothing was to be told, standard output may be closed. */
 static enum status finish(enum status status)
 {
     bool told = !ferror(stdout);
     errno = 0;
-    told = fflush(stdout) == 0 && close(STDOUT_FILENO) == 0 && told;
+    told = fflush(stdout) == 0 && (close(STDOUT_FILENO) == 0 || errno == EBADF) && told;
     return told ? status : trouble("standard output", "cannot be written: %s", errno != 0 ? strerror(errno) : "lines are missing");
 }
 
 int main(int argc, char **argv)
 {
-    hold_standard_files();
     setlocale(LC_CTYPE, ""); /* which bytes are letters */
     take_signals();
     return finish(run(argc, argv));

@@ -253,7 +253,7 @@ held() {
     "$@" >full 2>complained &
     held=$!
     tries=0
-    until half_file || [ $tries -eq 200 ]; do
+    until half_file || [ $tries -eq 400 ]; do
         sleep 0.02
         tries=$((tries + 1))
     done
@@ -284,9 +284,11 @@ ok "and the program goes on" exits 0
 ok "to the end" is_same precious pressed.xm
 exec 3>&-
 cp precious.copy precious
+mkfifo unread
+exec 3<>unread 4>unread 3>&- # a pipe that nobody reads from
 # shellcheck disable=SC2086
-{ sleep 0.2 && { ${RUN:-} ./program press example.xm precious || echo $? >ended; }; } 2>complained | true
-status=$(cat ended)
+run eval '${RUN:-} ./program press example.xm precious >&4'
+exec 4>&-
 ok "nobody to read its line" exits 141
 ok "leaves OUT" is_same precious precious.copy
 ok "no half file after signals" no_half_file
