@@ -1,7 +1,7 @@
 -- What holds of every answer and memory that meet the contracts of the check with records and of the calls about a record. Assumes nothing.
 use Prim.Native.Nat.{ℕ, zero, suc, _+_, _/_, _<_, _≤_, min}
 use mathlib.Core.Bool.{Bool, true, false}
-use mathlib.Core.List.{List, [], _∷_, _++_, map}
+use mathlib.Core.List.{List, [], _∷_, _++_, map, map-append}
 use mathlib.Core.Path.{_≡_, refl, sym, ap, ap₂, _∙_}
 use lib.Dec.{leb}
 use lib.IntN.{ℤ}
@@ -112,10 +112,6 @@ same-answer file patterns instruments samples tunes records e =
     ap (λ (rows : ℕ). checkingInto (roomFor (length patterns) (length instruments) rows) file) (e ∙ sym (length-map records rowOf))
 
 -- The records afterwards are the paper's rows afterwards
-map-append : {A B : Type 0} (f : A → B) (xs ys : List A) → map f (xs ++ ys) ≡ map f xs ++ map f ys
-map-append f [] ys = refl
-map-append f (x ∷ xs) ys = ap (λ (zs : List _). f x ∷ zs) (map-append f xs ys)
-
 map-drop : {A B : Type 0} (f : A → B) (n : ℕ) (xs : List A) → map f (drop n xs) ≡ drop n (map f xs)
 map-drop f zero xs = refl
 map-drop f (suc n) [] = refl
