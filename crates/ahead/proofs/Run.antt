@@ -6,14 +6,12 @@ use mathlib.Core.Path.{_≡_, refl, sym, ap, _∙_}
 use native.Mathlib.Nat.{add-zero, mul-assoc, pow-succ'}
 use native.Mathlib.Omega.{arith}
 use borrow.Author.Tests.{ltb-true, ltb-false}
-use lib.Count.{ones, onesIn, under, trailingZeros}
+use lib.Count.{under, trailingZeros}
 use lib.Dec.{ltb}
-use lib.ListN.{length, getD, drop, replicate}
+use lib.ListN.{length, getD, drop}
 use Rattle.xm.specs.Got.{got}
-use Rattle.xm.specs.Cell.{noteMost, lengthBy, fieldsBy, cellAt, readCell}
-use Rattle.xm.proofs.Cell.{cell-marked}
-use Rattle.xm.proofs.Lay.{head-at}
-use Rattle.cell.proofs.ReadLaws.{read-got-at}
+use Rattle.xm.specs.Cell.{noteMost, lengthBy, cellAt, readCell}
+use Rattle.cell.proofs.ReadLaws.{read-got-at, empty-length, empty-cell}
 use Rattle.ahead.specs.Ahead.{eightAt, byteIn, Empties, EmptyRun, behind, AheadOf, noteBy}
 use Rattle.ahead.proofs.Lengths.{length-six, note-at}
 
@@ -128,21 +126,11 @@ module _ (s : List ℕ) (place word : ℕ) (small : (i : ℕ) → getD s i 0 ≤
         reach = omega (arith, length-six (word / 2 ^ bits % 256));
       }
 
--- An empty cell: one byte, five zeros
-module _ (place : ℕ) (s : List ℕ) (e : getD s place 0 ≡ 128) where
-  pub empty-length : lengthBy (getD s place 0) ≡ 1
-  unfolding lengthBy ones onesIn
-  empty-length = ap lengthBy e
-
-  pub empty-cell : cellAt (drop place s) ≡ replicate 5 0
-  unfolding fieldsBy
-  empty-cell =
-      let lead : getD (drop place s) 0 0 ≡ 128 = head-at place s 0 ∙ e in
-      cell-marked (drop place s) (omega arith) ∙ ap (λ (b : ℕ). fieldsBy 5 b (drop 1 (drop place s))) lead
-
-  pub read-empty : place < length s → readCell place (drop place s) ≡ got (cellAt (drop place s)) 1
-  read-empty h =
-      read-got-at place s (omega (arith, empty-length)) (rw empty-cell (omega arith)) ∙ ap (got (cellAt (drop place s))) empty-length
+-- An empty cell is accepted
+pub read-empty : (place : ℕ) (s : List ℕ) → getD s place 0 ≡ 128 → place < length s → readCell place (drop place s) ≡ got (cellAt (drop place s)) 1
+read-empty place s e h =
+    let one = empty-length place s e in
+    read-got-at place s (omega arith) (rw (empty-cell place s e) (omega arith)) ∙ ap (got (cellAt (drop place s))) one
 
 -- A cell where six bytes stand
 pub read-six : (place : ℕ) (s : List ℕ) → place + 6 ≤ length s → noteBy (getD s place 0) (getD s (place + 1) 0) ≤ noteMost

@@ -7,9 +7,9 @@ use mathlib.Core.Path.{_≡_, refl, sym, ap, ap₂, _∙_}
 use native.Mathlib.Nat.{add-zero}
 use native.Mathlib.Omega.{arith}
 use borrow.Author.Tests.{ltb-true, ltb-false}
-use lib.Count.{onesIn}
+use lib.Count.{ones, onesIn}
 use lib.Dec.{ltb}
-use lib.ListN.{length, getD, drop, length-drop}
+use lib.ListN.{length, getD, drop, replicate, length-drop}
 use lib.Seq.{drop-drop}
 use Rattle.xm.specs.Got.{got, refused, _at_}
 use Rattle.xm.specs.Cell.{noteMost, five, lengthBy, fieldBy, fieldsBy, needed, cellAt, readCell, kepts}
@@ -48,6 +48,18 @@ module _ (place : ℕ) (s : List ℕ) where
 
     pub read-got-at : getD (cellAt (drop place s)) 0 0 ≤ noteMost → readCell place (drop place s) ≡ got (cellAt (drop place s)) (lengthBy (getD s place 0))
     read-got-at n = read-got place (drop place s) (omega (arith, needed-at, length-drop place s)) n ∙ ap (got (cellAt (drop place s))) needed-at
+
+-- An empty cell: one byte, five zeros
+module _ (place : ℕ) (s : List ℕ) (e : getD s place 0 ≡ 128) where
+  pub empty-length : lengthBy (getD s place 0) ≡ 1
+  unfolding lengthBy ones onesIn
+  empty-length = ap lengthBy e
+
+  pub empty-cell : cellAt (drop place s) ≡ replicate 5 0
+  unfolding fieldsBy
+  empty-cell =
+      let lead : getD (drop place s) 0 0 ≡ 128 = head-at place s 0 ∙ e in
+      cell-marked (drop place s) (omega arith) ∙ ap (λ (b : ℕ). fieldsBy 5 b (drop 1 (drop place s))) lead
 
 -- What a cell that was tried says
 pub record Tried (place : ℕ) (s : List ℕ) (next : ℕ) : Type 0 where

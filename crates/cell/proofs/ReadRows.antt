@@ -8,8 +8,9 @@ use native.Mathlib.Omega.{arith}
 use lib.ListN.{length, getD, drop, length-drop}
 use lib.Seq.{drop-drop}
 use Rattle.xm.specs.Got.{Refusal, Got, got, refused, _>>=_, accepted, AllHold, _at_}
-use Rattle.xm.specs.Cell.{lengthBy, readCell}
+use Rattle.xm.specs.Cell.{lengthBy, cellAt, readCell}
 use Rattle.xm.specs.Stored.{Pattern, readRow, readCells, readStored}
+use Rattle.xm.specs.Row.{cellsIn}
 use Rattle.xm.specs.Packing.{argumentTests}
 use Rattle.xm.proofs.Got.{test-fails, pass, step, step-refused, bind-got}
 use Rattle.xm.proofs.Cell.{cell-read}
@@ -56,6 +57,12 @@ module _ (s : List ℕ) (place : ℕ) where
         fits = omega (arith, long, r .long, r .fits, length-drop place s);
         rest = rw (one, ← long, ← drop-drop k place s) (got-accepted es);
       }
+
+  -- The cells of a row, accepted or not, as the first and the rest
+  pub cells-first : (left : ℕ) → 0 < left → cellsIn left (drop place s) ≡ cellAt (drop place s) ∷ cellsIn (left - 1) (drop (place + lengthBy (getD s place 0)) s)
+  unfolding cellsIn
+  cells-first zero some = absurd (omega arith)
+  cells-first (suc left) some = let one : suc left - 1 ≡ left = omega arith in rw (one, drop-drop, head-at place s 0)
 
 -- A stored pattern with some data, by its cells
 module _ (channels rows : ℕ) (d : List ℕ) (some : 1 ≤ length d) where

@@ -1,6 +1,6 @@
 -- Laws of filling: accepted cells in a row laid one after the other, a run of empty ones written as forty zeros, and the rest left to
 -- another. Assumes nothing.
-use Prim.Native.Nat.{ℕ, zero, suc, _+_, _*_, _-_, _%_, _≤_, _<_}
+use Prim.Native.Nat.{ℕ, suc, _+_, _*_, _-_, _%_, _≤_, _<_}
 use mathlib.Core.Bool.{Bool, true, false, cond}
 use mathlib.Core.List.{List, _++_, append-assoc}
 use mathlib.Core.Path.{_≡_, refl, sym, ap, ap₂, _∙_}
@@ -20,25 +20,16 @@ use Rattle.xm.specs.Lay.{lay}
 use Rattle.xm.proofs.Cell.{cell-length}
 use Rattle.xm.proofs.Stored.{flat-length}
 use Rattle.xm.proofs.Row.{in-length, in-fives}
-use Rattle.xm.proofs.Lay.{part-back, part-all, head-at, lay-front, lay-more, length-lay, Laid, laid-none, laid-more, laid-done}
-use Rattle.cell.proofs.ReadRows.{row-first}
+use Rattle.xm.proofs.Lay.{part-back, part-all, lay-front, lay-more, length-lay, Laid, laid-none, laid-more, laid-done}
+use Rattle.cell.proofs.ReadLaws.{empty-length, empty-cell}
+use Rattle.cell.proofs.ReadRows.{row-first, cells-first}
 use Rattle.ahead.specs.declared.Ahead.{Ahead}
 use Rattle.ahead.specs.Ahead.{EmptyRun, AheadOf}
-use Rattle.ahead.proofs.Run.{empty-length, empty-cell, run-over}
+use Rattle.ahead.proofs.Run.{run-over}
 use Rattle.cells.specs.Unpacked.{firstFields}
 
 pub cells-length : (count : ℕ) (s : List ℕ) → length (flat (cellsIn count s)) ≡ count * 5
 cells-length count s = flat-length (cellsIn count s) (in-fives count s) ∙ ap (λ (n : ℕ). n * 5) (in-length count s)
-
--- The first of some cells
-cells-first : (count : ℕ) (s : List ℕ) (at : ℕ) → 0 < count
-    → flat (cellsIn count (drop at s)) ≡ cellAt (drop at s) ++ flat (cellsIn (count - 1) (drop (at + lengthBy (getD s at 0)) s))
-unfolding cellsIn
-cells-first zero s at h = absurd (omega arith)
-cells-first (suc count) s at h =
-    let one : suc count - 1 ≡ count = omega arith in
-    let next : drop (lengthBy (getD (drop at s) 0 0)) (drop at s) ≡ drop (at + lengthBy (getD s at 0)) s = drop-drop _ at s ∙ ap (λ (n : ℕ). drop (at + lengthBy n) s) (head-at at s 0) in
-    rw (one, next)
 
 -- A loop that fills: `left` cells are still to come, from `at` on, were accepted, and go to `to`; `goal` is what all are to be
 pub record Filling (s goal lent out : List ℕ) (at to left : ℕ) : Type 0 where
@@ -74,7 +65,7 @@ module _ {s goal lent : List ℕ} where
         let r = row-first s at left some (f .inside) (f .fine) in
         let rest = flat (cellsIn (left - 1) (drop next s)) in
         let size : length w ≡ 5 = ap length cell ∙ cell-length (drop at s) in
-        let m = laid-more (f .writes) w rest _ (to + 5) (cells-first left s at some ∙ rw (n, cell)) (ap (λ (x : ℕ). to + x) (sym size)) put in
+        let m = laid-more (f .writes) w rest _ (to + 5) (ap flat (cells-first s at left some) ∙ rw (n, cell)) (ap (λ (x : ℕ). to + x) (sym size)) put in
         record {
           inside = omega (arith, n, r .fits);
           fine = rw (n, o) (r .rest);
@@ -135,7 +126,7 @@ past-run s left at k h i a all = run-over (Past s left at) s at k all none more
           inside = omega (arith, r .fits);
           fine = rw (p, q) at (r .rest);
           cells =
-              w .cells ∙ ap (λ (x : List ℕ). replicate (i * 5) 0 ++ x) (cells-first (left - i) s (at + i) (omega arith) ∙ rw (p, q, empty-cell (at + i) s e))
+              w .cells ∙ ap (λ (x : List ℕ). replicate (i * 5) 0 ++ x) (ap flat (cells-first s (at + i) (left - i) (omega arith)) ∙ rw (p, q, empty-cell (at + i) s e))
               ∙ sym (append-assoc (replicate (i * 5) 0) (replicate 5 0) rest)
               ∙ ap (λ (x : List ℕ). x ++ rest) (replicate-append-replicate (i * 5) 5 0 ∙ ap (λ (m : ℕ). replicate m 0) z);
         }

@@ -1,7 +1,7 @@
 // Unpacking: a stored pattern's cells, five bytes each.
 use cell::pattern;
 use cell::read;
-use cell::read::Cell;
+use cell::write::put_plain;
 use refusal::Fault;
 use refusal::Step;
 use refusal::fault_of;
@@ -16,24 +16,11 @@ ghost use Rattle.xm.specs.Answer.{inFront};
 ghost use Rattle.xm.specs.Stored.{standardRows, readRow};
 ghost use Rattle.xm.specs.Row.{cellsIn};
 ghost use Rattle.xm.specs.Packing.{unpacking, unpackAfter};
-ghost use Rattle.cell.specs.Read.{fieldsOf};
 ghost use Rattle.cells.specs.Unpacked.{firstFields, unpackedOf};
 
 pub enum Unpacked {
     Rows(usize),
     Refused(Fault),
-}
-
-// A cell's five bytes at the front.
-fn store_cell(cell: Cell, out: &mut [u8])
-    requires { ⌜ 5 ≤ length (now out) ⌝ }
-    ensures { λ _. ⌜ now (out .exit) ≡ inFront (fieldsOf cell) (now (out .entry)) ⌝ }
-{
-    out[0] = cell.note;
-    out[1] = cell.instrument;
-    out[2] = cell.volume;
-    out[3] = cell.effect;
-    out[4] = cell.parameter;
 }
 
 // The cells from a place on, which were accepted, five bytes each, at the front, one by one.
@@ -48,7 +35,7 @@ fn fill_each(stored: &[u8], from: usize, count: usize, out: &mut [u8])
     let mut left = count;
     while 0 < left {
         let cell = read::take_cell(stored, at);
-        store_cell(cell, &mut out[to..]);
+        put_plain(cell, &mut out[to..]);
         at += read::cell_length(stored[at]);
         to += 5;
         left -= 1;
@@ -64,7 +51,7 @@ fn fill_first(stored: &[u8], place: usize, word: u64, out: &mut [u8])
     if word % 256 == 128 {
         clear(40, out);
     } else {
-        store_cell(read::take_over(stored, place), out);
+        put_plain(read::take_over(stored, place), out);
     }
 }
 
@@ -83,7 +70,7 @@ fn fill_cells(stored: &[u8], count: usize, out: &mut [u8])
         let next = ahead::word(stored, turn.next);
         fill_first(stored, at, word, &mut out[to..]);
         to += turn.cells * 5;
-        store_cell(read::take_over(stored, turn.last), &mut out[to..]);
+        put_plain(read::take_over(stored, turn.last), &mut out[to..]);
         to += 5;
         at = turn.next;
         left -= turn.cells + 1;

@@ -12,7 +12,7 @@ use lib.ListN.{length, getD, take, drop, length-append, length-drop}
 use lib.Seq.{drop-drop, take-at, drop-at, take-add, length-take-le}
 use Rattle.xm.specs.Got.{Refusal, Got, got, refused}
 use Rattle.xm.specs.Format.{joined}
-use Rattle.xm.specs.Cell.{noteMost, lengthBy, needed, cellAt, readCell, kept, marks, kepts, marked, plainBy, goesPlain, writeCell}
+use Rattle.xm.specs.Cell.{noteMost, lengthBy, needed, cellAt, readCell, kept, kepts, writeCell}
 use Rattle.xm.specs.Short.{shortestBy, shortBy, isShort}
 use Rattle.xm.specs.Stored.{readRow}
 use Rattle.xm.proofs.Got.{no-true}
@@ -22,11 +22,12 @@ use Rattle.xm.proofs.Lay.{head-at}
 use Rattle.xm.proofs.Short.{shortest-by, short-by, short-exact}
 use Rattle.xm.proofs.Row.{row-read}
 use Rattle.refusal.specs.Fault.{faultOf}
-use Rattle.cell.proofs.ReadLaws.{read-note-at}
+use Rattle.cell.proofs.ReadLaws.{read-note-at, empty-cell}
 use Rattle.cell.proofs.ReadRows.{onto, row-more, row-stop}
+use Rattle.cell.proofs.WriteLaws.{empty-written}
 use Rattle.ahead.specs.Ahead.{EmptyRun, noteBy}
 use Rattle.ahead.proofs.Lengths.{length-six, note-at}
-use Rattle.ahead.proofs.Run.{empty-cell, read-empty, read-six, run-over}
+use Rattle.ahead.proofs.Run.{read-empty, read-six, run-over}
 use Rattle.measure.specs.declared.StoredStep.{StoredStep}
 use Rattle.measure.specs.declared.StoredStep.the-variants.{Read, Refused}
 use Rattle.measure.specs.Measure.{keptAt, sameBytes, measuredOn}
@@ -141,13 +142,12 @@ module _ {s : List ℕ} {answer : StoredStep} where
 
 -- Empty cells, each in its shortest form
 module _ (place : ℕ) (s : List ℕ) (e : getD s place 0 ≡ 128) where
-  empty-written : 1 ≡ length (writeCell (cellAt (drop place s)))
-  unfolding writeCell goesPlain plainBy marked marks kepts kept
-  empty-written = rw (empty-cell place s e)
+  empty-long : 1 ≡ length (writeCell (cellAt (drop place s)))
+  empty-long = rw (empty-cell place s e, empty-written)
 
   empty-short : isShort (drop place s) ≡ true
   unfolding isShort kepts kept lengthBy ones onesIn
-  empty-short = rw (← empty-written, head-at, empty-cell place s e, e)
+  empty-short = rw (← empty-long, head-at, empty-cell place s e, e)
 
 -- A cell by the numbers that the code has: how many fields are kept, and the length of its shortest form
 pub kept-five : (s : List ℕ) {kept : ℕ} → kept ≡ length (kepts (cellAt s)) → kept ≤ 5
@@ -180,7 +180,7 @@ module _ {s : List ℕ} {answer : StoredStep} {used shortest : ℕ} {same : Bool
         measuring =
             move (run-over (λ i. Measuring s answer (used + i) (shortest + i) same (left - i)) s used k (r .all) (move v (omega arith) (omega arith) refl (omega arith))
             (λ i below e w.
-            move (measuring-more w (omega arith) (read-empty (used + i) s e (omega arith)) refl (empty-written (used + i) s e)
+            move (measuring-more w (omega arith) (read-empty (used + i) s e (omega arith)) refl (empty-long (used + i) s e)
             (sym (ap (λ (b : Bool). same && b) (empty-short (used + i) s e) ∙ and-true same))) (omega arith) (omega arith) refl (omega arith))) p q refl t;
         wide = omega (arith, p);
         some = omega (arith, t);

@@ -1,42 +1,29 @@
 -- Stored cells that were accepted: the state of the loop that writes them again. Assumes nothing.
-use Prim.Native.Nat.{ℕ, zero, suc, _+_, _*_, _-_, _≤_, _<_}
+use Prim.Native.Nat.{ℕ, _+_, _*_, _-_, _≤_, _<_}
 use mathlib.Core.Path.{_≡_, refl, sym, ap, _∙_}
 use mathlib.Core.Bool.{true}
 use mathlib.Core.List.{List, [], _∷_}
 use native.Mathlib.Omega.{arith}
 use borrow.Rule.Slice.PartMut.{putMid}
-use lib.Count.{ones}
-use lib.ListN.{length, getD, take, drop, set, replicate, length-drop}
-use lib.Seq.{drop-drop}
+use lib.ListN.{length, getD, take, drop, set, length-drop}
 use Rattle.xm.specs.Got.{accepted}
 use Rattle.xm.specs.Format.{joined}
 use Rattle.xm.specs.Answer.{inFront}
-use Rattle.xm.specs.Cell.{cellSize, lengthBy, fieldsBy, cellAt, writeCell}
+use Rattle.xm.specs.Cell.{lengthBy, cellAt, writeCell}
 use Rattle.xm.specs.Stored.{Pattern, standard, readRow, readCells, readStored, writeStored}
 use Rattle.xm.specs.Row.{cellsIn}
 use Rattle.xm.proofs.Got.{passed, bind-got, got-value}
 use Rattle.xm.proofs.Format.{cons-path}
-use Rattle.xm.proofs.Cell.{length-some, cell-marked}
-use Rattle.xm.proofs.Lay.{head-at, Laid, laid-none, laid-done, laid-long}
+use Rattle.xm.proofs.Cell.{length-some}
+use Rattle.xm.proofs.Lay.{Laid, laid-none, laid-done, laid-long}
 use Rattle.xm.proofs.Stored.{standard-none, write-none}
 use Rattle.xm.proofs.Row.{accepted-got, got-accepted, row-read, in-length, in-fives, cells-least, stored-cells}
 use Rattle.cell.specs.Over.{overMost, Over}
-use Rattle.cell.proofs.ReadRows.{First, row-first}
+use Rattle.cell.proofs.ReadLaws.{empty-length, empty-cell}
+use Rattle.cell.proofs.ReadRows.{First, row-first, cells-first}
 use Rattle.cell.proofs.WriteLaws.{empty-written}
 use Rattle.cell.proofs.WriteRows.{writing-room, writing-part, writing-over, writing-empty}
 use Rattle.shortest.specs.Found.{rewritten, storedPressed}
-
--- The first of stored cells, which is empty if its lead byte is 128
-cells-first : (n place : ℕ) (s : List ℕ) → 0 < n → cellsIn n (drop place s) ≡ cellAt (drop place s) ∷ cellsIn (n - 1) (drop (place + lengthBy (getD s place 0)) s)
-unfolding cellsIn
-cells-first zero place s h = absurd (omega arith)
-cells-first (suc n) place s h = let one : suc n - 1 ≡ n = omega arith in rw (one, drop-drop, head-at place s 0)
-
-lead-empty : (place : ℕ) (s : List ℕ) → getD s place 0 ≡ 128 → replicate cellSize 0 ≡ cellAt (drop place s)
-unfolding fieldsBy
-lead-empty place s e =
-    let lead = head-at place s 0 ∙ e in
-    sym (cell-marked (drop place s) (omega arith) ∙ ap (λ (bits : ℕ). fieldsBy 5 bits (drop 1 (drop place s))) lead)
 
 -- The state of the loop: `left` cells are still to be written again, from `place` on
 pub record Rewriting (stored lent goal out : List ℕ) (place to left : ℕ) : Type 0 where
@@ -81,7 +68,7 @@ module _ {stored lent goal out : List ℕ} {place to left : ℕ} (f : Rewriting 
     -- the first cell is written, and the rest stands behind it
     module _ {cell : List ℕ} (isCell : cell ≡ cellAt (drop place stored)) where
       cells : cellsIn left (drop place stored) ≡ cell ∷ cellsIn (left - 1) (drop (place + lengthBy (getD stored place 0)) stored)
-      cells = cells-first left place stored h ∙ cons-path (sym isCell) refl
+      cells = cells-first stored place left h ∙ cons-path (sym isCell) refl
 
       pub rewriting-room : to + length (writeCell cell) ≤ length out
       rewriting-room = writing-room (f .writing) cells
@@ -101,13 +88,12 @@ module _ {stored lent goal out : List ℕ} {place to left : ℕ} (f : Rewriting 
     -- the lead byte 128 is an empty cell
     module _ (lead : getD stored place 0 ≡ 128) where
       pub empty-room : to < length out
-      empty-room = omega (arith, rewriting-room (lead-empty place stored lead), ap length empty-written)
+      empty-room = omega (arith, rewriting-room (sym (empty-cell place stored lead)), ap length empty-written)
 
       pub rewriting-empty : Rewriting stored lent goal (set out to 128) (place + 1) (to + 1) (left - 1)
-      unfolding lengthBy ones
       rewriting-empty =
-          let empty = lead-empty place stored lead in
-          next empty 1 (sym (ap lengthBy lead)) (writing-empty (f .writing) (cells empty) empty-written)
+          let empty = sym (empty-cell place stored lead) in
+          next empty 1 (sym (empty-length place stored lead)) (writing-empty (f .writing) (cells empty) empty-written)
 
 -- A stored form that takes some bytes in its shortest form: its cells
 pub record CellsOf (rows channels : ℕ) (stored : List ℕ) : Type 0 where

@@ -90,17 +90,17 @@ add-to c = omega (arith, c .before .before .before .before .before .before .look
 take-over-requires : tie.Need-take-over-requires Inv-loop μ-loop
 take-over-requires c κs = omega (arith, wide (c .before .before .before .before .before .before .before), c .before .before .before .before .before .before .look-ahead .ensures .near)
 
-sub-store-cell : tie.Need-sub-store-cell Inv-loop μ-loop
-sub-store-cell c = omega (arith, front (c .before .before .before .before) (c .before .before .before .before .fill-first .ensures) .room)
+sub-put-plain : tie.Need-sub-put-plain Inv-loop μ-loop
+sub-put-plain c = omega (arith, front (c .before .before .before .before) (c .before .before .before .before .fill-first .ensures) .room)
 
-part-store-cell-start : tie.Need-part-store-cell-start Inv-loop μ-loop
-part-store-cell-start c = omega (arith, front (c .before .before .before .before) (c .before .before .before .before .fill-first .ensures) .room)
+part-put-plain-start : tie.Need-part-put-plain-start Inv-loop μ-loop
+part-put-plain-start c = omega (arith, front (c .before .before .before .before) (c .before .before .before .before .fill-first .ensures) .room)
 
-part-store-cell-end : tie.Need-part-store-cell-end Inv-loop μ-loop
-part-store-cell-end c = omega (arith, front (c .before .before .before .before) (c .before .before .before .before .fill-first .ensures) .room)
+part-put-plain-end : tie.Need-part-put-plain-end Inv-loop μ-loop
+part-put-plain-end c = omega (arith, front (c .before .before .before .before) (c .before .before .before .before .fill-first .ensures) .room)
 
-store-cell-requires : tie.Need-store-cell-requires Inv-loop μ-loop
-store-cell-requires c κs =
+put-plain-requires : tie.Need-put-plain-requires Inv-loop μ-loop
+put-plain-requires c κs =
     let few = c .before .before .before .before .before .before .before .before .look-ahead .ensures .few in
     let room = front (c .before .before .before .before .before) (c .before .before .before .before .before .fill-first .ensures) .room in
     rw (part-all, length-drop) (omega arith)
@@ -126,7 +126,7 @@ loop-again : tie.Need-loop-again Inv-loop μ-loop
 loop-again c =
     let few = c .before .before .before .before .before .before .before .before .before .before .before .before .look-ahead .ensures .few in
     let f = front (c .before .before .before .before .before .before .before .before .before) (c .before .before .before .before .before .before .before .before .before .fill-first .ensures) in (
-      filling-more f (fieldsOf (c .before .before .before .before .before .take-over .result)) (c .before .before .before .store-cell .ensures) (omega arith) (fields-of _ (c .before .before .before .before .before .take-over .ensures)) (c .before .before .before .before .before .before .before .before .before .before .before .before .look-ahead .ensures .next) (omega arith),
+      filling-more f (fieldsOf (c .before .before .before .before .before .take-over .result)) (c .before .before .before .put-plain .ensures) (omega arith) (fields-of _ (c .before .before .before .before .before .take-over .ensures)) (c .before .before .before .before .before .before .before .before .before .before .before .before .look-ahead .ensures .next) (omega arith),
       record { right = λ h. c .before .before .before .before .before .before .before .before .before .before .before .word .ensures },
     )
 
@@ -171,10 +171,10 @@ fill-cells-spec =
     mul-to
     add-to
     take-over-requires
-    sub-store-cell
-    part-store-cell-start
-    part-store-cell-end
-    store-cell-requires
+    sub-put-plain
+    part-put-plain-start
+    part-put-plain-end
+    put-plain-requires
     add-to-2
     add-left
     sub-left

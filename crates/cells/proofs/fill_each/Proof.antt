@@ -34,17 +34,17 @@ loop-holds c =
 take-cell-requires : tie.Need-take-cell-requires Inv-loop μ-loop
 take-cell-requires c κs = first c .fits
 
-sub-store-cell : tie.Need-sub-store-cell Inv-loop μ-loop
-sub-store-cell c = omega (arith, c .before .before .loop .inv .room)
+sub-put-plain : tie.Need-sub-put-plain Inv-loop μ-loop
+sub-put-plain c = omega (arith, c .before .before .loop .inv .room)
 
-part-store-cell-start : tie.Need-part-store-cell-start Inv-loop μ-loop
-part-store-cell-start c = omega (arith, c .before .before .loop .inv .room)
+part-put-plain-start : tie.Need-part-put-plain-start Inv-loop μ-loop
+part-put-plain-start c = omega (arith, c .before .before .loop .inv .room)
 
-part-store-cell-end : tie.Need-part-store-cell-end Inv-loop μ-loop
-part-store-cell-end c = omega (arith, c .before .before .loop .inv .room)
+part-put-plain-end : tie.Need-part-put-plain-end Inv-loop μ-loop
+part-put-plain-end c = omega (arith, c .before .before .loop .inv .room)
 
-store-cell-requires : tie.Need-store-cell-requires Inv-loop μ-loop
-store-cell-requires c κs = let l = c .before .before .before .loop in rw part-all (omega (arith, length-drop (l .to) (l .out), l .inv .room))
+put-plain-requires : tie.Need-put-plain-requires Inv-loop μ-loop
+put-plain-requires c κs = let l = c .before .before .before .loop in rw part-all (omega (arith, length-drop (l .to) (l .out), l .inv .room))
 
 shared-slice-read-cell-length : tie.Need-shared-slice-read-cell-length Inv-loop μ-loop
 shared-slice-read-cell-length c = let d = c .before .before .before .before .before .before in omega (arith, first d .fits, length-some (getD (now (d .before .before .before .before .args .stored)) (d .before .loop .at) 0))
@@ -67,7 +67,7 @@ loop-less c = omega arith
 loop-again : tie.Need-loop-again Inv-loop μ-loop
 loop-again c =
     let d = c .before .before .before .before .before .before in
-    filling-more (d .before .before .loop .inv) (fieldsOf (d .take-cell .result)) (c .before .before .before .before .store-cell .ensures) (omega arith) (fields-of _ (d .take-cell .ensures)) (ap (λ (n : ℕ). d .before .before .loop .at + n) (c .cell-length .ensures)) refl
+    filling-more (d .before .before .loop .inv) (fieldsOf (d .take-cell .result)) (c .before .before .before .before .put-plain .ensures) (omega arith) (fields-of _ (d .take-cell .ensures)) (ap (λ (n : ℕ). d .before .before .loop .at + n) (c .cell-length .ensures)) refl
 
 same-length : tie.Need-same-length Inv-loop μ-loop
 same-length c = c .before .loop .inv .writes .kept
@@ -83,10 +83,10 @@ fill-each-spec =
     μ-loop
     loop-holds
     take-cell-requires
-    sub-store-cell
-    part-store-cell-start
-    part-store-cell-end
-    store-cell-requires
+    sub-put-plain
+    part-put-plain-start
+    part-put-plain-end
+    put-plain-requires
     shared-slice-read-cell-length
     cell-length-requires
     add-at

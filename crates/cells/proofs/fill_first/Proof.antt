@@ -16,8 +16,8 @@ clear-requires c κs = search needs
 take-over-requires : tie.Need-take-over-requires
 take-over-requires c κs = search needs
 
-store-cell-requires : tie.Need-store-cell-requires
-store-cell-requires c κs = search needs
+put-plain-requires : tie.Need-put-plain-requires
+put-plain-requires c κs = search needs
 
 same-length : tie.Need-same-length
 same-length c = search needs
@@ -31,7 +31,7 @@ same-length-2 c = search needs
 returns-2 : tie.Need-returns-2
 returns-2 c =
     let a = c .before .before .before .before .before .before .before .before .args in
-    rw (ne-eqb _ _ (c .before .before .before .before .before .if1 .left)) (c .before .before .store-cell .ensures ∙ ap (λ (x : List ℕ). inFront x (now (a .out))) (fields-of _ (c .before .before .before .before .take-over .ensures)))
+    rw (ne-eqb _ _ (c .before .before .before .before .before .if1 .left)) (c .before .before .put-plain .ensures ∙ ap (λ (x : List ℕ). inFront x (now (a .out))) (fields-of _ (c .before .before .before .before .take-over .ensures)))
 
 pub fill-first-spec : {M : Type 1} → statement M
 fill-first-spec =
@@ -39,7 +39,7 @@ fill-first-spec =
     (tie.spec
     clear-requires
     take-over-requires
-    store-cell-requires
+    put-plain-requires
     same-length
     returns
     same-length-2
