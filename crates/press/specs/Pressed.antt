@@ -4,8 +4,6 @@ use mathlib.Core.List.{List, [], _∷_}
 use lib.ListN.{length}
 use Rattle.xm.specs.Answer.{Answer, gives, refuses}
 use Rattle.refusal.specs.Fault.{faultOf}
-use Rattle.walk.specs.declared.WalkStep.{WalkStep}
-use Rattle.walk.specs.declared.WalkStep.the-variants as walked
 use Rattle.press.specs.declared.Pressed.{Pressed}
 use Rattle.press.specs.declared.Pressed.the-variants.{Length, Refused}
 
@@ -18,8 +16,3 @@ pressedOf (refuses refusal) = Refused (faultOf refusal)
 abbrev pub pressedNumbers : Pressed → List ℕ
 pressedNumbers (Length count) = 0 ∷ 0 ∷ count ∷ []
 pressedNumbers (Refused fault) = fault .number ∷ fault .place ∷ 0 ∷ []
-
--- The walk's refusal, passed on.
-abbrev pub walkRefused : WalkStep → Pressed
-walkRefused (walked.Accepted summary) = Length (summary .pressed)
-walkRefused (walked.Refused fault) = Refused fault

@@ -4,25 +4,16 @@ mod module;
 use module::write_module;
 use refusal::Fault;
 use walk::WalkStep;
+use walk::fault_of_walk;
 ghost use mathlib.Core.Path.{_≡_};
 ghost use lib.ListN.{length};
 ghost use Rattle.xm.specs.Press.{pressing, pressAfter};
-ghost use Rattle.press.specs.Pressed.{pressedOf, walkRefused};
+ghost use Rattle.press.specs.Pressed.{pressedOf};
 
 pub enum Pressed {
     // How many bytes were written.
     Length(usize),
     Refused(Fault),
-}
-
-// The walk's refusal, passed on.
-fn refused_walk(step: WalkStep) -> Pressed
-    ensures { λ r. ⌜ r ≡ walkRefused step ⌝ }
-{
-    match step {
-        WalkStep::Accepted(summary) => Pressed::Length(summary.pressed),
-        WalkStep::Refused(fault) => Pressed::Refused(fault),
-    }
 }
 
 // Presses a file. One pass over its cells checks and measures, so that nothing is written before the room is known to do; the other
@@ -33,10 +24,9 @@ pub fn press(file: &[u8], out: &mut [u8]) -> Pressed
 {
     let mut marks: [u8; 256] = [0; 256];
     let step = walk::walk(file, &mut marks);
-    let WalkStep::Accepted(summary) = step else {
-        return refused_walk(step);
+    let WalkStep::Accepted(size) = step else {
+        return Pressed::Refused(fault_of_walk(step));
     };
-    let size = summary.pressed;
     if out.len() < size {
         return Pressed::Refused(Fault {
             number: 14,

@@ -1,45 +1,44 @@
 -- Laws of the header step. Assumes nothing.
 use Prim.Native.Nat.{ℕ}
 use mathlib.Core.List.{List}
-use mathlib.Core.Path.{_≡_, refl, sym, ap, _∙_}
+use mathlib.Core.Path.{_≡_, refl, ap}
 use native.Mathlib.Omega.{arith}
-use Rattle.xm.specs.Number.{wordAt}
-use Rattle.xm.specs.Header.{headerEnd, headerTests, readHeader}
-use Rattle.xm.specs.Got.{AllHold}
+use Rattle.xm.specs.Got.{Got, got, refused, AllHold, _at_}
+use Rattle.xm.specs.Header.{channelsAt, patternsAt, instrumentsAt, HeaderFound, headerEnd, headerOf, headerTests, readHeader}
 use Rattle.xm.proofs.Got.{pass}
+use Rattle.refusal.specs.Fault.{refusalIn}
+use Rattle.refusal.specs.declared.Fault.{Fault}
 use Rattle.steps.specs.Test.{firstFault}
-use Rattle.steps.specs.Step.{headerStep}
+use Rattle.steps.specs.Step.{headerPart, headerStep, headerFault}
+use Rattle.steps.specs.declared.header.HeaderPart.{HeaderPart}
 use Rattle.steps.specs.declared.header.HeaderStep.{HeaderStep}
-use Rattle.steps.specs.declared.header.HeaderStep.the-variants.{Read, Refused}
-use Rattle.steps.proofs.Tests.{RefuseAt, fault-holds, fault-refuses}
+use Rattle.steps.specs.declared.header.HeaderStep.the-variants.{Refused}
+use Rattle.steps.proofs.Tests.{fault-holds, fault-refuses}
 
-part-path : {channels channels′ patterns patterns′ instruments instruments′ start start′ : ℕ} → channels ≡ channels′ → patterns ≡ patterns′ → instruments ≡ instruments′ → start ≡ start′
-    → _≡_ {A = HeaderStep} (Read (record { channels = channels; patterns = patterns; instruments = instruments; start = start }))
-    (Read (record { channels = channels′; patterns = patterns′; instruments = instruments′; start = start′ }))
-part-path p q r t = cc
+-- The counts and the start, one by one
+pub record PartOf (file : List ℕ) (part : HeaderPart) : Type 0 where
+  pub channels : part .channels ≡ channelsAt file
+  pub patterns : part .patterns ≡ patternsAt file
+  pub instruments : part .instruments ≡ instrumentsAt file
+  pub start : part .start ≡ headerEnd file
 
-module _ (file : List ℕ) where
-  refuse-at : RefuseAt 0 (headerTests 0 file)
-  refuse-at = (
-    (omega arith, refl),
-    (
-      (omega arith, refl),
-      (
-        (omega arith, refl),
-        ((omega arith, refl), ((omega arith, refl), ((omega arith, refl), ((omega arith, refl), ((omega arith, refl), ((omega arith, refl), tt)))))),
-      ),
-    ),
-  )
+pub part-of : (file : List ℕ) {part : HeaderPart} → part ≡ headerPart file → PartOf file part
+part-of file e = record { channels = ap HeaderPart.channels e; patterns = ap HeaderPart.patterns e; instruments = ap HeaderPart.instruments e; start = ap HeaderPart.start e }
 
-  module _ {fault : ℕ} (e : fault ≡ firstFault (headerTests 0 file)) where
-    pub header-refused : (fault ≡ 0 → ⊥) → Refused (record { number = fault; place = 0 }) ≡ headerStep (readHeader 0 file)
-    unfolding readHeader
-    header-refused f = rw e (sym (ap headerStep (fault-refuses 0 (headerTests 0 file) _ refuse-at (λ z. f (e ∙ z)))))
+-- The tests decide
+module _ (file : List ℕ) {fault : ℕ} (e : fault ≡ firstFault (headerTests 0 file)) where
+  pub header-faulty : (fault ≡ 0 → ⊥) → readHeader 0 file ≡ refused (fault at 0)
+  unfolding readHeader
+  header-faulty = fault-refuses 0 (headerTests 0 file) _ (omega arith) e
 
-    pub header-holds : fault ≡ 0 → AllHold (headerTests 0 file)
-    header-holds z = fault-holds 0 (headerTests 0 file) refuse-at (sym e ∙ z)
+  pub header-holds : fault ≡ 0 → AllHold (headerTests 0 file)
+  header-holds = fault-holds 0 (headerTests 0 file) (omega arith) e
 
-    pub header-read : fault ≡ 0 → {channels patterns instruments start : ℕ} → channels ≡ wordAt 68 file → patterns ≡ wordAt 70 file → instruments ≡ wordAt 72 file
-        → start ≡ headerEnd file → Read (record { channels = channels; patterns = patterns; instruments = instruments; start = start }) ≡ headerStep (readHeader 0 file)
-    unfolding readHeader
-    header-read z p q r t = part-path p q r t ∙ sym (ap headerStep (pass (headerTests 0 file) (header-holds z) refl))
+pub header-read : (file : List ℕ) → AllHold (headerTests 0 file) → readHeader 0 file ≡ got (record { place = 0; size = headerEnd file; content = headerOf file }) (headerEnd file)
+unfolding readHeader
+header-read file h = pass (headerTests 0 file) h refl
+
+-- What the step's answer says of the reading
+pub header-refused : (g : Got HeaderFound) {step : HeaderStep} {f r : Fault} → step ≡ headerStep g → step ≡ Refused f → r ≡ headerFault step → g ≡ refused (refusalIn r)
+header-refused (got i n) e told passed = cc
+header-refused (refused q) e told passed = cc

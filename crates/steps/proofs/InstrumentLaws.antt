@@ -1,122 +1,135 @@
 -- Laws of the instrument step. Assumes nothing.
-use Prim.Native.Nat.{ℕ, zero, suc, _+_, _-_, _*_, _≤_}
-use mathlib.Core.List.{List, []}
+use Prim.Native.Nat.{ℕ, zero, suc, _+_, _-_, _*_, _≤_, _<_}
+use mathlib.Core.List.{List, [], _∷_}
 use mathlib.Core.Path.{_≡_, refl, sym, ap, _∙_}
-use native.Mathlib.Nat.{add-assoc}
 use native.Mathlib.Omega.{arith}
 use lib.ListN.{length, drop, replicate, length-drop, length-map}
 use lib.Seq.{drop-drop}
 use borrow.Author.Tests.{lt-ltb}
 use Rattle.xm.specs.Number.{Bytes, byteAt, wordAt, longAt, part}
-use Rattle.xm.specs.Got.{Got, got, refused, AllHold, _>>=_}
-use Rattle.xm.specs.Sample.{leastHead, Stretch, SamplesFound, samplesFormat}
-use Rattle.xm.specs.Instrument.{leastInstrument, instrumentTests, InstrumentFound, voiceOf, readInstrument}
+use Rattle.xm.specs.Got.{Got, got, refused, AllHold, _at_}
+use Rattle.xm.specs.Sample.{leastHead, Stretch, SamplesFound, samplesFormat, sizeOfFirst}
+use Rattle.xm.specs.Instrument.{leastInstrument, samplesMost, instrumentSizeAt, countAt, headerSizeAt, instrumentTests, InstrumentFound, voiceOf, readInstrument, instrumentView, writeInstrument}
 use Rattle.xm.proofs.Number.{bytes-drop}
 use Rattle.xm.proofs.Got.{pass, step, step-refused}
-use Rattle.xm.proofs.Sample.{samples-keeps}
 use Rattle.xm.proofs.Instrument.{instrument-keeps, instrument-size}
+use Rattle.refusal.specs.Fault.{refusalIn, placeStep}
 use Rattle.refusal.specs.declared.Fault.{Fault}
+use Rattle.refusal.specs.declared.Step.the-variants.{Next}
+use Rattle.refusal.proofs.Steps.{next-got}
 use Rattle.steps.specs.Test.{firstFault}
-use Rattle.steps.specs.Step.{placeStep, samplesRefused, tailStep, instrumentStep}
-use Rattle.steps.specs.declared.sample.PlaceStep.{PlaceStep}
-use Rattle.steps.specs.declared.sample.PlaceStep.the-variants.{Next, Refused as RefusedPlace}
+use Rattle.steps.specs.Step.{headSizeOf, instrumentHead, instrumentStep, instrumentFault}
+use Rattle.steps.specs.declared.instrument.InstrumentHead.{InstrumentHead}
 use Rattle.steps.specs.declared.instrument.InstrumentStep.{InstrumentStep}
 use Rattle.steps.specs.declared.instrument.InstrumentStep.the-variants.{Read, Refused}
-use Rattle.steps.proofs.Tests.{RefuseAt, fault-holds, fault-refuses}
-use Rattle.steps.proofs.Walking.{never-both, next-got}
-use Rattle.steps.proofs.SampleLaws.{samples-counted, samples-size}
+use Rattle.steps.proofs.Tests.{fault-holds, fault-refuses}
+use Rattle.steps.proofs.SampleLaws.{samples-size}
 
-part-path : {size size′ samples samples′ heads heads′ pressed pressed′ next next′ : ℕ} → size ≡ size′ → samples ≡ samples′ → heads ≡ heads′ → pressed ≡ pressed′ → next ≡ next′
-    → _≡_ {A = InstrumentStep} (Read (record { size = size; samples = samples; «head_size» = heads; pressed = pressed; next = next }))
-    (Read (record { size = size′; samples = samples′; «head_size» = heads′; pressed = pressed′; next = next′ }))
-part-path p q r t u = cc
-
--- The samples' refusal, and what they come to
-refusal-on : (heads size count : ℕ) (g : Got SamplesFound) {step : PlaceStep} {f : Fault} → step ≡ placeStep heads g → step ≡ RefusedPlace f
-    → samplesRefused step ≡ tailStep heads size count g
-refusal-on heads size count (got v n) e told = never-both (sym e ∙ told)
-refusal-on heads size count (refused r) e told = ap samplesRefused e
-
-least-some : (count : ℕ) → 1 ≤ count → leastInstrument count ≡ 263
-least-some zero h = absurd (omega arith)
+pub least-some : (count : ℕ) → (count ≡ 0 → ⊥) → 263 ≡ leastInstrument count
+least-some zero h = absurd (h refl)
 least-some (suc count) h = refl
 
-module _ (file : List ℕ) (heads size count H : ℕ) where
-  abbrev samples : Got SamplesFound
-  samples = samplesFormat .read (replicate count H) heads (drop heads file)
+least-most : (count : ℕ) → leastInstrument count ≤ 263
+least-most zero = omega arith
+least-most (suc count) = omega arith
 
-  pub tail-out : {step : PlaceStep} {f : Fault} → step ≡ placeStep heads samples → step ≡ RefusedPlace f → samplesRefused step ≡ tailStep heads size count samples
-  tail-out e told = refusal-on heads size count samples e told
+-- What the step's answer says of the reading
+pub instrument-refused : (place : ℕ) (g : Got InstrumentFound) {step : InstrumentStep} {f r : Fault} → step ≡ instrumentStep place g → step ≡ Refused f → r ≡ instrumentFault step
+    → g ≡ refused (refusalIn r)
+instrument-refused place (got i n) e told passed = cc
+instrument-refused place (refused q) e told passed = cc
 
-  module _ (some : 1 ≤ count) (low : leastHead ≤ H) {next : ℕ} (e : Next next ≡ placeStep heads samples) where
-    pub tail-heads : heads + count * H ≤ next
-    tail-heads = next-got heads samples e λ v n ev q. omega (arith, samples-size count H heads (drop heads file) v n low ev .heads)
+-- H where there are samples, and 0 where there are none
+pub size-some : (k : ℕ) (s : List ℕ) → 1 ≤ k → headSizeOf k s ≡ headerSizeAt s
+size-some zero s h = absurd (omega arith)
+size-some (suc k) s h = refl
 
-    pub tail-inside : Bytes file → heads ≤ length file → next ≤ length file
-    tail-inside b h = next-got heads samples e λ v n ev q.
-        omega (arith, samples-keeps count H low .keeps heads (drop heads file) v n (bytes-drop heads b) ev .inside, length-drop heads file)
+same-sizes : (k : ℕ) (s : List ℕ) → replicate k (headSizeOf k s) ≡ replicate k (headerSizeAt s)
+same-sizes zero s = refl
+same-sizes (suc k) s = refl
 
-    pub tail-read : Read (record { size = size; samples = count; «head_size» = H; pressed = 263 + 40 * count + (next - (heads + count * H)); next = next }) ≡ tailStep heads size count samples
-    tail-read = next-got heads samples e λ v n ev q.
-        let z = samples-size count H heads (drop heads file) v n low ev in
-        part-path refl refl (sym (z .first some)) (omega (arith, least-some count some, z .heads, z .written)) q ∙ sym (ap (tailStep heads size count) ev)
+size-first : (k : ℕ) (s : List ℕ) (heads : List Stretch) → length heads ≡ k → (1 ≤ k → sizeOfFirst heads ≡ headSizeOf k s) → headSizeOf k s ≡ sizeOfFirst heads
+size-first zero s [] c f = refl
+size-first zero s (h ∷ hs) c f = absurd (omega arith)
+size-first (suc k) s heads c f = sym (f (omega arith))
 
--- The tests in front
 module _ (file : List ℕ) (place : ℕ) where
   abbrev from : List ℕ
   from = drop place file
 
-  refuse-at : RefuseAt place (instrumentTests place from)
-  refuse-at = (
-    (omega arith, refl),
-    ((omega arith, refl), ((omega arith, refl), ((omega arith, refl), ((omega arith, refl), ((omega arith, refl), ((omega arith, refl), tt)))))),
-  )
-
+  -- The tests in front
   module _ {fault : ℕ} (e : fault ≡ firstFault (instrumentTests place from)) where
-    pub instrument-refused : (fault ≡ 0 → ⊥) → Refused (record { number = fault; place = place }) ≡ instrumentStep place (readInstrument place from)
+    pub instrument-faulty : (fault ≡ 0 → ⊥) → readInstrument place from ≡ refused (fault at place)
     unfolding readInstrument
-    instrument-refused f = rw e (sym (ap (instrumentStep place) (fault-refuses place (instrumentTests place from) _ refuse-at (λ z. f (e ∙ z)))))
+    instrument-faulty = fault-refuses place (instrumentTests place from) _ (omega arith) e
 
     pub instrument-holds : fault ≡ 0 → AllHold (instrumentTests place from)
-    instrument-holds z = fault-holds place (instrumentTests place from) refuse-at (sym e ∙ z)
+    instrument-holds = fault-holds place (instrumentTests place from) (omega arith) e
 
   -- What they say if there are samples
   pub some-samples : AllHold (instrumentTests place from) → 1 ≤ wordAt 27 from
       → (263 ≤ longAt 0 from) × ((leastHead ≤ longAt 29 from) × (longAt 0 from + wordAt 27 from * longAt 29 from ≤ length from))
   some-samples h some = let q = lt-ltb 0 (wordAt 27 from) some in (h .1 .1 .1 .0 q, (h .1 .1 .1 .1 .1 .0 q, h .1 .1 .1 .1 .1 .1 .0 q))
 
-  -- and then the samples decide
-  module _ (b : Bytes file) (h : AllHold (instrumentTests place from)) where
-    abbrev I : ℕ
-    I = longAt 0 from
+  module _ (h : AllHold (instrumentTests place from)) {head : InstrumentHead} (eh : head ≡ instrumentHead place from) where
+    -- What its fields tell, one by one
+    pub record FieldsOf : Type 0 where
+      pub heads : head .heads ≡ place + instrumentSizeAt from
+      pub few : head .samples ≤ samplesMost
+      pub low : 0 < head .samples → leastHead ≤ head .«head_size»
+      pub short : leastInstrument (head .samples) ≤ 263
+      pub there : head .heads + head .samples * head .«head_size» ≤ length file
 
-    abbrev k : ℕ
-    k = wordAt 27 from
+    pub fields-of : FieldsOf
+    fields-of = record {
+      heads = ap InstrumentHead.heads eh;
+      few = omega (arith, h .1 .1 .0, ap InstrumentHead.samples eh);
+      low = λ p. omega (arith, ap InstrumentHead.«head_size» eh, ap InstrumentHead.samples eh, size-some (countAt from) from (omega (arith, ap InstrumentHead.samples eh)), some-samples h (omega (arith, ap InstrumentHead.samples eh)) .1 .0);
+      short = least-most (head .samples);
+      there = rw eh (go (countAt from) refl);
+    }
+      where
+        go : (k : ℕ) → countAt from ≡ k → place + instrumentSizeAt from + k * headSizeOf k from ≤ length file
+        go zero e = omega (arith, h .1 .1 .1 .1 .0, length-drop place file)
+        go (suc k) e = omega (arith, ap (λ (n : ℕ). n * headerSizeAt from) e, some-samples h (omega arith) .1 .1, length-drop place file)
 
-    abbrev H : ℕ
-    H = longAt 29 from
+    -- and then the samples decide
+    abbrev samples : Got SamplesFound
+    samples = samplesFormat .read (replicate (head .samples) (head .«head_size»)) (head .heads) (drop (head .heads) file)
+
+    same-samples : samplesFormat .read (replicate (countAt from) (headerSizeAt from)) (place + instrumentSizeAt from) (drop (instrumentSizeAt from) from) ≡ samples
+    same-samples = cc (eh, same-sizes (countAt from) from, drop-drop (instrumentSizeAt from) place file)
+
+    pub instrument-out : {r : Fault} → samples ≡ refused (refusalIn r) → readInstrument place from ≡ refused (refusalIn r)
+    unfolding readInstrument
+    instrument-out q = pass (instrumentTests place from) h (step-refused _ (same-samples ∙ q))
 
     abbrev found : SamplesFound → InstrumentFound
-    found v = record { place = place; size = I; name = part 4 22 from; type = byteAt 26 from; voice = voiceOf k from; samples = v }
+    found v = record { place = place; size = instrumentSizeAt from; name = part 4 22 from; type = byteAt 26 from; voice = voiceOf (countAt from) from; samples = v }
 
-    by-samples : (g : Got SamplesFound) → samplesFormat .read (replicate k H) (place + I) (drop I from) ≡ g → tailStep (place + I) I k g ≡ instrumentStep place (readInstrument place from)
+    instrument-in : {v : SamplesFound} {n : ℕ} → samples ≡ got v n → readInstrument place from ≡ got (found v) (instrumentSizeAt from + n)
     unfolding readInstrument
-    by-samples (got v n) e =
-        let r : readInstrument place from ≡ got (found v) (I + n) = pass (instrumentTests place from) h (step _ e refl) in
-        let g = instrument-keeps .keeps place from (found v) (I + n) (bytes-drop place b) r .good in
-        let c : length (v .0) ≡ k = samples-counted k H (place + I) (drop I from) v n e in
-        part-path refl (sym c) refl
-        (ap (λ (m : ℕ). leastInstrument m + length (samplesFormat .write (samplesFormat .view v))) (sym (length-map (v .0) Stretch.bytes ∙ c)) ∙ sym (instrument-size _ g 0 []))
-        (add-assoc place I n)
-        ∙ sym (ap (instrumentStep place) r)
-    by-samples (refused q) e = sym (ap (instrumentStep place) (pass (instrumentTests place from) h (step-refused _ e)))
+    instrument-in q = pass (instrumentTests place from) h (step _ (same-samples ∙ q) refl)
 
-    -- in the code's numbers
-    pub instrument-tail : {size count heads : ℕ} → size ≡ I → count ≡ k → heads ≡ H
-        → tailStep (place + size) size count (samplesFormat .read (replicate count heads) (place + size) (drop (place + size) file)) ≡ instrumentStep place (readInstrument place from)
-    instrument-tail p q r = rw (p, q, r) (by-samples _ (ap (samplesFormat .read (replicate k H) (place + I)) (drop-drop I place file)))
+    pub record Behind (next : ℕ) : Type 0 where
+      pub heads : head .heads + head .samples * head .«head_size» ≤ next
+      pub inside : next ≤ length file
+      pub answer : {size pressed : ℕ} → size ≡ instrumentSizeAt from → pressed ≡ leastInstrument (head .samples) + 40 * head .samples + (next - (head .heads + head .samples * head .«head_size»))
+          → Read (record { size = size; samples = head .samples; «head_size» = head .«head_size»; pressed = pressed; next = next }) ≡ instrumentStep place (readInstrument place from)
 
-    pub instrument-bare : {size count : ℕ} → size ≡ I → count ≡ k → count ≡ 0
-        → Read (record { size = size; samples = 0; «head_size» = 0; pressed = 29; next = place + size }) ≡ instrumentStep place (readInstrument place from)
-    unfolding _>>=_
-    instrument-bare {size} p q z = part-path refl refl refl refl (omega arith) ∙ instrument-tail p (sym z ∙ q) refl
+    pub behind : Bytes file → {next : ℕ} → Next next ≡ placeStep (head .heads) samples → Behind next
+    behind b {next} e = next-got (head .heads) samples e λ v n q z.
+        let r = instrument-in q in
+        let k = instrument-keeps .keeps place from (found v) _ (bytes-drop place b) r in
+        let s = samples-size (head .samples) (head .«head_size») (head .heads) (drop (head .heads) file) v n q in
+        let many = ap InstrumentHead.samples eh in
+        let wide = ap InstrumentHead.«head_size» eh in
+        let count = ap leastInstrument (length-map (v .0) Stretch.bytes ∙ s .counted) in
+        record {
+          heads = omega (arith, s .heads);
+          inside = omega (arith, k .inside, fields-of .heads, length-drop place file);
+          answer = λ {size} {pressed} p w.
+              let long : pressed ≡ length (writeInstrument (instrumentView (found v))) = omega (arith, instrument-size _ (k .good) 0 [], count, s .written (fields-of .low)) in
+              let on : next ≡ place + (instrumentSizeAt from + n) = omega (arith, fields-of .heads) in
+              cc (r, s .counted, wide ∙ size-first (countAt from) from (v .0) (s .counted ∙ many) (λ one. s .first (omega arith) ∙ wide));
+        }

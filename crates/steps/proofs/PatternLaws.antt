@@ -1,35 +1,33 @@
 -- Laws of the pattern step. Assumes nothing.
 use Prim.Native.Nat.{ℕ, suc, _+_, _-_, _≤_, _<_}
-use mathlib.Core.Bool.{Bool}
 use mathlib.Core.List.{List, [], _∷_}
-use mathlib.Core.Path.{_≡_, refl, sym, ap, ap₂, _∙_}
-use native.Mathlib.Nat.{add-assoc, add-sub-cancel-left}
+use mathlib.Core.Path.{_≡_, refl, sym, ap, _∙_}
+use native.Mathlib.Nat.{add-sub-cancel-left}
 use native.Mathlib.Omega.{arith}
-use lib.ListN.{length, take, drop, length-take}
+use lib.ListN.{length, take, drop, length-take, length-drop}
 use lib.Seq.{drop-drop}
 use borrow.Author.Tests.{ne-eqb}
-use Rattle.xm.specs.Number.{Bytes, wordAt, longAt, part}
-use Rattle.xm.specs.Got.{Got, got, refused, AllHold}
-use Rattle.xm.specs.Stored.{Pattern, readCells, readStored, writeStored}
-use Rattle.xm.specs.PatternInFile.{patternTests, readPattern, dataMost}
-use Rattle.xm.proofs.Number.{bytes-drop, bytes-take}
+use Rattle.xm.specs.Number.{Bytes, part}
+use Rattle.xm.specs.Got.{Got, got, refused, AllHold, _at_}
+use Rattle.xm.specs.Stored.{Pattern, readCells, readStored}
+use Rattle.xm.specs.PatternInFile.{headSizeAt, rowsAt, dataSizeAt, patternTests, PatternFound, readPattern, dataMost}
+use Rattle.xm.proofs.Number.{bytes-drop, bytes-take, word-small, long-small}
 use Rattle.xm.proofs.Got.{pass, passed, step, step-refused, bind-got, got-value}
 use Rattle.xm.proofs.Fault.{stored-faults}
+use Rattle.xm.proofs.Row.{shifted, stored-shifted}
+use Rattle.refusal.specs.Fault.{refusalIn, placeStep}
 use Rattle.refusal.specs.declared.Fault.{Fault}
-use Rattle.refusal.specs.declared.Step.{Step}
-use Rattle.refusal.specs.declared.Step.the-variants as tried
-use Rattle.refusal.specs.Fault.{placeStep as triedStep}
-use Rattle.measure.specs.Measure.{sameBytes, storedOf}
+use Rattle.refusal.specs.declared.Step.the-variants.{Next}
+use Rattle.measure.specs.Measure.{storedOf}
 use Rattle.measure.specs.declared.StoredSize.{StoredSize}
 use Rattle.measure.specs.declared.StoredStep.{StoredStep}
 use Rattle.measure.specs.declared.StoredStep.the-variants as stored
 use Rattle.steps.specs.Test.{firstFault}
-use Rattle.steps.specs.Step.{storedFault, storedRefused, patternStep, rowsReadAs, rowsFault, rowsRefused, placeStep}
+use Rattle.steps.specs.Step.{patternHead, patternStep, patternFault, storedFault, faultFrom, rowsReadAs}
+use Rattle.steps.specs.declared.pattern.PatternHead.{PatternHead}
 use Rattle.steps.specs.declared.pattern.PatternStep.{PatternStep}
 use Rattle.steps.specs.declared.pattern.PatternStep.the-variants.{Read, Refused}
-use Rattle.steps.specs.declared.sample.PlaceStep.the-variants as sample
-use Rattle.steps.proofs.Tests.{RefuseAt, fault-holds, fault-refuses}
-use Rattle.steps.proofs.Shift.{shifted, stored-shifted}
+use Rattle.steps.proofs.Tests.{fault-holds, fault-refuses}
 
 -- The rows that a pattern reads as
 rows-some : (rows : ℕ) (b : ℕ) (d : List ℕ) → rowsReadAs rows (length (b ∷ d)) ≡ rows
@@ -41,129 +39,91 @@ rows-stored channels rows place [] p m e = ap Pattern.rows (sym (got-value e))
 rows-stored channels rows place (b ∷ d) p m e =
     bind-got _ _ e λ cells used ec e. passed _ _ e λ h e. ap Pattern.rows (sym (got-value e)) ∙ sym (rows-some rows b d)
 
-part-path : {shortest shortest′ next next′ : ℕ} {same same′ : Bool} → shortest ≡ shortest′ → same ≡ same′ → next ≡ next′
-    → _≡_ {A = PatternStep} (Read (record { shortest = shortest; same = same; next = next })) (Read (record { shortest = shortest′; same = same′; next = next′ }))
-part-path t u v = cc
+-- What its header tells, one by one, and the bytes from its place on
+pub record HeadOf (from : ℕ) (file : List ℕ) (head : PatternHead) : Type 0 where
+  pub place : head .place ≡ from + headSizeAt (drop from file)
+  pub size : head .size ≡ dataSizeAt (drop from file)
+  pub rows : head .rows ≡ rowsAt (drop from file)
+  pub near : headSizeAt (drop from file) < 4294967296
+  pub small : dataSizeAt (drop from file) < 65536
+  pub left : length (drop from file) ≡ length file - from
 
--- Stored cells as the code cuts them out, and a refusal of theirs: its place is inside them, or at their end
-module _ (file : List ℕ) (base size : ℕ) (small : size < 65536) where
-  abbrev cells : List ℕ
-  cells = take (base + size - base) (drop base file)
+pub head-of : (place : ℕ) (file : List ℕ) {head : PatternHead} → Bytes file → head ≡ patternHead place (drop place file) → HeadOf place file head
+head-of place file b e =
+    let t = bytes-drop place b in
+    record { place = ap PatternHead.place e; size = ap PatternHead.size e; rows = ap PatternHead.rows e; near = long-small 0 t; small = word-small 7 t; left = length-drop place file }
 
-  pub cells-small : length cells ≤ dataMost
-  cells-small = omega (arith, length-take (base + size - base) (drop base file))
+-- What the answer over its stored cells says of their reading
+pub stored-refused : (s : List ℕ) (g : Got Pattern) {step : StoredStep} {f r : Fault} → step ≡ storedOf s g → step ≡ stored.Refused f → r ≡ storedFault step → g ≡ refused (refusalIn r)
+stored-refused s (got p n) e told passed = cc
+stored-refused s (refused q) e told passed = cc
 
-  pub stored-place : Bytes file → (channels rows : ℕ) {step : StoredStep} → step ≡ storedOf cells (readStored channels rows 0 cells) → storedFault step ≤ dataMost
-  stored-place b channels rows e = rw e (go (readStored channels rows 0 cells) refl)
-    where
-      go : (g : Got Pattern) → readStored channels rows 0 cells ≡ g → storedFault (storedOf cells g) ≤ dataMost
-      go (got p n) q = omega arith
-      go (refused r) q = omega (arith, stored-faults channels rows 0 cells r (bytes-take (base + size - base) (bytes-drop base b)) q .to, cells-small)
+-- and what the step's answer says
+pub pattern-refused : (file : List ℕ) (place : ℕ) (g : Got PatternFound) {step : PatternStep} {f r : Fault} → step ≡ patternStep file place g → step ≡ Refused f → r ≡ patternFault step
+    → g ≡ refused (refusalIn r)
+pattern-refused file place (got i n) e told passed = cc
+pattern-refused file place (refused q) e told passed = cc
 
-  pub rows-place : Bytes file → (channels rows : ℕ) {step : Step} → step ≡ triedStep 0 (readStored channels rows 0 cells) → rowsFault step ≤ dataMost
-  rows-place b channels rows e = rw e (go (readStored channels rows 0 cells) refl)
-    where
-      go : (g : Got Pattern) → readStored channels rows 0 cells ≡ g → rowsFault (triedStep 0 g) ≤ dataMost
-      go (got p n) q = omega arith
-      go (refused r) q = omega (arith, stored-faults channels rows 0 cells r (bytes-take (base + size - base) (bytes-drop base b)) q .to, cells-small)
-
-never-rows : {A : Type 0} {rows : ℕ} {f : Fault} → tried.Next rows ≡ tried.Refused f → A
-never-rows e = absurd (let z : _≡_ {A = ℕ} 0 1 = cc in omega arith)
-
-never-both : {A : Type 0} {size : StoredSize} {f : Fault} → stored.Read size ≡ stored.Refused f → A
-never-both e = absurd (let z : _≡_ {A = ℕ} 0 1 = cc in omega arith)
-
-same-read : {a b : StoredSize} → stored.Read a ≡ stored.Read b → a ≡ b
-same-read e = cc
-
--- The tests of its header
-module _ (file : List ℕ) (place : ℕ) where
+module _ (file : List ℕ) (place channels : ℕ) where
   abbrev from : List ℕ
   from = drop place file
 
-  refuse-at : RefuseAt place (patternTests place from)
-  refuse-at = ((omega arith, refl), ((omega arith, refl), ((omega arith, refl), ((omega arith, refl), tt))))
-
-  module _ (channels : ℕ) {fault : ℕ} (e : fault ≡ firstFault (patternTests place from)) where
-    pub pattern-refused : (fault ≡ 0 → ⊥) → Refused (record { number = fault; place = place }) ≡ patternStep file place (readPattern channels place from)
+  -- The tests of its header
+  module _ {fault : ℕ} (e : fault ≡ firstFault (patternTests place from)) where
+    pub pattern-faulty : (fault ≡ 0 → ⊥) → readPattern channels place from ≡ refused (fault at place)
     unfolding readPattern
-    pattern-refused f = rw e (sym (ap (patternStep file place) (fault-refuses place (patternTests place from) _ refuse-at (λ z. f (e ∙ z)))))
-
-    pub scan-refused : (fault ≡ 0 → ⊥) → sample.Refused (record { number = fault; place = place }) ≡ placeStep place (readPattern channels place from)
-    unfolding readPattern
-    scan-refused f = rw e (sym (ap (placeStep place) (fault-refuses place (patternTests place from) _ refuse-at (λ z. f (e ∙ z)))))
+    pattern-faulty = fault-refuses place (patternTests place from) _ (omega arith) e
 
     pub pattern-holds : fault ≡ 0 → AllHold (patternTests place from)
-    pattern-holds z = fault-holds place (patternTests place from) refuse-at (sym e ∙ z)
+    pattern-holds = fault-holds place (patternTests place from) (omega arith) e
 
-  -- and then its stored cells decide
-  module _ (channels : ℕ) (h : AllHold (patternTests place from)) where
-    abbrev L : ℕ
-    L = longAt 0 from
+  -- and then its stored cells decide, as the code cuts them out
+  module _ (h : AllHold (patternTests place from)) {head : PatternHead} (eh : head ≡ patternHead place from) where
+    abbrev cut : List ℕ
+    cut = take (head .place + head .size - head .place) (drop (head .place) file)
 
-    abbrev rows : ℕ
-    rows = wordAt 5 from
-
-    abbrev S : ℕ
-    S = wordAt 7 from
+    abbrev pub cells : Got Pattern
+    cells = readStored channels (head .rows) 0 cut
 
     abbrev d : List ℕ
-    d = part L S from
+    d = part (headSizeAt from) (dataSizeAt from) from
 
-    shifts : readStored channels rows (place + L) d ≡ shifted (place + L) (readStored channels rows 0 d)
-    shifts = stored-shifted (place + L) channels rows d
+    same-cut : cut ≡ part (place + headSizeAt from) (dataSizeAt from) file
+    same-cut = rw (eh, add-sub-cancel-left)
 
-    by-refusal : (g : Got Pattern) {f : Fault} → readStored channels rows 0 d ≡ g → storedOf d g ≡ stored.Refused f → storedRefused (place + L) (storedOf d g) ≡ patternStep file place (readPattern channels place from)
+    same-cells : readStored channels (rowsAt from) (place + headSizeAt from) d ≡ shifted (head .place) cells
+    same-cells = stored-shifted _ channels (rowsAt from) d ∙ cc (eh, same-cut, ap (take (dataSizeAt from)) (drop-drop (headSizeAt from) place file))
+
+    -- A fault lies in the cells, or at their end
+    pub fault-place : Bytes file → {r : Fault} → cells ≡ refused (refusalIn r) → r .place ≤ dataMost
+    fault-place b q =
+        omega (
+          arith,
+          ap PatternHead.size eh,
+          word-small 7 (bytes-drop place b),
+          length-take (head .place + head .size - head .place) (drop (head .place) file),
+          stored-faults channels (head .rows) 0 cut _ (bytes-take (head .place + head .size - head .place) (bytes-drop (head .place) b)) q .to,
+        )
+
+    pub pattern-out : {r : Fault} → cells ≡ refused (refusalIn r) → readPattern channels place from ≡ refused (refusalIn (faultFrom (head .place) r))
     unfolding readPattern shifted
-    by-refusal (got p n) e told = never-both told
-    by-refusal (refused r) e told = sym (ap (patternStep file place) (pass (patternTests place from) h (step-refused _ (shifts ∙ ap (shifted (place + L)) e))))
+    pattern-out q = pass (patternTests place from) h (step-refused _ (same-cells ∙ ap (shifted (head .place)) q))
 
-    by-pattern : (g : Got Pattern) {size : StoredSize} → readStored channels rows 0 d ≡ g → storedOf d g ≡ stored.Read size
-        → Read (record { shortest = size .shortest; same = size .same; next = place + L + S }) ≡ patternStep file place (readPattern channels place from)
+    abbrev found : Pattern → PatternFound
+    found p = record { place = place; headSize = headSizeAt from; dataPlace = place + headSizeAt from; dataSize = dataSizeAt from; content = p }
+
+    pub pattern-in : {p : Pattern} {n : ℕ} → cells ≡ got p n → readPattern channels place from ≡ got (found p) (headSizeAt from + dataSizeAt from)
     unfolding readPattern shifted
-    by-pattern (got p n) {size} e told =
-        let z = same-read told in
-        part-path (ap StoredSize.shortest (sym z))
-        (ap StoredSize.same (sym z) ∙ ap (λ (l : List ℕ). sameBytes (take S l) (writeStored p)) (drop-drop L place file)) (add-assoc place L S)
-        ∙ sym (ap (patternStep file place) (pass (patternTests place from) h (step _ (shifts ∙ ap (shifted (place + L)) e) refl)))
-    by-pattern (refused r) e told = never-both (sym told)
+    pattern-in q = pass (patternTests place from) h (step _ (same-cells ∙ ap (shifted (head .place)) q) refl)
 
-    scan-by-refusal : (g : Got Pattern) {f : Fault} → readStored channels rows 0 d ≡ g → triedStep 0 g ≡ tried.Refused f → rowsRefused (place + L) (triedStep 0 g) ≡ placeStep place (readPattern channels place from)
-    unfolding readPattern shifted
-    scan-by-refusal (got p n) e told = never-rows told
-    scan-by-refusal (refused r) e told = sym (ap (placeStep place) (pass (patternTests place from) h (step-refused _ (shifts ∙ ap (shifted (place + L)) e))))
+    next-place : head .place + head .size ≡ place + (headSizeAt from + dataSizeAt from)
+    next-place = omega (arith, ap PatternHead.place eh, ap PatternHead.size eh)
 
-    scan-by-rows : (g : Got Pattern) {n : ℕ} → readStored channels rows 0 d ≡ g → triedStep 0 g ≡ tried.Next n → sample.Next (place + L + S) ≡ placeStep place (readPattern channels place from)
-    unfolding readPattern shifted
-    scan-by-rows (got p n) e told =
-        ap sample.Next (add-assoc place L S) ∙ sym (ap (placeStep place) (pass (patternTests place from) h (step _ (shifts ∙ ap (shifted (place + L)) e) refl)))
-    scan-by-rows (refused r) e told = never-rows (sym told)
+    pub read-in : (g : Got Pattern) {size : StoredSize} → cells ≡ g → stored.Read size ≡ storedOf cut g
+        → Read (record { shortest = size .shortest; same = size .same; next = head .place + head .size }) ≡ patternStep file place (readPattern channels place from)
+    read-in (got p n) q e = cc (pattern-in q, same-cut, next-place)
+    read-in (refused r) q e = cc
 
-    -- in the code's numbers, with the cells as the code cuts them out
-    module _ {base size row : ℕ} (p : base ≡ place + L) (q : row ≡ rows) (r : size ≡ S) where
-      abbrev cut : List ℕ
-      cut = take (base + size - base) (drop base file)
-
-      same-cut : cut ≡ d
-      same-cut = rw (p, r, add-sub-cancel-left, drop-drop)
-
-      module _ {step : StoredStep} (e : step ≡ storedOf cut (readStored channels row 0 cut)) where
-        same-step : step ≡ storedOf d (readStored channels rows 0 d)
-        same-step = e ∙ ap₂ (λ (n : ℕ) (s : List ℕ). storedOf s (readStored channels n 0 s)) q same-cut
-
-        pub pattern-out : {f : Fault} → step ≡ stored.Refused f → storedRefused base step ≡ patternStep file place (readPattern channels place from)
-        pattern-out told = ap₂ storedRefused p same-step ∙ by-refusal _ refl (sym same-step ∙ told)
-
-        pub pattern-read : {z : StoredSize} → step ≡ stored.Read z
-            → Read (record { shortest = z .shortest; same = z .same; next = base + size }) ≡ patternStep file place (readPattern channels place from)
-        pattern-read told = rw (p, r) (by-pattern _ refl (sym same-step ∙ told))
-
-      module _ {step : Step} (e : step ≡ triedStep 0 (readStored channels row 0 cut)) where
-        same-rows : step ≡ triedStep 0 (readStored channels rows 0 d)
-        same-rows = e ∙ ap₂ (λ (n : ℕ) (s : List ℕ). triedStep 0 (readStored channels n 0 s)) q same-cut
-
-        pub scan-out : {f : Fault} → step ≡ tried.Refused f → rowsRefused base step ≡ placeStep place (readPattern channels place from)
-        scan-out told = ap₂ rowsRefused p same-rows ∙ scan-by-refusal _ refl (sym same-rows ∙ told)
-
-        pub scan-read : {n : ℕ} → step ≡ tried.Next n → sample.Next (base + size) ≡ placeStep place (readPattern channels place from)
-        scan-read told = rw (p, r) (scan-by-rows _ refl (sym same-rows ∙ told))
+    pub scan-in : (g : Got Pattern) {n : ℕ} → cells ≡ g → Next n ≡ placeStep 0 g → Next (head .place + head .size) ≡ placeStep place (readPattern channels place from)
+    scan-in (got p n) q e = cc (pattern-in q, next-place)
+    scan-in (refused r) q e = cc

@@ -7,34 +7,27 @@ use native.Mathlib.Omega.{arith}
 use lib.IntN.{ℤ}
 use lib.ListN.{length, getD, drop, replicate, length-drop, length-append, length-replicate, getD-replicate}
 use lib.Seq.{getD-drop, take-take, drop-drop, length-take-le}
-use Rattle.xm.specs.Number.{Bytes, byteAt, signed}
+use Rattle.xm.specs.Number.{byteAt, signed}
 use Rattle.xm.specs.Got.{Got, got, refused, _>>=_, _>>_, checked, _at_}
 use Rattle.xm.specs.Format.{each}
 use Rattle.xm.specs.Sample.{leastHead, headBytes, dataSize, Stretch, readHead, readData, headFormat, dataFormat, SamplesFound, samplesFormat, sizeOfFirst}
-use Rattle.xm.proofs.Number.{bytes-drop, Agree, agree-byte, agree-long}
+use Rattle.xm.proofs.Number.{Agree, agree-byte, agree-long}
 use Rattle.xm.proofs.Got.{pass, step, test-holds, test-fails, step-refused, passed, bind-got, got-value, got-used, got-carry}
-use Rattle.xm.proofs.Format.{cons-path, many-keeps, read-length}
-use Rattle.xm.proofs.Sample.{head-keeps}
+use Rattle.xm.proofs.Format.{cons-path, read-length}
 use Rattle.xm.proofs.Instrument.{heads-used}
-use Rattle.refusal.specs.Fault.{faultOf}
+use Rattle.refusal.specs.Fault.{faultOf, placeStep}
 use Rattle.refusal.specs.declared.Fault.{Fault}
+use Rattle.refusal.specs.declared.Step.{Step}
+use Rattle.refusal.specs.declared.Step.the-variants.{Next, Refused}
+use Rattle.refusal.proofs.Steps.{next-got}
 use Rattle.slices.specs.Number.{Byte, Long}
 use Rattle.steps.specs.Test.{firstFault}
 use Rattle.steps.specs.Sample.{HeadAt, headTestsOf, headsFrom}
-use Rattle.steps.specs.Step.{placeStep}
 use Rattle.steps.specs.declared.sample.SampleHead.{SampleHead}
-use Rattle.steps.specs.declared.sample.PlaceStep.{PlaceStep}
-use Rattle.steps.specs.declared.sample.PlaceStep.the-variants.{Next, Refused}
-use Rattle.steps.proofs.Tests.{RefuseAt, fault-holds, fault-refuses}
-use Rattle.steps.proofs.Walking.{next-got, refused-on, Reached, reached-start, reached-on, reached-out, reached-place}
+use Rattle.steps.proofs.Tests.{fault-holds, fault-refuses}
+use Rattle.steps.proofs.Walking.{refused-on, Reached, reached-start, reached-on, reached-out, reached-place}
 
 -- A header's fields are the numbers at their offsets
-head-path : {length length′ start start′ looped looped′ form form′ kind kind′ : ℕ} {finetune finetune′ note note′ : ℤ}
-    → length ≡ length′ → start ≡ start′ → looped ≡ looped′ → finetune ≡ finetune′ → form ≡ form′ → note ≡ note′ → kind ≡ kind′
-    → _≡_ {A = SampleHead} (record { length = length; «loop_start» = start; «loop_length» = looped; finetune = finetune; form = form; «relative_note» = note; kind = kind })
-    (record { length = length′; «loop_start» = start′; «loop_length» = looped′; finetune = finetune′; form = form′; «relative_note» = note′; kind = kind′ })
-head-path a b c d e f g = cc
-
 module _ (file : List ℕ) (place size : ℕ) (there : place + leastHead ≤ length file) where
   abbrev from : List ℕ
   from = drop place file
@@ -49,18 +42,13 @@ module _ (file : List ℕ) (place size : ℕ) (there : place + leastHead ≤ len
       → finetune ≡ signed 8 (getD file (place + 13) 0) → Byte 14 from form → note ≡ signed 8 (getD file (place + 16) 0) → Byte 17 from kind
       → HeadAt (headBytes size from) (record { length = length; «loop_start» = start; «loop_length» = looped; finetune = finetune; form = form; «relative_note» = note; kind = kind })
   head-made l s o f t n k = record {
-    value =
-        head-path (l .value ∙ sym (agree-long front 0 (omega arith))) (s .value ∙ sym (agree-long front 4 (omega arith))) (o .value ∙ sym (agree-long front 8 (omega arith)))
-        (tune 13 (omega arith) f) (t .value ∙ sym (agree-byte front 14 (omega arith))) (tune 16 (omega arith) n) (k .value ∙ sym (agree-byte front 17 (omega arith)));
+    value = cc (agree-long front 0 (omega arith), agree-long front 4 (omega arith), agree-long front 8 (omega arith), tune 13 (omega arith) f, agree-byte front 14 (omega arith), tune 16 (omega arith) n, agree-byte front 17 (omega arith));
     length-small = l .small;
     start-small = s .small;
     looped-small = o .small;
   }
 
 -- A header's tests, by the fields that the code has
-refuse-at : (place : ℕ) (head : SampleHead) → RefuseAt place (headTestsOf place head)
-refuse-at place head = ((omega arith, refl), ((omega arith, refl), ((omega arith, refl), ((omega arith, refl), tt))))
-
 same-fault : (place : ℕ) (head : SampleHead) → firstFault (headTestsOf 0 head) ≡ firstFault (headTestsOf place head)
 unfolding firstFault
 same-fault place head = refl
@@ -74,15 +62,13 @@ module _ (file : List ℕ) (place size : ℕ) {head : SampleHead} (v : HeadAt (h
   read-by =
       test-holds _ _ found (omega (arith, length-drop place file)) ∙ ap (λ (h : SampleHead). checked (headTestsOf place h) >> found) (sym (v .value))
 
-  pub head-refused : {fault : ℕ} → fault ≡ firstFault (headTestsOf 0 head) → (fault ≡ 0 → ⊥)
-      → Refused (record { number = fault; place = place }) ≡ placeStep place (readHead size place (drop place file))
-  head-refused e f =
-      rw (e ∙ same-fault place head)
-      (sym (ap (placeStep place) (read-by ∙ fault-refuses place (headTestsOf place head) found (refuse-at place head) (λ z. f (e ∙ same-fault place head ∙ z)))))
+  module _ {fault : ℕ} (e : fault ≡ firstFault (headTestsOf 0 head)) where
+    pub head-faulty : (fault ≡ 0 → ⊥) → readHead size place (drop place file) ≡ refused (fault at place)
+    head-faulty f = read-by ∙ fault-refuses place (headTestsOf place head) found (omega arith) (e ∙ same-fault place head) f
 
-  pub head-passed : {fault : ℕ} → fault ≡ firstFault (headTestsOf 0 head) → fault ≡ 0 → Next (place + size) ≡ placeStep place (readHead size place (drop place file))
-  head-passed e z =
-      sym (ap (placeStep place) (read-by ∙ pass (headTestsOf place head) (fault-holds place (headTestsOf place head) (refuse-at place head) (sym (e ∙ same-fault place head) ∙ z)) refl))
+    pub head-passed : fault ≡ 0 → Next (place + size) ≡ placeStep place (readHead size place (drop place file))
+    head-passed z =
+        sym (ap (placeStep place) (read-by ∙ pass (headTestsOf place head) (fault-holds place (headTestsOf place head) (omega arith) (e ∙ same-fault place head) z) refl))
 
 -- Sample data
 module _ (file : List ℕ) (headPlace size place : ℕ) {head : SampleHead} (v : HeadAt (headBytes size (drop headPlace file)) head) where
@@ -127,7 +113,7 @@ module _ (file : List ℕ) (start size count : ℕ) where
       there = omega (arith, w .there, times-next j size, head-used size place (drop place file) ei .1);
     }
 
-    pub heads-out : j < count → {step : PlaceStep} {f : Fault} → step ≡ placeStep place (readHead size place (drop place file)) → step ≡ Refused f
+    pub heads-out : j < count → {step : Step} {f : Fault} → step ≡ placeStep place (readHead size place (drop place file)) → step ≡ Refused f
         → step ≡ placeStep start (each headFormat .read (replicate count size) start (drop start file))
     heads-out h e told = refused-on place start _ _ e told λ r er. reached-out headFormat _ file start (w .reached) size (rw length-replicate h) (getD-replicate count j size size h) er
 
@@ -178,7 +164,7 @@ module _ (file : List ℕ) (heads size count start : ℕ) where
         inside = omega (arith, w .inside, data-inside _ place (drop place file) ei, length-drop place file);
       }
 
-      pub data-out : {step : PlaceStep} {f : Fault} → step ≡ placeStep place (readData (headBytes size (drop head file)) place (drop place file)) → step ≡ Refused f
+      pub data-out : {step : Step} {f : Fault} → step ≡ placeStep place (readData (headBytes size (drop head file)) place (drop place file)) → step ≡ Refused f
           → step ≡ placeStep start (each dataFormat .read (headsFrom count size (drop heads file)) start (drop start file))
       data-out e told = refused-on place start _ _ e told λ r er. reached-out dataFormat _ file start (w .reached) (headBytes size (drop head file)) (rw length-heads h) (same-head _) er
 
@@ -208,7 +194,7 @@ module _ (file : List ℕ) (start size count : ℕ) where
   abbrev samples : Got SamplesFound
   samples = samplesFormat .read (replicate count size) start (drop start file)
 
-  pub samples-out : {step : PlaceStep} {f : Fault} → step ≡ placeStep start heads → step ≡ Refused f → step ≡ placeStep start samples
+  pub samples-out : {step : Step} {f : Fault} → step ≡ placeStep start heads → step ≡ Refused f → step ≡ placeStep start samples
   samples-out e told = refused-on start start heads samples e told λ r er. step-refused _ er
 
   pub samples-on : {next : ℕ} → Next next ≡ placeStep start heads
@@ -219,21 +205,20 @@ module _ (file : List ℕ) (start size count : ℕ) where
       ∙ place-then hs start n _
       ∙ ap (placeStep start) (sym (step _ eh refl)))
 
-  pub samples-inside : leastHead ≤ size → Bytes file → start ≤ length file → {next : ℕ} → Next next ≡ placeStep start heads → next ≤ length file
-  samples-inside l b h e = next-got start heads e λ hs n eh q.
-      omega (arith, many-keeps headFormat count (head-keeps size l) .keeps start (drop start file) hs n (bytes-drop start b) eh .inside, length-drop start file)
+  pub heads-behind : {next : ℕ} → Next next ≡ placeStep start heads → next ≡ start + count * size
+  heads-behind e = next-got start heads e λ hs n eh q. omega (arith, heads-used count size start (drop start file) hs n eh)
 
 -- What the samples take, and what they are written in: 40 bytes a header, and the data as they are
-heads-written : (count size place : ℕ) (s : List ℕ) (is : List Stretch) (n : ℕ) → leastHead ≤ size → each headFormat .read (replicate count size) place s ≡ got is n
+heads-written : (count size place : ℕ) (s : List ℕ) (is : List Stretch) (n : ℕ) → (0 < count → leastHead ≤ size) → each headFormat .read (replicate count size) place s ≡ got is n
     → length (each headFormat .write (each headFormat .view is)) ≡ count * leastHead
 unfolding readHead
 heads-written zero size place s is n l e = got-carry (λ (r : List Stretch) (u : ℕ). length (each headFormat .write (each headFormat .view r)) ≡ 0 * leastHead) e refl
 heads-written (suc count) size place s is n l e =
     bind-got _ _ e λ i k ei e₁. bind-got _ _ e₁ λ js m ej e₂.
     passed _ _ ei λ h ei.
-    let one : length (i .bytes) ≡ leastHead = ap (λ (t : Stretch). length (t .bytes)) (sym (got-value ei)) ∙ length-take-le leastHead s (omega (arith, h .0)) in
+    let one : length (i .bytes) ≡ leastHead = ap (λ (t : Stretch). length (t .bytes)) (sym (got-value ei)) ∙ length-take-le leastHead s (omega (arith, h .0, l (omega arith))) in
     got-carry (λ (r : List Stretch) (u : ℕ). length (each headFormat .write (each headFormat .view r)) ≡ suc count * leastHead) e₂
-    (rw length-append (omega (arith, one, heads-written count size (place + k) (drop k s) js m l ej)))
+    (rw length-append (omega (arith, one, heads-written count size (place + k) (drop k s) js m (λ h. l (omega arith)) ej)))
 
 data-written : (heads : List (List ℕ)) (place : ℕ) (s : List ℕ) (ds : List Stretch) (n : ℕ) → each dataFormat .read heads place s ≡ got ds n
     → length (each dataFormat .write (each dataFormat .view ds)) ≡ n
@@ -253,26 +238,22 @@ first-size count size place s is n e =
     passed _ _ ei λ h ei.
     got-carry (λ (r : List Stretch) (u : ℕ). sizeOfFirst r ≡ size) e₂ (ap Stretch.size (sym (got-value ei)))
 
-pub samples-counted : (count size place : ℕ) (s : List ℕ) (v : SamplesFound) (n : ℕ) → samplesFormat .read (replicate count size) place s ≡ got v n → length (v .0) ≡ count
-samples-counted count size place s v n e =
-    bind-got _ _ e λ hs m eh e₁. bind-got _ _ e₁ λ ds k ed e₂.
-    got-carry (λ (r : SamplesFound) (u : ℕ). length (r .0) ≡ count) e₂ (read-length headFormat (replicate count size) place s hs m eh ∙ length-replicate count size)
-
 pub record SamplesSize (count size : ℕ) (v : SamplesFound) (n : ℕ) : Type 0 where
+  pub counted : length (v .0) ≡ count
   pub first : 1 ≤ count → sizeOfFirst (v .0) ≡ size
   pub heads : count * size ≤ n
-  pub written : length (samplesFormat .write (samplesFormat .view v)) + count * size ≡ count * leastHead + n
+  pub written : (0 < count → leastHead ≤ size) → length (samplesFormat .write (samplesFormat .view v)) + count * size ≡ count * leastHead + n
 
-pub samples-size : (count size place : ℕ) (s : List ℕ) (v : SamplesFound) (n : ℕ) → leastHead ≤ size → samplesFormat .read (replicate count size) place s ≡ got v n
-    → SamplesSize count size v n
-samples-size count size place s v n l e =
+pub samples-size : (count size place : ℕ) (s : List ℕ) (v : SamplesFound) (n : ℕ) → samplesFormat .read (replicate count size) place s ≡ got v n → SamplesSize count size v n
+samples-size count size place s v n e =
     bind-got _ _ e λ hs m eh e₁. bind-got _ _ e₁ λ ds k ed e₂.
     let used = heads-used count size place s hs m eh in
     got-carry (λ (r : SamplesFound) (u : ℕ). SamplesSize count size r u) e₂
     (record {
+      counted = read-length headFormat (replicate count size) place s hs m eh ∙ length-replicate count size;
       first = one count eh;
       heads = omega (arith, used);
-      written = rw length-append (omega (arith, used, heads-written count size place s hs m l eh, data-written (each headFormat .view hs) (place + m) (drop m s) ds k ed));
+      written = λ l. rw length-append (omega (arith, used, heads-written count size place s hs m l eh, data-written (each headFormat .view hs) (place + m) (drop m s) ds k ed));
     })
   where
     one : (count : ℕ) {hs : List Stretch} {m : ℕ} → each headFormat .read (replicate count size) place s ≡ got hs m → 1 ≤ count → sizeOfFirst hs ≡ size

@@ -2,7 +2,7 @@
 use Prim.Native.Nat.{ℕ, zero, suc, _≤_}
 use mathlib.Core.Bool.{Bool, true, false, not, cond}
 use mathlib.Core.List.{List, [], _∷_}
-use mathlib.Core.Path.{_≡_, refl, sym, ap, _∙_}
+use mathlib.Core.Path.{_≡_, refl, sym, ap₂, _∙_}
 use native.Mathlib.Omega.{arith}
 use lib.ListN.{take, drop}
 use lib.Seq.{take-nil}
@@ -13,12 +13,12 @@ use Rattle.xm.proofs.Got.{no-true, holds-passes, passes-holds, all-pass, all-ho
 use Rattle.steps.specs.Test.{firstFault}
 
 -- A test that fails does not pass
+never-true : (b : Bool) → (b ≡ true → ⊥) → b ≡ false
+never-true true f = absurd (f refl)
+never-true false f = refl
+
 pub not-passes : (t : Test) → (Holds t → ⊥) → passes t ≡ false
-not-passes t f = go (passes t) refl
-  where
-    go : (b : Bool) → passes t ≡ b → passes t ≡ false
-    go true e = absurd (f (passes-holds t e))
-    go false e = e
+not-passes t f = never-true (passes t) (λ e. f (passes-holds t e))
 
 -- A test that a function of the code made
 pub test-passed : (t : Test) {b : Bool} → b ≡ passes t → not b ≡ false → Holds t
@@ -29,11 +29,7 @@ test-failed t e q h = no-true (sym (sym e ∙ not-true _ q) ∙ holds-passes t (
 
 -- A test of all
 pub not-all-pass : (ts : List Test) → (AllHold ts → ⊥) → allPass ts ≡ false
-not-all-pass ts f = go (allPass ts) refl
-  where
-    go : (b : Bool) → allPass ts ≡ b → allPass ts ≡ false
-    go true e = absurd (f (all-hold ts e))
-    go false e = e
+not-all-pass ts f = never-true (allPass ts) (λ e. f (all-hold ts e))
 
 pub not-all-hold : (ts : List Test) → allPass ts ≡ false → AllHold ts → ⊥
 not-all-hold ts e h = no-true (sym e ∙ all-pass ts h)
@@ -65,21 +61,22 @@ fault-none (t ∷ ts) h = rw (holds-passes t (h .0)) (fault-none ts (h .1))
 abbrev pub RefuseAt : (place : ℕ) → List Test → Type 0
 RefuseAt place ts = All (λ (t : Test). (1 ≤ refusalOf t .number) × (refusalOf t .place ≡ place)) ts
 
-pub fault-holds : (place : ℕ) (ts : List Test) → RefuseAt place ts → firstFault ts ≡ 0 → AllHold ts
+pub fault-holds : (place : ℕ) (ts : List Test) {fault : ℕ} → RefuseAt place ts → fault ≡ firstFault ts → fault ≡ 0 → AllHold ts
 unfolding firstFault
-fault-holds place [] a e = tt
-fault-holds place (t ∷ ts) a e = go (fault-holds place ts (a .1)) (passes t) refl e
+fault-holds place [] a e z = tt
+fault-holds place (t ∷ ts) {fault} a e z = go (λ e. fault-holds place ts (a .1) e z) (passes t) refl e
   where
-    go : (firstFault ts ≡ 0 → AllHold ts) → (b : Bool) → passes t ≡ b → cond b (firstFault ts) (refusalOf t .number) ≡ 0 → Holds t × AllHold ts
+    go : (fault ≡ firstFault ts → AllHold ts) → (b : Bool) → passes t ≡ b → fault ≡ cond b (firstFault ts) (refusalOf t .number) → Holds t × AllHold ts
     go rest true q e = (passes-holds t q, rest e)
     go rest false q e = absurd (omega (arith, a .0 .0))
 
-pub fault-refuses : {A : Type 0} (place : ℕ) (ts : List Test) (g : Got A) → RefuseAt place ts → (firstFault ts ≡ 0 → ⊥) → (checked ts >> g) ≡ refused (firstFault ts at place)
+pub fault-refuses : {A : Type 0} (place : ℕ) (ts : List Test) (g : Got A) {fault : ℕ} → RefuseAt place ts → fault ≡ firstFault ts → (fault ≡ 0 → ⊥)
+    → (checked ts >> g) ≡ refused (fault at place)
 unfolding firstFault
-fault-refuses place [] g a f = absurd (f refl)
-fault-refuses {A} place (t ∷ ts) g a f = go (fault-refuses place ts g (a .1)) (passes t) refl f
+fault-refuses place [] g a e f = absurd (f e)
+fault-refuses {A} place (t ∷ ts) g {fault} a e f = go (λ e. fault-refuses place ts g (a .1) e f) (passes t) refl e
   where
-    go : ((firstFault ts ≡ 0 → ⊥) → (checked ts >> g) ≡ refused (firstFault ts at place)) → (b : Bool) → passes t ≡ b
-        → (cond b (firstFault ts) (refusalOf t .number) ≡ 0 → ⊥) → (checked (t ∷ ts) >> g) ≡ refused (cond b (firstFault ts) (refusalOf t .number) at place)
-    go rest true q f = test-holds t ts g (passes-holds t q) ∙ rest f
-    go rest false q f = test-fails t ts g (λ h. no-true (sym q ∙ holds-passes t h)) ∙ ap {B = Got A} (λ (p : ℕ). refused (refusalOf t .number at p)) (a .0 .1)
+    go : (fault ≡ firstFault ts → (checked ts >> g) ≡ refused (fault at place)) → (b : Bool) → passes t ≡ b → fault ≡ cond b (firstFault ts) (refusalOf t .number)
+        → (checked (t ∷ ts) >> g) ≡ refused (fault at place)
+    go rest true q e = test-holds t ts g (passes-holds t q) ∙ rest e
+    go rest false q e = test-fails t ts g (λ h. no-true (sym q ∙ holds-passes t h)) ∙ ap₂ {C = Got A} (λ (n p : ℕ). refused (n at p)) (sym e) (a .0 .1)

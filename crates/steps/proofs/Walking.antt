@@ -1,32 +1,22 @@
--- Loops over `each` by places, and what a step's answer says of its reading. Assumes nothing.
+-- Loops over `each` by places. Assumes nothing.
 use Prim.Native.Nat.{ℕ, _+_, _-_, _≤_, _<_}
 use mathlib.Core.List.{List, [], _∷_, _++_}
-use mathlib.Core.Path.{_≡_, refl, sym, ap, _∙_}
+use mathlib.Core.Path.{_≡_, sym, ap, _∙_}
 use native.Mathlib.Omega.{arith}
 use lib.ListN.{length, drop, getD}
 use Rattle.xm.specs.Got.{Refusal, Got, got, refused}
 use Rattle.xm.specs.Format.{Format, eachRead}
 use Rattle.xm.proofs.Walk.{Left, left-start, left-on, left-out, left-end}
+use Rattle.refusal.specs.Fault.{stepFault, placeStep}
 use Rattle.refusal.specs.declared.Fault.{Fault}
-use Rattle.steps.specs.Step.{placeStep}
-use Rattle.steps.specs.declared.sample.PlaceStep.{PlaceStep}
-use Rattle.steps.specs.declared.sample.PlaceStep.the-variants.{Next, Refused}
+use Rattle.refusal.specs.declared.Step.{Step}
+use Rattle.refusal.specs.declared.Step.the-variants.{Next, Refused}
+use Rattle.refusal.proofs.Steps.{place-refused}
 
--- A next place comes of a reading that was accepted, and a refusal of one that was refused
-pub never-both : {A : Type 0} {next : ℕ} {f : Fault} → Next next ≡ Refused f → A
-never-both e = absurd (let z : _≡_ {A = ℕ} 0 1 = cc in omega arith)
-
-same-next : {a b : ℕ} → Next a ≡ Next b → a ≡ b
-same-next e = cc
-
-pub next-got : {A R : Type 0} (place : ℕ) (g : Got A) {next : ℕ} → Next next ≡ placeStep place g → ((a : A) (n : ℕ) → g ≡ got a n → next ≡ place + n → R) → R
-next-got place (got a n) e k = k a n refl (same-next e)
-next-got place (refused r) e k = never-both e
-
-pub refused-on : {A B : Type 0} (place from : ℕ) (g : Got A) (whole : Got B) {step : PlaceStep} {f : Fault} → step ≡ placeStep place g → step ≡ Refused f
+-- A step that is refused is the answer, if its reading's refusal is
+pub refused-on : {A B : Type 0} (place from : ℕ) (g : Got A) (whole : Got B) {step : Step} {f : Fault} → step ≡ placeStep place g → step ≡ Refused f
     → ((r : Refusal) → g ≡ refused r → whole ≡ refused r) → step ≡ placeStep from whole
-refused-on place from (got a n) whole e told k = never-both (sym e ∙ told)
-refused-on place from (refused r) whole e told k = e ∙ sym (ap (placeStep from) (k r refl))
+refused-on place from g whole e told k = told ∙ sym (ap (placeStep from) (k _ (place-refused place g e told (sym (ap stepFault told)))))
 
 -- Where a loop over `each` has come to: j parts are read, and what is told of them holds
 pub record Reached {H I A : Type 0} (F : Format H I A) (hs : List H) (file : List ℕ) (from : ℕ) (Told : List I → Type 0) (j place : ℕ) : Type 0 where

@@ -1,33 +1,36 @@
--- What each step answers: of a reading that was accepted, what the walk needs of it; of one that was refused, the refusal.
-use Prim.Native.Nat.{ℕ, _+_, _<_}
+-- What stands in front of each structure, and what its step answers: of a reading that was accepted, what the walk needs of it; of one that
+-- was refused, the refusal.
+use Prim.Native.Nat.{ℕ, zero, suc, _+_}
 use mathlib.Core.Bool.{cond}
 use mathlib.Core.List.{List}
-use mathlib.Core.Path.{_≡_}
 use lib.Dec.{eqb}
 use lib.ListN.{length}
-use Rattle.xm.specs.Number.{wordAt, longAt, part}
+use Rattle.xm.specs.Number.{part}
 use Rattle.xm.specs.Got.{Got, got, refused}
 use Rattle.xm.specs.Stored.{standardRows, writeStored}
-use Rattle.xm.specs.Header.{HeaderFound}
-use Rattle.xm.specs.PatternInFile.{PatternFound}
-use Rattle.xm.specs.Sample.{SamplesFound, sizeOfFirst, samplesFormat}
-use Rattle.xm.specs.Instrument.{leastInstrument, InstrumentFound, instrumentView, writeInstrument}
+use Rattle.xm.specs.Header.{channelsAt, patternsAt, instrumentsAt, headerEnd, HeaderFound}
+use Rattle.xm.specs.PatternInFile.{headSizeAt, rowsAt, dataSizeAt, PatternFound}
+use Rattle.xm.specs.Sample.{sizeOfFirst}
+use Rattle.xm.specs.Instrument.{instrumentSizeAt, countAt, headerSizeAt, InstrumentFound, instrumentView, writeInstrument}
 use Rattle.xm.specs.Table.{sampleCount}
-use Rattle.refusal.specs.Fault.{faultOf}
-use Rattle.refusal.specs.declared.Step.{Step}
-use Rattle.refusal.specs.declared.Step.the-variants as tried
+use Rattle.refusal.specs.Fault.{faultOf, noFault}
+use Rattle.refusal.specs.declared.Fault.{Fault}
 use Rattle.measure.specs.Measure.{sameBytes}
 use Rattle.measure.specs.declared.StoredStep.{StoredStep}
 use Rattle.measure.specs.declared.StoredStep.the-variants as stored
+use Rattle.steps.specs.declared.header.HeaderPart.{HeaderPart}
 use Rattle.steps.specs.declared.header.HeaderStep.{HeaderStep}
 use Rattle.steps.specs.declared.header.HeaderStep.the-variants as header
 use Rattle.steps.specs.declared.pattern.PatternHead.{PatternHead}
 use Rattle.steps.specs.declared.pattern.PatternStep.{PatternStep}
 use Rattle.steps.specs.declared.pattern.PatternStep.the-variants as pattern
-use Rattle.steps.specs.declared.sample.PlaceStep.{PlaceStep}
-use Rattle.steps.specs.declared.sample.PlaceStep.the-variants as sample
+use Rattle.steps.specs.declared.instrument.InstrumentHead.{InstrumentHead}
 use Rattle.steps.specs.declared.instrument.InstrumentStep.{InstrumentStep}
 use Rattle.steps.specs.declared.instrument.InstrumentStep.the-variants as instrument
+
+-- The header.
+abbrev pub headerPart : (file : List ℕ) → HeaderPart
+headerPart file = record { channels = channelsAt file; patterns = patternsAt file; instruments = instrumentsAt file; start = headerEnd file }
 
 abbrev pub headerStep : Got HeaderFound → HeaderStep
 headerStep (got i used) = header.Read (record {
@@ -38,11 +41,14 @@ headerStep (got i used) = header.Read (record {
 })
 headerStep (refused r) = header.Refused (faultOf r)
 
--- "With S = 0 the pattern is the standard empty one .. whatever row number stands there."
-abbrev pub rowsReadAs : (row size : ℕ) → ℕ
-rowsReadAs row size = cond (eqb size 0) standardRows row
+abbrev pub headerFault : HeaderStep → Fault
+headerFault (header.Read part) = noFault
+headerFault (header.Refused fault) = fault
 
--- A pattern at a place of the file.
+-- A pattern at a place of the file, by the bytes from there on.
+abbrev pub patternHead : (place : ℕ) → List ℕ → PatternHead
+patternHead place s = record { place = place + headSizeAt s; size = dataSizeAt s; rows = rowsAt s }
+
 abbrev pub patternStep : (file : List ℕ) (place : ℕ) → Got PatternFound → PatternStep
 patternStep file place (got i used) = pattern.Read (record {
   shortest = length (writeStored (i .content));
@@ -51,19 +57,30 @@ patternStep file place (got i used) = pattern.Read (record {
 })
 patternStep file place (refused r) = pattern.Refused (faultOf r)
 
--- What its header tells, in the bytes from its place on.
-pub record HeadOf (from : ℕ) (s : List ℕ) (head : PatternHead) : Type 0 where
-  pub place : head .place ≡ from + longAt 0 s
-  pub size : head .size ≡ wordAt 7 s
-  pub rows : head .rows ≡ wordAt 5 s
-  pub small : head .size < 65536
+abbrev pub patternFault : PatternStep → Fault
+patternFault (pattern.Read part) = noFault
+patternFault (pattern.Refused fault) = fault
 
--- A step that gives no more than the next place.
-abbrev pub placeStep : {A : Type 0} → (place : ℕ) → Got A → PlaceStep
-placeStep place (got a used) = sample.Next (place + used)
-placeStep place (refused r) = sample.Refused (faultOf r)
+-- "With S = 0 the pattern is the standard empty one .. whatever row number stands there."
+abbrev pub rowsReadAs : (row size : ℕ) → ℕ
+rowsReadAs row size = cond (eqb size 0) standardRows row
 
--- An instrument; and its samples, after fields of so many bytes that count so many of them.
+-- A fault of its stored cells; in a file its place is that of the cells and the place in them.
+abbrev pub storedFault : StoredStep → Fault
+storedFault (stored.Read size) = noFault
+storedFault (stored.Refused fault) = fault
+
+abbrev pub faultFrom : (base : ℕ) → Fault → Fault
+faultFrom base fault = record { number = fault .number; place = base + fault .place }
+
+-- An instrument; without samples it has no H.
+abbrev pub headSizeOf : (k : ℕ) → List ℕ → ℕ
+headSizeOf zero s = 0
+headSizeOf (suc k) s = headerSizeAt s
+
+abbrev pub instrumentHead : (place : ℕ) → List ℕ → InstrumentHead
+instrumentHead place s = record { samples = countAt s; heads = place + instrumentSizeAt s; «head_size» = headSizeOf (countAt s) s }
+
 abbrev pub instrumentStep : (place : ℕ) → Got InstrumentFound → InstrumentStep
 instrumentStep place (got i used) = instrument.Read (record {
   size = i .size;
@@ -74,33 +91,6 @@ instrumentStep place (got i used) = instrument.Read (record {
 })
 instrumentStep place (refused r) = instrument.Refused (faultOf r)
 
-abbrev pub tailStep : (place size count : ℕ) → Got SamplesFound → InstrumentStep
-tailStep place size count (got v used) = instrument.Read (record {
-  size = size;
-  samples = count;
-  «head_size» = sizeOfFirst (v .0);
-  pressed = leastInstrument count + length (samplesFormat .write (samplesFormat .view v));
-  next = place + used;
-})
-tailStep place size count (refused r) = instrument.Refused (faultOf r)
-
--- Refusals, passed on from one answer to the next: in a file the place is that of the stored cells and the place in them.
-abbrev pub storedFault : StoredStep → ℕ
-storedFault (stored.Read size) = 0
-storedFault (stored.Refused fault) = fault .place
-
-abbrev pub storedRefused : (base : ℕ) → StoredStep → PatternStep
-storedRefused base (stored.Read size) = pattern.Refused (record { number = 0; place = base })
-storedRefused base (stored.Refused fault) = pattern.Refused (record { number = fault .number; place = base + fault .place })
-
-abbrev pub rowsFault : Step → ℕ
-rowsFault (tried.Next next) = 0
-rowsFault (tried.Refused fault) = fault .place
-
-abbrev pub rowsRefused : (base : ℕ) → Step → PlaceStep
-rowsRefused base (tried.Next next) = sample.Next base
-rowsRefused base (tried.Refused fault) = sample.Refused (record { number = fault .number; place = base + fault .place })
-
-abbrev pub samplesRefused : PlaceStep → InstrumentStep
-samplesRefused (sample.Next place) = instrument.Refused (record { number = 0; place = place })
-samplesRefused (sample.Refused fault) = instrument.Refused fault
+abbrev pub instrumentFault : InstrumentStep → Fault
+instrumentFault (instrument.Read part) = noFault
+instrumentFault (instrument.Refused fault) = fault

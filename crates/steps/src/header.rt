@@ -1,13 +1,16 @@
 // The header step.
 use refusal::Fault;
+use refusal::no_fault;
 use slices::read::byte;
 use slices::read::long;
 use slices::read::word;
 ghost use mathlib.Core.Path.{_≡_};
-ghost use Rattle.xm.specs.Header.{readHeader, countTests, headerTests};
+ghost use Prim.Native.Nat.{_≤_};
+ghost use lib.ListN.{length};
+ghost use Rattle.xm.specs.Header.{ordersFrom, readHeader, countTests, headerTests};
 ghost use Rattle.xm.specs.Got.{allPass};
 ghost use Rattle.steps.specs.Test.{firstFault};
-ghost use Rattle.steps.specs.Step.{headerStep};
+ghost use Rattle.steps.specs.Step.{headerPart, headerStep, headerFault};
 
 // What the walk needs of a header: its counts, and where the first pattern starts.
 pub struct HeaderPart {
@@ -20,6 +23,29 @@ pub struct HeaderPart {
 pub enum HeaderStep {
     Read(HeaderPart),
     Refused(Fault),
+}
+
+// The header's refusal, to be passed on.
+pub fn fault_of_header(step: HeaderStep) -> Fault
+    ensures { λ r. ⌜ r ≡ headerFault step ⌝ }
+{
+    match step {
+        HeaderStep::Read(_) => no_fault(),
+        HeaderStep::Refused(fault) => fault,
+    }
+}
+
+// The counts and the start, where the first 80 bytes are present.
+pub fn header_part(file: &[u8]) -> HeaderPart
+    requires { ⌜ ordersFrom ≤ length (now file) ⌝ }
+    ensures { λ r. ⌜ r ≡ headerPart (now (file .entry)) ⌝ }
+{
+    HeaderPart {
+        channels: word(file, 0, 68),
+        patterns: word(file, 0, 70),
+        instruments: word(file, 0, 72),
+        start: long(file, 0, 60) + 60,
+    }
 }
 
 // Whether the counts are in their ranges.
@@ -65,18 +91,15 @@ fn header_fault(file: &[u8]) -> u32
     if version != 0x0104 {
         return 3;
     }
-    let size = long(file, 0, 60);
-    if size < 276 {
+    let part = header_part(file);
+    if part.start < 60 + 276 {
         return 4;
     }
     let song_length = word(file, 0, 64);
-    let patterns = word(file, 0, 70);
-    let channels = word(file, 0, 68);
-    let instruments = word(file, 0, 72);
-    if !counts_pass(song_length, patterns, channels, instruments) {
+    if !counts_pass(song_length, part.patterns, part.channels, part.instruments) {
         return 5;
     }
-    if file.len() < size + 60 {
+    if file.len() < part.start {
         return 1;
     }
     0
@@ -92,11 +115,5 @@ pub fn read_header(file: &[u8]) -> HeaderStep
             place: 0,
         });
     }
-    let size = long(file, 0, 60);
-    HeaderStep::Read(HeaderPart {
-        channels: word(file, 0, 68),
-        patterns: word(file, 0, 70),
-        instruments: word(file, 0, 72),
-        start: size + 60,
-    })
+    HeaderStep::Read(header_part(file))
 }

@@ -1,17 +1,19 @@
 // The instrument step: the tests in front, and behind its fields the samples.
-use crate::sample::PlaceStep;
 use crate::sample::read_samples;
 use refusal::Fault;
+use refusal::Step;
+use refusal::fault_of;
+use refusal::no_fault;
 use slices::read::long;
 use slices::read::word;
 ghost use mathlib.Core.Path.{_≡_};
-ghost use Prim.Native.Nat.{_+_, _*_, _≤_};
-ghost use lib.ListN.{length, drop, replicate};
-ghost use Rattle.xm.specs.Sample.{leastHead, samplesFormat};
-ghost use Rattle.xm.specs.Instrument.{samplesMost, instrumentTests, readInstrument};
+ghost use Prim.Native.Nat.{_≤_};
+ghost use lib.ListN.{length, drop};
+ghost use Rattle.xm.specs.Got.{AllHold};
+ghost use Rattle.xm.specs.Instrument.{leastInstrument, instrumentTests, readInstrument};
 ghost use Rattle.xm.specs.Module.{fileMost};
 ghost use Rattle.steps.specs.Test.{firstFault};
-ghost use Rattle.steps.specs.Step.{samplesRefused, tailStep, instrumentStep};
+ghost use Rattle.steps.specs.Step.{instrumentHead, instrumentStep, instrumentFault};
 
 // An instrument's I, k and H (0 if there are no samples), the bytes of its pressed form, and where the next one starts.
 pub struct InstrumentPart {
@@ -27,45 +29,21 @@ pub enum InstrumentStep {
     Refused(Fault),
 }
 
-// The samples' refusal, passed on.
-fn refused_samples(step: PlaceStep) -> InstrumentStep
-    ensures { λ r. ⌜ r ≡ samplesRefused step ⌝ }
-{
-    match step {
-        PlaceStep::Next(place) => InstrumentStep::Refused(Fault {
-            number: 0,
-            place: place,
-        }),
-        PlaceStep::Refused(fault) => InstrumentStep::Refused(fault),
-    }
+// What its fields tell: k, where its sample headers start, and H (0 if there are none).
+pub struct InstrumentHead {
+    pub samples: usize,
+    pub heads: usize,
+    pub head_size: usize,
 }
 
-// The samples of an instrument whose fields, of `size` bytes, passed their tests and end at `heads`.
-fn read_tail(
-    file: &[u8],
-    heads: usize,
-    size: usize,
-    count: usize,
-    head_size: usize,
-) -> InstrumentStep
-    requires { ⌜ heads + count * «head_size» ≤ length (now file) ⌝ }
-    requires { ⌜ leastHead ≤ «head_size» ⌝ }
-    requires { ⌜ (1 ≤ count) × (count ≤ samplesMost) ⌝ }
-    requires { ⌜ length (now file) ≤ fileMost ⌝ }
-    ensures { λ r. ⌜ r ≡ tailStep heads size count (samplesFormat .read (replicate count «head_size») heads (drop heads (now (file .entry)))) ⌝ }
+// An instrument's refusal, to be passed on.
+pub fn fault_of_instrument(step: InstrumentStep) -> Fault
+    ensures { λ r. ⌜ r ≡ instrumentFault step ⌝ }
 {
-    let step = read_samples(file, heads, head_size, count);
-    let PlaceStep::Next(next) = step else {
-        return refused_samples(step);
-    };
-    let data_size = next - (heads + count * head_size);
-    InstrumentStep::Read(InstrumentPart {
-        size: size,
-        samples: count,
-        head_size: head_size,
-        pressed: 263 + 40 * count + data_size,
-        next: next,
-    })
+    match step {
+        InstrumentStep::Read(_) => no_fault(),
+        InstrumentStep::Refused(fault) => fault,
+    }
 }
 
 // The number of the first fault in front, or 0: 29 bytes present (1); 10; I bytes present (1); and if k > 0: 11; all k headers
@@ -108,6 +86,34 @@ fn instrument_fault(file: &[u8], at: usize) -> u32
     0
 }
 
+// The fields of an instrument that passed.
+pub fn instrument_head(file: &[u8], at: usize) -> InstrumentHead
+    requires { ⌜ AllHold (instrumentTests at (drop at (now file))) ⌝ }
+    ensures { λ r. ⌜ r ≡ instrumentHead at (drop at (now (file .entry))) ⌝ }
+{
+    let heads = at + long(file, at, 0);
+    let samples = word(file, at, 27);
+    if samples == 0 {
+        return InstrumentHead {
+            samples: 0,
+            heads: heads,
+            head_size: 0,
+        };
+    }
+    InstrumentHead {
+        samples: samples,
+        heads: heads,
+        head_size: long(file, at, 29),
+    }
+}
+
+// The size of an instrument's fields in a pressed file.
+fn least_size(samples: usize) -> usize
+    ensures { λ r. ⌜ r ≡ leastInstrument samples ⌝ }
+{
+    if samples == 0 { 29 } else { 263 }
+}
+
 pub fn read_instrument(file: &[u8], at: usize) -> InstrumentStep
     requires { ⌜ at ≤ length (now file) ⌝ }
     requires { ⌜ length (now file) ≤ fileMost ⌝ }
@@ -120,17 +126,18 @@ pub fn read_instrument(file: &[u8], at: usize) -> InstrumentStep
             place: at,
         });
     }
-    let size = long(file, at, 0);
-    let count = word(file, at, 27);
-    if count == 0 {
-        return InstrumentStep::Read(InstrumentPart {
-            size: size,
-            samples: 0,
-            head_size: 0,
-            pressed: 29,
-            next: at + size,
-        });
-    }
-    let head_size = long(file, at, 29);
-    read_tail(file, at + size, size, count, head_size)
+    let head = instrument_head(file, at);
+    let count = head.samples;
+    let step = read_samples(file, head.heads, head.head_size, count);
+    let Step::Next(next) = step else {
+        return InstrumentStep::Refused(fault_of(step));
+    };
+    let data = head.heads + count * head.head_size;
+    InstrumentStep::Read(InstrumentPart {
+        size: head.heads - at,
+        samples: count,
+        head_size: head.head_size,
+        pressed: least_size(count) + 40 * count + (next - data),
+        next: next,
+    })
 }

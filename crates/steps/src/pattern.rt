@@ -1,19 +1,20 @@
 // The pattern step.
-use crate::sample::PlaceStep;
 use measure::StoredStep;
 use refusal::Fault;
 use refusal::Step;
+use refusal::fault_of;
+use refusal::no_fault;
 use slices::read::long;
 use slices::read::word;
 ghost use mathlib.Core.Path.{_≡_};
-ghost use Prim.Native.Nat.{_≤_};
+ghost use Prim.Native.Nat.{_+_, _≤_};
 ghost use lib.ListN.{length, drop};
-ghost use Rattle.xm.specs.PatternInFile.{patternTests, readPattern, dataMost};
+ghost use Rattle.xm.specs.PatternInFile.{leastPattern, patternTests, readPattern, dataMost};
 ghost use Rattle.xm.specs.Module.{fileMost};
-ghost use Rattle.xm.specs.Got.{AllHold};
+ghost use Rattle.refusal.specs.Fault.{placeStep};
 ghost use Rattle.steps.specs.Mark.{markBy};
 ghost use Rattle.steps.specs.Test.{firstFault};
-ghost use Rattle.steps.specs.Step.{storedFault, storedRefused, patternStep, rowsReadAs, HeadOf, rowsFault, rowsRefused, placeStep};
+ghost use Rattle.steps.specs.Step.{patternHead, patternStep, patternFault, storedFault, faultFrom, rowsReadAs};
 
 // A second pass writes the cells again, copies them as they stand, or writes nothing.
 pub const AGAIN: u8 = 0;
@@ -35,27 +36,53 @@ pub enum PatternStep {
 }
 
 // What its header tells: where its data stand, how many bytes, and the row number.
-struct PatternHead {
-    place: usize,
-    size: usize,
-    rows: usize,
+pub struct PatternHead {
+    pub place: usize,
+    pub size: usize,
+    pub rows: usize,
 }
 
-// A refusal of the stored cells, whose first byte stands at `base`, passed on.
-fn refused_stored(step: StoredStep, base: usize) -> PatternStep
-    requires { ⌜ base ≤ fileMost ⌝ }
-    requires { ⌜ storedFault step ≤ dataMost ⌝ }
-    ensures { λ r. ⌜ r ≡ storedRefused base step ⌝ }
+// A pattern's refusal, to be passed on.
+pub fn fault_of_pattern(step: PatternStep) -> Fault
+    ensures { λ r. ⌜ r ≡ patternFault step ⌝ }
 {
     match step {
-        StoredStep::Read(stored) => PatternStep::Refused(Fault {
-            number: 0,
-            place: base,
-        }),
-        StoredStep::Refused(fault) => PatternStep::Refused(Fault {
-            number: fault.number,
-            place: base + fault.place,
-        }),
+        PatternStep::Read(_) => no_fault(),
+        PatternStep::Refused(fault) => fault,
+    }
+}
+
+// A refusal of stored cells that were measured.
+fn fault_of_stored(step: StoredStep) -> Fault
+    ensures { λ r. ⌜ r ≡ storedFault step ⌝ }
+{
+    match step {
+        StoredStep::Read(_) => no_fault(),
+        StoredStep::Refused(fault) => fault,
+    }
+}
+
+// In a file the place is counted from its start, and `base` is that of the cells' first byte.
+fn fault_from(base: usize, fault: Fault) -> Fault
+    requires { ⌜ base ≤ fileMost ⌝ }
+    requires { ⌜ fault .place ≤ dataMost ⌝ }
+    ensures { λ r. ⌜ r ≡ faultFrom base fault ⌝ }
+{
+    Fault {
+        number: fault.number,
+        place: base + fault.place,
+    }
+}
+
+// The header, where its 9 bytes are present.
+pub fn pattern_head(file: &[u8], at: usize) -> PatternHead
+    requires { ⌜ at + leastPattern ≤ length (now file) ⌝ }
+    ensures { λ r. ⌜ r ≡ patternHead at (drop at (now (file .entry))) ⌝ }
+{
+    PatternHead {
+        place: at + long(file, at, 0),
+        size: word(file, at, 7),
+        rows: word(file, at, 5),
     }
 }
 
@@ -64,39 +91,23 @@ fn pattern_fault(file: &[u8], at: usize) -> u32
     requires { ⌜ at ≤ length (now file) ⌝ }
     ensures { λ r. ⌜ r ≡ firstFault (patternTests at (drop at (now (file .entry)))) ⌝ }
 {
-    let left = file.len() - at;
-    if left < 9 {
+    if file.len() - at < 9 {
         return 1;
     }
-    let head_size = long(file, at, 0);
-    if head_size < 9 {
+    let head = pattern_head(file, at);
+    if head.place < at + 9 {
         return 6;
     }
-    let rows = word(file, at, 5);
-    if rows < 1 {
+    if head.rows < 1 {
         return 6;
     }
-    if 256 < rows {
+    if 256 < head.rows {
         return 6;
     }
-    let size = word(file, at, 7);
-    if left < head_size + size {
+    if file.len() < head.place + head.size {
         return 1;
     }
     0
-}
-
-// The header of a pattern that passed.
-fn pattern_head(file: &[u8], at: usize) -> PatternHead
-    requires { ⌜ length (now file) ≤ fileMost ⌝ }
-    requires { ⌜ AllHold (patternTests at (drop at (now file))) ⌝ }
-    ensures { λ r. ⌜ HeadOf at (drop at (now (file .entry))) r ⌝ }
-{
-    PatternHead {
-        place: at + long(file, at, 0),
-        size: word(file, at, 7),
-        rows: word(file, at, 5),
-    }
 }
 
 pub fn read_pattern(file: &[u8], at: usize, channels: usize) -> PatternStep
@@ -117,7 +128,7 @@ pub fn read_pattern(file: &[u8], at: usize, channels: usize) -> PatternStep
     let next = place + head.size;
     let step = measure::read_stored(&file[place..next], head.rows, channels);
     let StoredStep::Read(stored) = step else {
-        return refused_stored(step, place);
+        return PatternStep::Refused(fault_from(place, fault_of_stored(step)));
     };
     PatternStep::Read(PatternPart {
         shortest: stored.shortest,
@@ -126,23 +137,8 @@ pub fn read_pattern(file: &[u8], at: usize, channels: usize) -> PatternStep
     })
 }
 
-// The same where the pattern is only tried.
-fn refused_rows(step: Step, base: usize) -> PlaceStep
-    requires { ⌜ base ≤ fileMost ⌝ }
-    requires { ⌜ rowsFault step ≤ dataMost ⌝ }
-    ensures { λ r. ⌜ r ≡ rowsRefused base step ⌝ }
-{
-    match step {
-        Step::Next(rows) => PlaceStep::Next(base),
-        Step::Refused(fault) => PlaceStep::Refused(Fault {
-            number: fault.number,
-            place: base + fault.place,
-        }),
-    }
-}
-
 // A pattern that is only tried: where the next structure starts.
-pub fn scan_pattern(file: &[u8], at: usize, channels: usize) -> PlaceStep
+pub fn scan_pattern(file: &[u8], at: usize, channels: usize) -> Step
     requires { ⌜ at ≤ length (now file) ⌝ }
     requires { ⌜ length (now file) ≤ fileMost ⌝ }
     requires { ⌜ (1 ≤ channels) × (channels ≤ 64) ⌝ }
@@ -150,7 +146,7 @@ pub fn scan_pattern(file: &[u8], at: usize, channels: usize) -> PlaceStep
 {
     let fault = pattern_fault(file, at);
     if fault != 0 {
-        return PlaceStep::Refused(Fault {
+        return Step::Refused(Fault {
             number: fault,
             place: at,
         });
@@ -160,9 +156,9 @@ pub fn scan_pattern(file: &[u8], at: usize, channels: usize) -> PlaceStep
     let next = place + head.size;
     let step = scan::scan_stored(&file[place..next], head.rows, channels);
     let Step::Next(_) = step else {
-        return refused_rows(step, place);
+        return Step::Refused(fault_from(place, fault_of(step)));
     };
-    PlaceStep::Next(next)
+    Step::Next(next)
 }
 
 // The rows that a pattern reads as, by the row number in its header and S.

@@ -1,5 +1,6 @@
 // Sample headers and sample data. Data are never read, only stepped over.
 use refusal::Fault;
+use refusal::Step;
 use slices::read::byte;
 use slices::read::long;
 use slices::read::signed_byte;
@@ -9,9 +10,9 @@ ghost use lib.ListN.{length, drop, replicate};
 ghost use Rattle.xm.specs.Got.{passes};
 ghost use Rattle.xm.specs.Format.{each};
 ghost use Rattle.xm.specs.Sample.{leastHead, headBytes, readHead, readData, headFormat, dataFormat, samplesFormat};
+ghost use Rattle.refusal.specs.Fault.{placeStep};
 ghost use Rattle.steps.specs.Test.{firstFault};
 ghost use Rattle.steps.specs.Sample.{HeadAt, wideTest, loopTest, headTestsOf, headsFrom};
-ghost use Rattle.steps.specs.Step.{placeStep};
 
 // The fields of a sample header that the walk and the tables use.
 pub struct SampleHead {
@@ -22,11 +23,6 @@ pub struct SampleHead {
     pub form: usize,
     pub relative_note: i8,
     pub kind: usize,
-}
-
-pub enum PlaceStep {
-    Next(usize),
-    Refused(Fault),
 }
 
 pub fn sample_head(file: &[u8], at: usize, size: usize) -> SampleHead
@@ -95,7 +91,7 @@ fn head_fault(head: SampleHead) -> u32
     0
 }
 
-fn read_head(file: &[u8], at: usize, size: usize) -> PlaceStep
+fn read_head(file: &[u8], at: usize, size: usize) -> Step
     requires { ⌜ at + size ≤ length (now file) ⌝ }
     requires { ⌜ leastHead ≤ size ⌝ }
     ensures { λ r. ⌜ r ≡ placeStep at (readHead size at (drop at (now (file .entry)))) ⌝ }
@@ -103,16 +99,16 @@ fn read_head(file: &[u8], at: usize, size: usize) -> PlaceStep
     let head = sample_head(file, at, size);
     let fault = head_fault(head);
     if fault != 0 {
-        return PlaceStep::Refused(Fault {
+        return Step::Refused(Fault {
             number: fault,
             place: at,
         });
     }
-    PlaceStep::Next(at + size)
+    Step::Next(at + size)
 }
 
 // The data of the sample whose header stands at `head`.
-fn read_data(file: &[u8], head: usize, size: usize, at: usize) -> PlaceStep
+fn read_data(file: &[u8], head: usize, size: usize, at: usize) -> Step
     requires { ⌜ head + leastHead ≤ length (now file) ⌝ }
     requires { ⌜ at ≤ length (now file) ⌝ }
     ensures { λ r. ⌜ r ≡ placeStep at (readData (headBytes size (drop head (now (file .entry)))) at (drop at (now (file .entry)))) ⌝ }
@@ -120,37 +116,37 @@ fn read_data(file: &[u8], head: usize, size: usize, at: usize) -> PlaceStep
     let sample = sample_head(file, head, size);
     let data_size = sample.length;
     if file.len() - at < data_size {
-        return PlaceStep::Refused(Fault {
+        return Step::Refused(Fault {
             number: 1,
             place: at,
         });
     }
-    PlaceStep::Next(at + data_size)
+    Step::Next(at + data_size)
 }
 
 // All `count` headers, each of `size` bytes.
-fn read_heads(file: &[u8], at: usize, size: usize, count: usize) -> PlaceStep
+fn read_heads(file: &[u8], at: usize, size: usize, count: usize) -> Step
     requires { ⌜ at + count * size ≤ length (now file) ⌝ }
-    requires { ⌜ leastHead ≤ size ⌝ }
+    requires { ⌜ (0 < count → leastHead ≤ size) ⌝ }
     ensures { λ r. ⌜ r ≡ placeStep at (each headFormat .read (replicate count size) at (drop at (now (file .entry)))) ⌝ }
 {
     let mut place = at;
     let mut read = 0;
     while read < count {
         let step = read_head(file, place, size);
-        let PlaceStep::Next(next) = step else {
+        let Step::Next(next) = step else {
             return step;
         };
         place = next;
         read += 1;
     }
-    PlaceStep::Next(place)
+    Step::Next(place)
 }
 
 // The data of the `count` samples whose headers stand from `heads` on.
-fn read_all_data(file: &[u8], heads: usize, size: usize, count: usize, at: usize) -> PlaceStep
+fn read_all_data(file: &[u8], heads: usize, size: usize, count: usize, at: usize) -> Step
     requires { ⌜ heads + count * size ≤ length (now file) ⌝ }
-    requires { ⌜ leastHead ≤ size ⌝ }
+    requires { ⌜ (0 < count → leastHead ≤ size) ⌝ }
     requires { ⌜ at ≤ length (now file) ⌝ }
     ensures { λ r. ⌜ r ≡ placeStep at (each dataFormat .read (headsFrom count size (drop heads (now (file .entry)))) at (drop at (now (file .entry)))) ⌝ }
 {
@@ -159,24 +155,24 @@ fn read_all_data(file: &[u8], heads: usize, size: usize, count: usize, at: usize
     let mut done = 0;
     while done < count {
         let step = read_data(file, head, size, place);
-        let PlaceStep::Next(next) = step else {
+        let Step::Next(next) = step else {
             return step;
         };
         place = next;
         head += size;
         done += 1;
     }
-    PlaceStep::Next(place)
+    Step::Next(place)
 }
 
 // All headers, and then the data of each.
-pub fn read_samples(file: &[u8], at: usize, size: usize, count: usize) -> PlaceStep
+pub fn read_samples(file: &[u8], at: usize, size: usize, count: usize) -> Step
     requires { ⌜ at + count * size ≤ length (now file) ⌝ }
-    requires { ⌜ leastHead ≤ size ⌝ }
+    requires { ⌜ (0 < count → leastHead ≤ size) ⌝ }
     ensures { λ r. ⌜ r ≡ placeStep at (samplesFormat .read (replicate count size) at (drop at (now (file .entry)))) ⌝ }
 {
     let step = read_heads(file, at, size, count);
-    let PlaceStep::Next(body) = step else {
+    let Step::Next(body) = step else {
         return step;
     };
     read_all_data(file, at, size, count, body)

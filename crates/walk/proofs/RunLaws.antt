@@ -1,40 +1,43 @@
 -- Laws of the loops over patterns and instruments. Assumes nothing.
-use Prim.Native.Nat.{ℕ, suc, _+_, _*_, _≤_, _<_}
-use mathlib.Core.List.{List, [], _∷_, _++_, map}
+use Prim.Native.Nat.{ℕ, _+_, _-_, _*_, _≤_, _<_}
+use mathlib.Core.List.{List, [], _∷_, _++_}
 use mathlib.Core.Path.{_≡_, refl, sym, ap, _∙_, subst}
 use native.Mathlib.Omega.{arith}
 use lib.ListN.{length, drop, set, replicate, length-append, length-drop, length-map, length-replicate, getD-replicate}
 use Rattle.xm.specs.Number.{Bytes, part}
-use Rattle.xm.specs.Got.{Refusal, Got, got, refused}
+use Rattle.xm.specs.Got.{Got, got, refused}
 use Rattle.xm.specs.Format.{Format, each, joined}
 use Rattle.xm.specs.Stored.{writeStored}
 use Rattle.xm.specs.PatternInFile.{PatternFound, readPattern, patternFormat}
 use Rattle.xm.specs.Sample.{Stretch}
 use Rattle.xm.specs.Instrument.{InstrumentFound, readInstrument, instrumentView, writeInstrument, instrumentFormat}
-use Rattle.xm.specs.Table.{sampleCount, sampleRowsOf, sampleRowsIn}
+use Rattle.xm.specs.Table.{sampleCount, sampleRowsIn}
 use Rattle.xm.proofs.Number.{bytes-drop}
-use Rattle.xm.proofs.Got.{got-carry}
+use Rattle.xm.proofs.Got.{no-true, got-carry}
 use Rattle.xm.proofs.Format.{joined-append}
 use Rattle.xm.proofs.PatternInFile.{pattern-size, pattern-keeps}
-use Rattle.xm.proofs.Sample.{Sized}
 use Rattle.xm.proofs.Instrument.{instrument-keeps, instrument-tells}
+use Rattle.xm.proofs.Accepted.{rows-length}
+use Rattle.refusal.specs.Fault.{placeStep}
 use Rattle.refusal.specs.declared.Fault.{Fault}
+use Rattle.refusal.specs.declared.Step.{Step}
+use Rattle.refusal.specs.declared.Step.the-variants.{Next, Refused}
+use Rattle.refusal.proofs.Steps.{next-got}
 use Rattle.measure.specs.Measure.{sameBytes}
 use Rattle.steps.specs.Mark.{markBy, Marks}
-use Rattle.steps.specs.Step.{patternStep, placeStep, instrumentStep}
-use Rattle.walk.specs.File.{patternsStep, instrumentsStep, patternRefused, instrumentRefused}
+use Rattle.steps.specs.Step.{patternStep, patternFault, instrumentStep, instrumentFault}
 use Rattle.steps.specs.declared.pattern.PatternPart.{PatternPart}
 use Rattle.steps.specs.declared.pattern.PatternStep.{PatternStep}
 use Rattle.steps.specs.declared.pattern.PatternStep.the-variants as pattern
-use Rattle.steps.specs.declared.sample.PlaceStep.{PlaceStep}
-use Rattle.steps.specs.declared.sample.PlaceStep.the-variants as sample
 use Rattle.steps.specs.declared.instrument.InstrumentPart.{InstrumentPart}
 use Rattle.steps.specs.declared.instrument.InstrumentStep.{InstrumentStep}
 use Rattle.steps.specs.declared.instrument.InstrumentStep.the-variants as instrument
-use Rattle.walk.specs.declared.RunStep.{RunStep}
+use Rattle.walk.specs.File.{patternsStep, instrumentsStep}
 use Rattle.walk.specs.declared.RunStep.the-variants as run
+use Rattle.steps.proofs.PatternLaws.{pattern-refused}
+use Rattle.steps.proofs.InstrumentLaws.{instrument-refused}
 use Rattle.steps.proofs.MarkLaws.{mark-told, marks-more}
-use Rattle.steps.proofs.Walking.{next-got, refused-on, Reached, reached-start, reached-on, reached-out, reached-end, reached-place}
+use Rattle.steps.proofs.Walking.{refused-on, Reached, reached-start, reached-on, reached-out, reached-end, reached-place}
 
 -- One more is written behind what is written
 written-more : {H I A : Type 0} (F : Format H I A) (done : List I) (i : I)
@@ -42,28 +45,17 @@ written-more : {H I A : Type 0} (F : Format H I A) (done : List I) (i : I)
 written-more F [] i = rw length-append (omega arith)
 written-more F (x ∷ done) i = rw (length-append, length-append, written-more F done i) (omega arith)
 
-run-path : {next next′ samples samples′ pressed pressed′ : ℕ} → next ≡ next′ → samples ≡ samples′ → pressed ≡ pressed′
-    → _≡_ {A = RunStep} (run.Read (record { next = next; samples = samples; pressed = pressed })) (run.Read (record { next = next′; samples = samples′; pressed = pressed′ }))
-run-path p q r = cc
-
--- A pattern that was read, and one that was refused
-never-pattern : {A : Type 0} {part : PatternPart} {f : Fault} → pattern.Read part ≡ pattern.Refused f → A
-never-pattern e = absurd (let z : _≡_ {A = ℕ} 0 1 = cc in omega arith)
-
-same-pattern : {a b : PatternPart} → pattern.Read a ≡ pattern.Read b → a ≡ b
-same-pattern e = cc
-
+-- What a step that was accepted says of its reading
 pattern-got : {R : Type 0} (file : List ℕ) (place : ℕ) (g : Got PatternFound) {piece : PatternPart} → pattern.Read piece ≡ patternStep file place g
     → ((i : PatternFound) (n : ℕ) → g ≡ got i n → piece .next ≡ place + n → piece .shortest ≡ length (writeStored (i .content))
     → piece .same ≡ sameBytes (part (i .dataPlace) (i .dataSize) file) (writeStored (i .content)) → R) → R
-pattern-got file place (got i n) e k =
-    let z = same-pattern e in k i n refl (ap PatternPart.next z) (ap PatternPart.shortest z) (ap PatternPart.same z)
-pattern-got file place (refused r) e k = never-pattern e
+pattern-got file place (got i n) e k = k i n refl (cc) (cc) (cc)
+pattern-got file place (refused r) e k = absurd (no-true (cc))
 
-pattern-on : (file : List ℕ) (place start : ℕ) (g : Got PatternFound) (whole : Got (List PatternFound)) {step : PatternStep} {f : Fault} → step ≡ patternStep file place g → step ≡ pattern.Refused f
-    → ((r : Refusal) → g ≡ refused r → whole ≡ refused r) → patternRefused step ≡ patternsStep start whole
-pattern-on file place start (got i n) whole e told k = never-pattern (sym e ∙ told)
-pattern-on file place start (refused r) whole e told k = ap patternRefused e ∙ sym (ap (patternsStep start) (k r refl))
+instrument-got : {R : Type 0} (place : ℕ) (g : Got InstrumentFound) {part : InstrumentPart} → instrument.Read part ≡ instrumentStep place g
+    → ((i : InstrumentFound) (n : ℕ) → g ≡ got i n → part .next ≡ place + n → part .samples ≡ sampleCount i → part .pressed ≡ length (writeInstrument (instrumentView i)) → R) → R
+instrument-got place (got i n) e k = k i n refl (cc) (cc) (cc)
+instrument-got place (refused r) e k = absurd (no-true (cc))
 
 -- The loop over the patterns: what is told of those read is the length of their pressed forms, and their marks
 pub record PatternsTold (file : List ℕ) (pressed : ℕ) (marks : List ℕ) (done : List PatternFound) : Type 0 where
@@ -86,26 +78,22 @@ module _ (file : List ℕ) (start channels count : ℕ) where
     short = omega arith;
   }
 
-  -- A refusal leaves nothing to mark
-  pub patterns-unmarked : (marks : List ℕ) {answer : RunStep} {f : Fault} → answer ≡ patternsStep start patterns → answer ≡ run.Refused f
-      → (is : List PatternFound) (n : ℕ) → patterns ≡ got is n → Marks file is marks
-  patterns-unmarked marks e told is n q = absurd (let z : _≡_ {A = ℕ} 0 1 = cc (ap (patternsStep start) q) in omega arith)
-
   module _ {j place pressed : ℕ} {marks : List ℕ} (w : PatternsRead file start channels count j place pressed marks) where
-    pub patterns-end : count ≤ j → run.Read (record { next = place; samples = 0; pressed = pressed }) ≡ patternsStep start patterns
+    pub patterns-end : count ≤ j → (run.Read (record { next = place; samples = 0; pressed = pressed }) ≡ patternsStep start patterns)
+        × ((is : List PatternFound) (n : ℕ) → patterns ≡ got is n → Marks file is marks)
     patterns-end h =
-        run-path (omega (arith, w .reached .left .from)) refl (w .reached .told .written)
-        ∙ sym (ap (patternsStep start) (reached-end patternFormat _ file start (w .reached) (rw length-replicate h)))
-
-    pub patterns-marked : count ≤ j → (is : List PatternFound) (n : ℕ) → patterns ≡ got is n → Marks file is marks
-    patterns-marked h is n q =
-        got-carry (λ (r : List PatternFound) (u : ℕ). Marks file r marks) (sym (reached-end patternFormat _ file start (w .reached) (rw length-replicate h)) ∙ q) (w .reached .told .marked)
+        let e = reached-end patternFormat _ file start (w .reached) (rw length-replicate h) in
+        let on : place ≡ start + (place - start) = omega (arith, w .reached .left .from) in
+        (cc (e, w .reached .told .written), λ is n q. got-carry (λ (r : List PatternFound) (u : ℕ). Marks file r marks) (sym e ∙ q) (w .reached .told .marked))
 
     module _ (h : j < count) where
-      pub patterns-out : {step : PatternStep} {f : Fault} → step ≡ patternStep file place (readPattern channels place (drop place file)) → step ≡ pattern.Refused f
-          → patternRefused step ≡ patternsStep start patterns
-      patterns-out e told = pattern-on file place start _ _ e told λ r er.
-          reached-out patternFormat _ file start (w .reached) channels (rw length-replicate h) (getD-replicate count j channels channels h) er
+      -- A refusal leaves nothing to mark
+      pub patterns-out : {step : PatternStep} {f r : Fault} → step ≡ patternStep file place (readPattern channels place (drop place file)) → step ≡ pattern.Refused f → r ≡ patternFault step
+          → (run.Refused r ≡ patternsStep start patterns) × ((is : List PatternFound) (n : ℕ) → patterns ≡ got is n → Marks file is marks)
+      patterns-out e told passed =
+          let out =
+          reached-out patternFormat _ file start (w .reached) channels (rw length-replicate h) (getD-replicate count j channels channels h) (pattern-refused file place _ e told passed) in
+          (sym (ap (patternsStep start) out), λ is n q. absurd (no-true (cc)))
 
       module _ (b : Bytes file) (c : 1 ≤ channels) {part : PatternPart} (e : pattern.Read part ≡ patternStep file place (readPattern channels place (drop place file))) where
         pub patterns-on : {mark : ℕ} → mark ≡ markBy (part .shortest) (part .same) → j < length marks
@@ -138,46 +126,22 @@ module _ (file : List ℕ) (start channels count : ℕ) where
   tried-start l = record { reached = reached-start patternFormat _ file start (λ done. Unit {0}) tt; inside = l }
 
   module _ {j place : ℕ} (w : PatternsTried file start channels count j place) where
-    pub tried-end : count ≤ j → sample.Next place ≡ placeStep start (each patternFormat .read (replicate count channels) start (drop start file))
+    pub tried-end : count ≤ j → Next place ≡ placeStep start (each patternFormat .read (replicate count channels) start (drop start file))
     tried-end h = reached-place patternFormat _ file start (w .reached) (rw length-replicate h)
 
     module _ (h : j < count) where
-      pub tried-out : {step : PlaceStep} {f : Fault} → step ≡ placeStep place (readPattern channels place (drop place file)) → step ≡ sample.Refused f
+      pub tried-out : {step : Step} {f : Fault} → step ≡ placeStep place (readPattern channels place (drop place file)) → step ≡ Refused f
           → step ≡ placeStep start (each patternFormat .read (replicate count channels) start (drop start file))
       tried-out e told = refused-on place start _ _ e told λ r er.
           reached-out patternFormat _ file start (w .reached) channels (rw length-replicate h) (getD-replicate count j channels channels h) er
 
-      pub tried-on : Bytes file → 1 ≤ channels → {next : ℕ} → sample.Next next ≡ placeStep place (readPattern channels place (drop place file)) → PatternsTried file start channels count (j + 1) next
+      pub tried-on : Bytes file → 1 ≤ channels → {next : ℕ} → Next next ≡ placeStep place (readPattern channels place (drop place file)) → PatternsTried file start channels count (j + 1) next
       tried-on b c e = next-got place _ e λ i n ei q.
           let k = pattern-keeps channels c .keeps place (drop place file) i n (bytes-drop place b) ei in
           record {
             reached = reached-on patternFormat _ file start (w .reached) channels (rw length-replicate h) (getD-replicate count j channels channels h) (λ done. Unit {0}) ei q (λ t. tt);
             inside = omega (arith, w .inside, k .inside, length-drop place file);
           }
-
--- An instrument that was read, and one that was refused
-never-instrument : {A : Type 0} {part : InstrumentPart} {f : Fault} → instrument.Read part ≡ instrument.Refused f → A
-never-instrument e = absurd (let z : _≡_ {A = ℕ} 0 1 = cc in omega arith)
-
-same-instrument : {a b : InstrumentPart} → instrument.Read a ≡ instrument.Read b → a ≡ b
-same-instrument e = cc
-
-instrument-got : {R : Type 0} (place : ℕ) (g : Got InstrumentFound) {part : InstrumentPart} → instrument.Read part ≡ instrumentStep place g
-    → ((i : InstrumentFound) (n : ℕ) → g ≡ got i n → part .next ≡ place + n → part .samples ≡ sampleCount i → part .pressed ≡ length (writeInstrument (instrumentView i)) → R) → R
-instrument-got place (got i n) e k =
-    let z = same-instrument e in k i n refl (ap InstrumentPart.next z) (ap InstrumentPart.samples z) (ap InstrumentPart.pressed z)
-instrument-got place (refused r) e k = never-instrument e
-
-instrument-on : (place start : ℕ) (g : Got InstrumentFound) (whole : Got (List InstrumentFound)) {step : InstrumentStep} {f : Fault} → step ≡ instrumentStep place g → step ≡ instrument.Refused f
-    → ((r : Refusal) → g ≡ refused r → whole ≡ refused r) → instrumentRefused step ≡ instrumentsStep start whole
-instrument-on place start (got i n) whole e told k = never-instrument (sym e ∙ told)
-instrument-on place start (refused r) whole e told k = ap instrumentRefused e ∙ sym (ap (instrumentsStep start) (k r refl))
-
--- Its sample rows are as many as its samples
-rows-counted : (heads bytes : List Stretch) → Sized (map Stretch.bytes heads) bytes → length (sampleRowsOf heads bytes) ≡ length heads
-rows-counted [] bytes z = refl
-rows-counted (h ∷ hs) [] z = absurd z
-rows-counted (h ∷ hs) (b ∷ bs) z = ap suc (rows-counted hs bs (z .1))
 
 -- The loop over the instruments
 pub record InstrumentsTold (samples pressed : ℕ) (done : List InstrumentFound) : Type 0 where
@@ -203,21 +167,22 @@ module _ (file : List ℕ) (start count : ℕ) where
     pub instruments-end : count ≤ j
         → run.Read (record { next = place; samples = samples; pressed = pressed }) ≡ instrumentsStep start (each instrumentFormat .read (replicate count tt) start (drop start file))
     instruments-end h =
-        run-path (omega (arith, w .reached .left .from)) (w .reached .told .counted) (w .reached .told .written)
-        ∙ sym (ap (instrumentsStep start) (reached-end instrumentFormat _ file start (w .reached) (rw length-replicate h)))
+        let on : place ≡ start + (place - start) = omega (arith, w .reached .left .from) in
+        cc (reached-end instrumentFormat _ file start (w .reached) (rw length-replicate h), w .reached .told .counted, w .reached .told .written)
 
     module _ (h : j < count) where
-      pub instruments-out : {step : InstrumentStep} {f : Fault} → step ≡ instrumentStep place (readInstrument place (drop place file)) → step ≡ instrument.Refused f
-          → instrumentRefused step ≡ instrumentsStep start (each instrumentFormat .read (replicate count tt) start (drop start file))
-      instruments-out e told = instrument-on place start _ _ e told λ r er.
-          reached-out instrumentFormat _ file start (w .reached) tt (rw length-replicate h) (getD-replicate count j tt tt h) er
+      pub instruments-out : {step : InstrumentStep} {f r : Fault} → step ≡ instrumentStep place (readInstrument place (drop place file)) → step ≡ instrument.Refused f → r ≡ instrumentFault step
+          → run.Refused r ≡ instrumentsStep start (each instrumentFormat .read (replicate count tt) start (drop start file))
+      instruments-out e told passed =
+          sym
+          (ap (instrumentsStep start) (reached-out instrumentFormat _ file start (w .reached) tt (rw length-replicate h) (getD-replicate count j tt tt h) (instrument-refused place _ e told passed)))
 
       pub instruments-on : Bytes file → {part : InstrumentPart} → instrument.Read part ≡ instrumentStep place (readInstrument place (drop place file))
           → InstrumentsRead file start count (j + 1) (part .next) (samples + part .samples) (pressed + part .pressed)
       instruments-on b e = instrument-got place _ e λ i n ei q c z.
           let k = instrument-keeps .keeps place (drop place file) i n (bytes-drop place b) ei in
           let heads = length-map (i .samples .0) Stretch.bytes in
-          let rows = rows-counted (i .samples .0) (i .samples .1) (instrument-tells .tells place file i n b ei .sizes) in
+          let rows = rows-length (i .samples .0) (i .samples .1) (instrument-tells .tells place file i n b ei .sizes) in
           record {
             reached =
                 reached-on instrumentFormat _ file start (w .reached) tt (rw length-replicate h) (getD-replicate count j tt tt h) (InstrumentsTold _ _) ei q

@@ -1,55 +1,53 @@
 // The walk over a file: header, patterns and instruments, one step after the other; and the check.
 use refusal::Fault;
+use refusal::Step;
+use refusal::fault_of;
+use refusal::no_fault;
 use steps::header::HeaderStep;
+use steps::header::fault_of_header;
 use steps::header::read_header;
 use steps::instrument::InstrumentStep;
+use steps::instrument::fault_of_instrument;
 use steps::instrument::read_instrument;
 use steps::pattern::PatternStep;
+use steps::pattern::fault_of_pattern;
 use steps::pattern::mark_of;
 use steps::pattern::read_pattern;
 use steps::pattern::scan_pattern;
-use steps::sample::PlaceStep;
 ghost use mathlib.Core.Path.{_≡_};
 ghost use Prim.Native.Nat.{ℕ, _≤_};
 ghost use mathlib.Core.List.{List};
 ghost use lib.ListN.{length, drop, replicate};
 ghost use Rattle.xm.specs.Got.{got};
 ghost use Rattle.xm.specs.Format.{each};
+ghost use Rattle.xm.specs.Header.{headerFormat};
 ghost use Rattle.xm.specs.PatternInFile.{PatternFound, patternFormat};
 ghost use Rattle.xm.specs.Instrument.{instrumentFormat};
-ghost use Rattle.xm.specs.Module.{Found, fileMost, readFile};
+ghost use Rattle.xm.specs.Module.{Found, fileMost, readWhole, readFile};
 ghost use Rattle.xm.specs.Table.{checking};
+ghost use Rattle.refusal.specs.Fault.{placeStep};
 ghost use Rattle.steps.specs.Mark.{Marks};
-ghost use Rattle.steps.specs.Step.{placeStep};
-ghost use Rattle.walk.specs.File.{patternsStep, instrumentsStep, walkStep, verdictOf, patternRefused, instrumentRefused, headerRefused, placeRefused, runRefused, walkRefused};
+ghost use Rattle.steps.specs.Step.{headerStep};
+ghost use Rattle.walk.specs.File.{patternsStep, instrumentsStep, runFault, walkStep, walkFault, verdictOf};
 
 // "A file is at most 16,777,216 bytes"
 const FILE_MOST: usize = 16777216;
 
 // Structures in a row: where they end, how many samples they have, and the bytes of their pressed forms.
-pub struct Run {
-    pub next: usize,
-    pub samples: usize,
-    pub pressed: usize,
+struct Run {
+    next: usize,
+    samples: usize,
+    pressed: usize,
 }
 
-pub enum RunStep {
+enum RunStep {
     Read(Run),
     Refused(Fault),
 }
 
-// An accepted file: what a check reports of it, and the length of its pressed form.
-pub struct Summary {
-    pub end: usize,
-    pub channels: usize,
-    pub patterns: usize,
-    pub instruments: usize,
-    pub samples: usize,
-    pub pressed: usize,
-}
-
+// The length of an accepted file's pressed form.
 pub enum WalkStep {
-    Accepted(Summary),
+    Accepted(usize),
     Refused(Fault),
 }
 
@@ -67,16 +65,23 @@ pub enum Verdict {
     Refused(Fault),
 }
 
-// A pattern's refusal, passed on.
-fn refused_pattern(step: PatternStep) -> RunStep
-    ensures { λ r. ⌜ r ≡ patternRefused step ⌝ }
+// The refusal of structures in a row, to be passed on.
+fn fault_of_run(step: RunStep) -> Fault
+    ensures { λ r. ⌜ r ≡ runFault step ⌝ }
 {
     match step {
-        PatternStep::Read(part) => RunStep::Refused(Fault {
-            number: 0,
-            place: part.next,
-        }),
-        PatternStep::Refused(fault) => RunStep::Refused(fault),
+        RunStep::Read(_) => no_fault(),
+        RunStep::Refused(fault) => fault,
+    }
+}
+
+// The walk's refusal, to be passed on.
+pub fn fault_of_walk(step: WalkStep) -> Fault
+    ensures { λ r. ⌜ r ≡ walkFault step ⌝ }
+{
+    match step {
+        WalkStep::Accepted(_) => no_fault(),
+        WalkStep::Refused(fault) => fault,
     }
 }
 
@@ -102,7 +107,7 @@ fn read_patterns(
     while done < count {
         let step = read_pattern(file, place, channels);
         let PatternStep::Read(part) = step else {
-            return refused_pattern(step);
+            return RunStep::Refused(fault_of_pattern(step));
         };
         marks[done] = mark_of(part.shortest, part.same);
         place = part.next;
@@ -117,7 +122,7 @@ fn read_patterns(
 }
 
 // `count` patterns, from a place on, that are only tried.
-fn scan_patterns(file: &[u8], at: usize, channels: usize, count: usize) -> PlaceStep
+fn scan_patterns(file: &[u8], at: usize, channels: usize, count: usize) -> Step
     requires { ⌜ at ≤ length (now file) ⌝ }
     requires { ⌜ length (now file) ≤ fileMost ⌝ }
     requires { ⌜ (1 ≤ channels) × (channels ≤ 64) ⌝ }
@@ -127,26 +132,13 @@ fn scan_patterns(file: &[u8], at: usize, channels: usize, count: usize) -> Place
     let mut done = 0;
     while done < count {
         let step = scan_pattern(file, place, channels);
-        let PlaceStep::Next(next) = step else {
+        let Step::Next(next) = step else {
             return step;
         };
         place = next;
         done += 1;
     }
-    PlaceStep::Next(place)
-}
-
-// An instrument's refusal, passed on.
-fn refused_instrument(step: InstrumentStep) -> RunStep
-    ensures { λ r. ⌜ r ≡ instrumentRefused step ⌝ }
-{
-    match step {
-        InstrumentStep::Read(part) => RunStep::Refused(Fault {
-            number: 0,
-            place: part.next,
-        }),
-        InstrumentStep::Refused(fault) => RunStep::Refused(fault),
-    }
+    Step::Next(place)
 }
 
 // `count` instruments, from a place on.
@@ -163,7 +155,7 @@ fn read_instruments(file: &[u8], at: usize, count: usize) -> RunStep
     while done < count {
         let step = read_instrument(file, place);
         let InstrumentStep::Read(part) = step else {
-            return refused_instrument(step);
+            return RunStep::Refused(fault_of_instrument(step));
         };
         place = part.next;
         samples += part.samples;
@@ -177,113 +169,55 @@ fn read_instruments(file: &[u8], at: usize, count: usize) -> RunStep
     })
 }
 
-// The header's refusal, passed on.
-fn refused_header(step: HeaderStep) -> WalkStep
-    ensures { λ r. ⌜ r ≡ headerRefused step ⌝ }
+// The size of the file, and then its header.
+fn begin(file: &[u8]) -> HeaderStep
+    ensures { λ r. ⌜ r ≡ headerStep (readWhole headerFormat (now (file .entry))) ⌝ }
 {
-    match step {
-        HeaderStep::Read(part) => WalkStep::Refused(Fault {
-            number: 0,
-            place: part.start,
-        }),
-        HeaderStep::Refused(fault) => WalkStep::Refused(fault),
+    if FILE_MOST < file.len() {
+        return HeaderStep::Refused(Fault {
+            number: 2,
+            place: 0,
+        });
     }
+    read_header(file)
 }
 
-// The refusal of patterns that were only tried, passed on.
-fn refused_place(step: PlaceStep) -> WalkStep
-    ensures { λ r. ⌜ r ≡ placeRefused step ⌝ }
-{
-    match step {
-        PlaceStep::Next(place) => WalkStep::Refused(Fault {
-            number: 0,
-            place: place,
-        }),
-        PlaceStep::Refused(fault) => WalkStep::Refused(fault),
-    }
-}
-
-// The refusal of structures in a row, passed on.
-fn refused_run(step: RunStep) -> WalkStep
-    ensures { λ r. ⌜ r ≡ runRefused step ⌝ }
-{
-    match step {
-        RunStep::Read(run) => WalkStep::Refused(Fault {
-            number: 0,
-            place: run.next,
-        }),
-        RunStep::Refused(fault) => WalkStep::Refused(fault),
-    }
-}
-
-// The whole file, in one pass: its first fault, or what it comes to, and then with a mark for each pattern.
+// The whole file, in one pass: its first fault, or the length of its pressed form, and then with a mark for each pattern.
 pub fn walk(file: &[u8], marks: &mut [u8; 256]) -> WalkStep
     requires { ⌜ length (now marks) ≡ 256 ⌝ }
     ensures answer { λ r. ⌜ r ≡ walkStep (readFile (now (file .entry))) ⌝ }
     ensures marked { λ _. ⌜ ((found : Found) (end : ℕ) → readFile (now (file .entry)) ≡ got found end → Marks (now (file .entry)) (found .1 .0) (now (marks .exit))) ⌝ }
 {
-    if FILE_MOST < file.len() {
-        return WalkStep::Refused(Fault {
-            number: 2,
-            place: 0,
-        });
-    }
-    let step = read_header(file);
+    let step = begin(file);
     let HeaderStep::Read(header) = step else {
-        return refused_header(step);
+        return WalkStep::Refused(fault_of_header(step));
     };
     let first = read_patterns(file, header.start, header.channels, header.patterns, marks);
     let RunStep::Read(patterns) = first else {
-        return refused_run(first);
+        return WalkStep::Refused(fault_of_run(first));
     };
     let last = read_instruments(file, patterns.next, header.instruments);
     let RunStep::Read(instruments) = last else {
-        return refused_run(last);
+        return WalkStep::Refused(fault_of_run(last));
     };
-    WalkStep::Accepted(Summary {
-        end: instruments.next,
-        channels: header.channels,
-        patterns: header.patterns,
-        instruments: header.instruments,
-        samples: instruments.samples,
-        pressed: 336 + patterns.pressed + instruments.pressed,
-    })
-}
-
-// The walk's refusal, passed on.
-fn refused_walk(step: WalkStep) -> Verdict
-    ensures { λ r. ⌜ r ≡ walkRefused step ⌝ }
-{
-    match step {
-        WalkStep::Accepted(summary) => Verdict::Refused(Fault {
-            number: 0,
-            place: summary.end,
-        }),
-        WalkStep::Refused(fault) => Verdict::Refused(fault),
-    }
+    WalkStep::Accepted(336 + patterns.pressed + instruments.pressed)
 }
 
 // The check of a file, in one pass: its first fault, or its end and counts. What only the press wants is not measured.
 pub fn check(file: &[u8]) -> Verdict
     ensures { λ r. ⌜ r ≡ verdictOf (checking (now (file .entry))) ⌝ }
 {
-    if FILE_MOST < file.len() {
-        return Verdict::Refused(Fault {
-            number: 2,
-            place: 0,
-        });
-    }
-    let step = read_header(file);
+    let step = begin(file);
     let HeaderStep::Read(head) = step else {
-        return refused_walk(refused_header(step));
+        return Verdict::Refused(fault_of_header(step));
     };
     let first = scan_patterns(file, head.start, head.channels, head.patterns);
-    let PlaceStep::Next(next) = first else {
-        return refused_walk(refused_place(first));
+    let Step::Next(next) = first else {
+        return Verdict::Refused(fault_of(first));
     };
     let last = read_instruments(file, next, head.instruments);
     let RunStep::Read(run) = last else {
-        return refused_walk(refused_run(last));
+        return Verdict::Refused(fault_of_run(last));
     };
     Verdict::Accepted(Module {
         end: run.next,

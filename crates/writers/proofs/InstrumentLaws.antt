@@ -26,7 +26,7 @@ use Rattle.steps.specs.declared.instrument.InstrumentPart.{InstrumentPart}
 use Rattle.steps.specs.declared.instrument.InstrumentStep.{InstrumentStep}
 use Rattle.steps.specs.declared.instrument.InstrumentStep.the-variants.{Read, Refused}
 use Rattle.steps.proofs.InstrumentLaws.{some-samples}
-use Rattle.steps.proofs.SampleLaws.{heads-viewed, samples-counted, samples-size}
+use Rattle.steps.proofs.SampleLaws.{heads-viewed, samples-size}
 use Rattle.refusal.specs.declared.Fault.{Fault}
 use Rattle.writers.specs.Found.{readAt, pressedAt}
 use Rattle.writers.specs.Instrument.{InstrumentIs, frontOf, voiceAt}
@@ -194,7 +194,7 @@ module _ (file : List ℕ) (place : ℕ) where
     r = as-read is
 
     counted : length (r .samples .0) ≡ k
-    counted = samples-counted k H (place + I) (drop I from) (r .samples) (r .used) (r .reads)
+    counted = samples-size k H (place + I) (drop I from) (r .samples) (r .used) (r .reads) .counted
 
     is-count : piece .samples ≡ k
     is-count = ap InstrumentPart.samples (r .same) ∙ counted
@@ -236,7 +236,7 @@ module _ (file : List ℕ) (place : ℕ) where
 
       is-head : piece .«head_size» ≡ H
       is-head =
-          ap InstrumentPart.«head_size» (r .same) ∙ samples-size k H (place + I) (drop I from) (r .samples) (r .used) (tests .1 .0) (r .reads) .first few
+          ap InstrumentPart.«head_size» (r .same) ∙ samples-size k H (place + I) (drop I from) (r .samples) (r .used) (r .reads) .first few
 
       is-size : piece .size ≡ I
       is-size = ap InstrumentPart.size (r .same)
@@ -260,7 +260,7 @@ module _ (file : List ℕ) (place : ℕ) where
       is-next = ap InstrumentPart.next (r .same) ∙ sym (add-assoc place I (r .used))
 
       bytes-there : bytes ≤ piece .next
-      bytes-there = omega (arith, is-bytes, is-next, samples-size k H (place + I) (drop I from) (r .samples) (r .used) (tests .1 .0) (r .reads) .heads)
+      bytes-there = omega (arith, is-bytes, is-next, samples-size k H (place + I) (drop I from) (r .samples) (r .used) (r .reads) .heads)
 
       next-inside : Bytes file → piece .next ≤ length file
       next-inside b = omega (

@@ -22,47 +22,11 @@ on : (t : tie.After-known-told Inv-loop μ-loop) →
     InstrumentsRead (a .file .now) (a .at) (a .count) (l .loop .done + 1) (part .next) (l .loop .samples + part .samples) (l .loop .pressed + part .pressed)
 on t =
     let l = t .before .before .before .before .before in
-    let a = l .before .before .args in
-    instruments-on (a .file .now) (a .at) (a .count) (l .loop .inv) (t .before .before .before .before .loop-test .taken)
-    (record { below = λ i. omega (arith, l .before .shared-slice-known .given i) }) (sym (t .before .step .given .1) ∙ t .before .before .before .read-instrument .ensures)
-
-loop-holds : tie.Need-loop-holds Inv-loop μ-loop
-loop-holds c = instruments-start _ _ _ (c .before .pre .0)
-
-read-instrument-requires : tie.Need-read-instrument-requires Inv-loop μ-loop
-read-instrument-requires c κs = (c .before .loop .inv .inside, c .before .before .before .pre .1 .0)
-
-enum-known-step : tie.Need-enum-known-step Inv-loop μ-loop
-enum-known-step c = search needs
-
-enum-told : tie.Need-enum-told Inv-loop μ-loop
-enum-told c = search needs
-
-refused-instrument-requires : tie.Need-refused-instrument-requires Inv-loop μ-loop
-refused-instrument-requires c κs = search needs
+    instruments-on _ _ _ (l .loop .inv) (t .before .before .before .before .loop-test .taken) (record { below = λ i. omega (arith, l .before .shared-slice-known .given i) })
+    (sym (t .before .step .given .1) ∙ t .before .before .before .read-instrument .ensures)
 
 returns : tie.Need-returns Inv-loop μ-loop
-returns c =
-    let a = c .before .before .before .before .before .before .before .args in
-    c .refused-instrument .ensures ∙ instruments-out (a .file .now) (a .at) (a .count) (c .before .before .before .before .before .loop .inv) (c .before .before .before .before .loop-test .taken) (c .before .before .before .read-instrument .ensures) (c .before .enum-told .given .1)
-
-add-samples : tie.Need-add-samples Inv-loop μ-loop
-add-samples c = omega (arith, on (c .before) .few)
-
-add-pressed : tie.Need-add-pressed Inv-loop μ-loop
-add-pressed c = let w = on (c .before .before) in omega (arith, w .inside, w .short)
-
-add-done : tie.Need-add-done Inv-loop μ-loop
-add-done c = search needs
-
-loop-less : tie.Need-loop-less Inv-loop μ-loop
-loop-less c = omega arith
-
-loop-again : tie.Need-loop-again Inv-loop μ-loop
-loop-again c = on (c .before .before)
-
-returns-2 : tie.Need-returns-2 Inv-loop μ-loop
-returns-2 c = instruments-end _ _ _ (c .before .loop .inv) (c .loop-test .left)
+returns c = instruments-out _ _ _ (c .before .before .before .before .before .loop .inv) (c .before .before .before .before .loop-test .taken) (c .before .before .before .read-instrument .ensures) (c .before .enum-told .given .1) (c .fault-of-instrument .ensures)
 
 pub read-instruments-spec : {M : Type 1} → statement M
 read-instruments-spec =
@@ -70,15 +34,15 @@ read-instruments-spec =
     (tie.spec
     Inv-loop
     μ-loop
-    loop-holds
-    read-instrument-requires
-    enum-known-step
-    enum-told
-    refused-instrument-requires
+    (λ c. instruments-start _ _ _ (c .before .pre .0))
+    (λ c κs. (c .before .loop .inv .inside, c .before .before .before .pre .1 .0))
+    (search needs)
+    (search needs)
+    (search needs)
     returns
-    add-samples
-    add-pressed
-    add-done
-    loop-less
-    loop-again
-    returns-2)
+    (λ c. omega (arith, on (c .before) .few))
+    (λ c. let w = on (c .before .before) in omega (arith, w .inside, w .short))
+    (search needs)
+    (omega arith)
+    (λ c. on (c .before .before))
+    (λ c. instruments-end _ _ _ (c .before .loop .inv) (c .loop-test .left)))

@@ -13,34 +13,14 @@ Inv-loop file at channels count place₀ done₀ place done = PatternsTried file
 abbrev μ-loop : tie.MeasureT-loop
 μ-loop file at channels count place₀ done₀ place done = count - done
 
-loop-holds : tie.Need-loop-holds Inv-loop μ-loop
-loop-holds c = tried-start _ _ _ _ (c .before .pre .0)
-
-scan-pattern-requires : tie.Need-scan-pattern-requires Inv-loop μ-loop
-scan-pattern-requires c κs = (c .before .loop .inv .inside, c .before .before .before .pre .1)
-
-enum-known-step : tie.Need-enum-known-step Inv-loop μ-loop
-enum-known-step c = search needs
-
-enum-told : tie.Need-enum-told Inv-loop μ-loop
-enum-told c = search needs
-
 returns : tie.Need-returns Inv-loop μ-loop
 returns c = tried-out _ _ _ _ (c .before .before .before .before .loop .inv) (c .before .before .before .loop-test .taken) (c .before .before .scan-pattern .ensures) (c .enum-told .given .1)
 
-add-done : tie.Need-add-done Inv-loop μ-loop
-add-done c = search needs
-
-loop-less : tie.Need-loop-less Inv-loop μ-loop
-loop-less c = omega arith
-
 loop-again : tie.Need-loop-again Inv-loop μ-loop
 loop-again c =
-    tried-on _ _ _ _ (c .before .before .before .before .before .loop .inv) (c .before .before .before .before .loop-test .taken) (record { below = λ i. omega (arith, c .before .before .before .before .before .before .shared-slice-known .given i) }) (c .before .before .before .before .before .before .before .pre .1 .1 .0)
+    let l = c .before .before .before .before .before in
+    tried-on _ _ _ _ (l .loop .inv) (c .before .before .before .before .loop-test .taken) (record { below = λ i. omega (arith, l .before .shared-slice-known .given i) }) (l .before .before .pre .1 .1 .0)
     (sym (c .before .step .given .1) ∙ c .before .before .before .scan-pattern .ensures)
-
-returns-2 : tie.Need-returns-2 Inv-loop μ-loop
-returns-2 c = tried-end _ _ _ _ (c .before .loop .inv) (c .loop-test .left)
 
 pub scan-patterns-spec : {M : Type 1} → statement M
 scan-patterns-spec =
@@ -48,12 +28,12 @@ scan-patterns-spec =
     (tie.spec
     Inv-loop
     μ-loop
-    loop-holds
-    scan-pattern-requires
-    enum-known-step
-    enum-told
+    (λ c. tried-start _ _ _ _ (c .before .pre .0))
+    (λ c κs. (c .before .loop .inv .inside, c .before .before .before .pre .1))
+    (search needs)
+    (search needs)
     returns
-    add-done
-    loop-less
+    (search needs)
+    (omega arith)
     loop-again
-    returns-2)
+    (λ c. tried-end _ _ _ _ (c .before .loop .inv) (c .loop-test .left)))

@@ -1,96 +1,68 @@
 -- `steps::pattern::read_pattern` meets its contract: a test's refusal, that of the stored cells, or the pattern. Assumes nothing.
-use mathlib.Core.Path.{_∙_}
+use mathlib.Core.Path.{_≡_, refl, sym, ap, _∙_}
 use native.Mathlib.Omega.{arith}
 use lib.ListN.{drop, length-drop}
 use Rattle.xm.specs.Number.{Bytes}
-use Rattle.xm.specs.Got.{AllHold}
+use Rattle.xm.specs.Got.{AllHold, refused}
 use Rattle.xm.specs.PatternInFile.{patternTests}
-use Rattle.steps.proofs.PatternLaws.{stored-place, pattern-refused, pattern-holds, pattern-out, pattern-read}
+use Rattle.refusal.specs.Fault.{refusalIn}
+use Rattle.steps.specs.Step.{patternStep}
+use Rattle.steps.specs.declared.pattern.PatternStep.the-variants.{Refused}
+use Rattle.steps.proofs.PatternLaws.{HeadOf, head-of, stored-refused, pattern-faulty, pattern-holds, cells, fault-place, pattern-out, read-in}
 use borrow.Author.Needs.{needs}
 use Rattle.steps.proofs.pattern.read_pattern.Statement.{statement}
 use Rattle.steps.proofs.pattern.read_pattern.Tie as tie
+
+plain : (t : tie.After-shared-slice-known) → Bytes (t .before .args .file .now)
+plain t = record { below = λ i. omega (arith, t .shared-slice-known .given i) }
 
 -- The tests of the header hold, from where they have passed
 held : (t : tie.Else1) → AllHold (patternTests (t .before .before .before .args .at) (drop (t .before .before .before .args .at) (t .before .before .before .args .file .now)))
 held t = let a = t .before .before .before .args in pattern-holds (a .file .now) (a .at) (a .channels) (t .before .pattern-fault .ensures) (t .if1 .left)
 
-plain : (t : tie.Else1) → Bytes (t .before .before .before .args .file .now)
-plain t = record { below = λ i. omega (arith, t .before .before .shared-slice-known .given i) }
+head : (t : tie.After-pattern-head) → HeadOf (t .before .before .before .before .args .at) (t .before .before .before .before .args .file .now) (t .pattern-head .result)
+head t = head-of _ _ (plain (t .before .before .before)) (t .pattern-head .ensures)
 
-pattern-fault-requires : tie.Need-pattern-fault-requires
-pattern-fault-requires c κs = search needs
+-- The cells were refused
+out : (u : tie.After-fault-of-stored) →
+    let t = u .before .before .before .before .before .before in
+    let a = t .before .before .before .before .args in
+    cells (a .file .now) (a .at) (a .channels) (held (t .before)) (t .pattern-head .ensures) ≡ refused (refusalIn (u .fault-of-stored .result))
+out u = stored-refused _ _ (u .before .before .before .read-stored .ensures) (u .before .enum-told .given .1) (u .fault-of-stored .ensures)
 
-returns : tie.Need-returns
-returns c = pattern-refused _ _ _ (c .before .pattern-fault .ensures) (c .if1 .taken)
-
-pattern-head-requires : tie.Need-pattern-head-requires
-pattern-head-requires c κs = (c .before .before .before .pre .1 .0, held c)
-
-add-next : tie.Need-add-next
-add-next c =
-    let a = c .before .before .before .before .before .args in
-    let head = c .before .pattern-head .ensures in
-    let h = held (c .before .before) in omega (arith, head .place, head .size, length-drop (a .at) (a .file .now))
-
-sub-read-stored : tie.Need-sub-read-stored
-sub-read-stored c = search needs
-
-part-read-stored-start : tie.Need-part-read-stored-start
-part-read-stored-start c = search needs
-
-part-read-stored-end : tie.Need-part-read-stored-end
-part-read-stored-end c =
-    let a = c .before .before .before .before .before .args in
-    let head = c .before .pattern-head .ensures in
-    let h = held (c .before .before) in omega (arith, head .place, head .size, length-drop (a .at) (a .file .now))
-
-read-stored-requires : tie.Need-read-stored-requires
-read-stored-requires c κs = let h = held (c .before .before .before) in omega (arith, c .before .before .pattern-head .ensures .rows)
-
-enum-known-step : tie.Need-enum-known-step
-enum-known-step c = search needs
-
-enum-told : tie.Need-enum-told
-enum-told c = search needs
-
-refused-stored-requires : tie.Need-refused-stored-requires
-refused-stored-requires c κs =
+fault-from-requires : tie.Need-fault-from-requires
+fault-from-requires c κs =
     let t = c .before .before .before .before .before .before in
-    let a = t .before .before .before .args in
-    let head = c .before .before .before .before .before .pattern-head in
-    let h = held t in (
-      omega (arith, head .ensures .place, length-drop (a .at) (a .file .now)),
-      stored-place (a .file .now) (head .result .place) (head .result .size) (head .ensures .small) (plain t) (a .channels) (head .result .rows) (c .before .before .read-stored .ensures),
-    )
+    let h = held (t .before) in
+    let near = head t in
+    (omega arith, fault-place _ _ _ (held (t .before)) (t .pattern-head .ensures) (plain (t .before .before .before)) (out c))
 
 returns-2 : tie.Need-returns-2
 returns-2 c =
     let t = c .before .before .before .before .before .before .before in
-    let a = t .before .before .before .args in
-    let head = c .before .before .before .before .before .before .pattern-head .ensures in
-    c .refused-stored .ensures ∙ pattern-out (a .file .now) (a .at) (a .channels) (held t) (head .place) (head .rows) (head .size) (c .before .before .before .read-stored .ensures) (c .before .enum-told .given .1)
+    let a = t .before .before .before .before .args in
+    ap Refused (c .fault-from .ensures) ∙ sym (ap (patternStep (a .file .now) (a .at)) (pattern-out _ _ (a .channels) (held (t .before)) (t .pattern-head .ensures) (out (c .before))))
 
 returns-3 : tie.Need-returns-3
 returns-3 c =
-    let t = c .before .before .before .before .before .before .before in
-    let a = t .before .before .before .args in
-    let head = c .before .before .before .before .before .before .pattern-head .ensures in
-    pattern-read (a .file .now) (a .at) (a .channels) (held t) (head .place) (head .rows) (head .size) (c .before .before .before .read-stored .ensures) (c .before .step .given .1)
+    let t = c .before .before .before .before .before .before in
+    read-in _ _ _ (held (t .before)) (t .pattern-head .ensures) _ refl (sym (c .before .step .given .1) ∙ c .before .before .before .read-stored .ensures)
 
 pub read-pattern-spec : {M : Type 1} → statement M
 read-pattern-spec =
     tie.close
     (tie.spec
-    pattern-fault-requires
-    returns
-    pattern-head-requires
-    add-next
-    sub-read-stored
-    part-read-stored-start
-    part-read-stored-end
-    read-stored-requires
-    enum-known-step
-    enum-told
-    refused-stored-requires
+    (search needs)
+    (λ c. sym (ap (patternStep _ _) (pattern-faulty _ _ _ (c .before .pattern-fault .ensures) (c .if1 .taken))))
+    (λ c κs. let a = c .before .before .before .args in let h = held c in omega (arith, length-drop (a .at) (a .file .now)))
+    (λ c. let h = held (c .before .before) in let t = head (c .before) in omega arith)
+    (search needs)
+    (search needs)
+    (λ c. let h = held (c .before .before) in let t = head (c .before) in omega arith)
+    (λ c κs. let h = held (c .before .before .before) in let t = head (c .before .before) in omega arith)
+    (search needs)
+    (search needs)
+    (search needs)
+    fault-from-requires
     returns-2
     returns-3)

@@ -12,15 +12,6 @@ use borrow.Author.Needs.{needs}
 use Rattle.steps.proofs.sample.loop_fits.Statement.{statement}
 use Rattle.steps.proofs.sample.loop_fits.Tie as tie
 
-returns : tie.Need-returns
-returns c = rw (le-ltb 0 (c .before .args .looped) (omega arith))
-
-returns-2 : tie.Need-returns-2
-returns-2 c = rw (eq-eqb _ _ (c .if2 .taken), and-false)
-
-add-if3 : tie.Need-add-if3
-add-if3 c = search needs
-
 returns-3 : tie.Need-returns-3
 returns-3 c =
     let a = c .before .before .before .args in
@@ -33,4 +24,11 @@ returns-4 c =
     sym (holds-passes (loopTest (a .form) (a .length) (a .start) (a .looped) 0) (λ loops. omega arith))
 
 pub loop-fits-spec : {M : Type 1} → statement M
-loop-fits-spec = tie.close (tie.spec returns returns-2 add-if3 returns-3 returns-4)
+loop-fits-spec =
+    tie.close
+    (tie.spec
+    (λ c. rw (le-ltb 0 (c .before .args .looped) (omega arith)))
+    (λ c. rw (eq-eqb _ _ (c .if2 .taken), and-false))
+    (search needs)
+    returns-3
+    returns-4)

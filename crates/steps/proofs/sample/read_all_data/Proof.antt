@@ -14,17 +14,10 @@ Inv-loop file heads size count at head₀ place₀ done₀ head place done = Dat
 abbrev μ-loop : tie.MeasureT-loop
 μ-loop file heads size count at head₀ place₀ done₀ head place done = count - done
 
-loop-holds : tie.Need-loop-holds Inv-loop μ-loop
-loop-holds c = data-start _ _ _ _ _ (c .before .pre .1 .1)
-
 read-data-requires : tie.Need-read-data-requires Inv-loop μ-loop
-read-data-requires c κs = (omega (arith, data-room _ _ _ _ _ (c .before .loop .inv) (c .loop-test .taken) (c .before .before .before .pre .0)), c .before .loop .inv .inside)
-
-enum-known-step : tie.Need-enum-known-step Inv-loop μ-loop
-enum-known-step c = search needs
-
-enum-told : tie.Need-enum-told Inv-loop μ-loop
-enum-told c = search needs
+read-data-requires c κs =
+    let p = c .before .before .before .pre in
+    (omega (arith, p .1 .0 (omega arith), data-room _ _ _ _ _ (c .before .loop .inv) (c .loop-test .taken) (p .0)), c .before .loop .inv .inside)
 
 returns : tie.Need-returns Inv-loop μ-loop
 returns c = data-out _ _ _ _ _ (c .before .before .before .before .loop .inv) (c .before .before .before .loop-test .taken) (c .before .before .read-data .ensures) (c .enum-told .given .1)
@@ -32,17 +25,8 @@ returns c = data-out _ _ _ _ _ (c .before .before .before .before .loop .inv) (c
 add-head : tie.Need-add-head Inv-loop μ-loop
 add-head c = omega (arith, data-room _ _ _ _ _ (c .before .before .before .before .before .loop .inv) (c .before .before .before .before .loop-test .taken) (c .before .before .before .before .before .before .before .pre .0))
 
-add-done : tie.Need-add-done Inv-loop μ-loop
-add-done c = search needs
-
-loop-less : tie.Need-loop-less Inv-loop μ-loop
-loop-less c = omega arith
-
 loop-again : tie.Need-loop-again Inv-loop μ-loop
 loop-again c = data-on _ _ _ _ _ (c .before .before .before .before .before .loop .inv) (c .before .before .before .before .loop-test .taken) (sym (c .before .step .given .1) ∙ c .before .before .before .read-data .ensures)
-
-returns-2 : tie.Need-returns-2 Inv-loop μ-loop
-returns-2 c = data-end _ _ _ _ _ (c .before .loop .inv) (c .loop-test .left)
 
 pub read-all-data-spec : {M : Type 1} → statement M
 read-all-data-spec =
@@ -50,13 +34,13 @@ read-all-data-spec =
     (tie.spec
     Inv-loop
     μ-loop
-    loop-holds
+    (λ c. data-start _ _ _ _ _ (c .before .pre .1 .1))
     read-data-requires
-    enum-known-step
-    enum-told
+    (search needs)
+    (search needs)
     returns
     add-head
-    add-done
-    loop-less
+    (search needs)
+    (omega arith)
     loop-again
-    returns-2)
+    (λ c. data-end _ _ _ _ _ (c .before .loop .inv) (c .loop-test .left)))

@@ -13,30 +13,15 @@ Inv-loop file at size count place₀ read₀ place read = HeadsRead file at size
 abbrev μ-loop : tie.MeasureT-loop
 μ-loop file at size count place₀ read₀ place read = count - read
 
-loop-holds : tie.Need-loop-holds Inv-loop μ-loop
-loop-holds c = heads-start _ _ _ _
-
 read-head-requires : tie.Need-read-head-requires Inv-loop μ-loop
 read-head-requires c κs =
-    let a = c .before .before .before .args in
-    (heads-room (a .file .now) (a .at) (a .size) (a .count) (c .before .loop .inv) (omega arith) (c .before .before .before .pre .0), c .before .before .before .pre .1)
-
-enum-known-step : tie.Need-enum-known-step Inv-loop μ-loop
-enum-known-step c = search needs
-
-enum-told : tie.Need-enum-told Inv-loop μ-loop
-enum-told c = search needs
+    let s = c .before .before .before in
+    (heads-room (s .args .file .now) (s .args .at) (s .args .size) (s .args .count) (c .before .loop .inv) (omega arith) (s .pre .0), s .pre .1 (omega arith))
 
 returns : tie.Need-returns Inv-loop μ-loop
 returns c =
     let a = c .before .before .before .before .before .before .args in
     heads-out (a .file .now) (a .at) (a .size) (a .count) (c .before .before .before .before .loop .inv) (omega arith) (c .before .before .read-head .ensures) (c .enum-told .given .1)
-
-add-read : tie.Need-add-read Inv-loop μ-loop
-add-read c = search needs
-
-loop-less : tie.Need-loop-less Inv-loop μ-loop
-loop-less c = omega arith
 
 loop-again : tie.Need-loop-again Inv-loop μ-loop
 loop-again c =
@@ -44,9 +29,7 @@ loop-again c =
     heads-on (a .file .now) (a .at) (a .size) (a .count) (c .before .before .before .before .before .loop .inv) (omega arith) (sym (c .before .step .given .1) ∙ c .before .before .before .read-head .ensures)
 
 returns-2 : tie.Need-returns-2 Inv-loop μ-loop
-returns-2 c =
-    let a = c .before .before .before .args in
-    heads-end (a .file .now) (a .at) (a .size) (a .count) (c .before .loop .inv) (omega arith)
+returns-2 c = let a = c .before .before .before .args in heads-end (a .file .now) (a .at) (a .size) (a .count) (c .before .loop .inv) (omega arith)
 
 pub read-heads-spec : {M : Type 1} → statement M
 read-heads-spec =
@@ -54,12 +37,12 @@ read-heads-spec =
     (tie.spec
     Inv-loop
     μ-loop
-    loop-holds
+    (λ c. heads-start _ _ _ _)
     read-head-requires
-    enum-known-step
-    enum-told
+    (search needs)
+    (search needs)
     returns
-    add-read
-    loop-less
+    (search needs)
+    (omega arith)
     loop-again
     returns-2)
