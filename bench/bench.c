@@ -1,10 +1,10 @@
-/* bench.c: the library's speed as ratios to the reference in C, that of the tables and of the small reader as ratios to the check of
-   the same file, and the stack of each call.
+/* bench.c: the library's speed as ratios to C, that of the tables and of the small reader as ratios to the check of the same file, and
+   the stack of each call.
 
-   Every figure is the best time of one work divided by the best time of another, both taken in turns in one run, in processor
-   time. Below 1 the first is faster. All buffers are written before, so no page is met for the first time.
-   The reference (compiled with -O3) is careful C, a byte at a time: no branch on what a cell holds but for empty ones, no tricks
-   with words.
+   A ratio to C is the library's best time divided by the better one of two in C, compiled with -O3: the reference, which is careful
+   C, a byte at a time (no branch on what a cell holds but for empty ones, no tricks with words), and fast.c, which is written for
+   speed. All are taken in turns in one run, in processor time. Below 1 the library is faster. All buffers are written before, so no
+   page is met for the first time.
 
    bench [--rounds N] [--emulated-by NAME] */
 
@@ -13,6 +13,7 @@
 #include "../include/fiddlemarsh.h"
 #include "../tests/modules.h"
 #include "../tests/reference.h"
+#include "fast.h"
 #include "stack.h"
 #include "timed.h"
 
@@ -49,7 +50,7 @@ struct set {
     size_t pattern_count;
 };
 
-/* The two sides of a comparison. */
+/* The sides of a comparison. */
 struct side {
     uint64_t (*check)(const uint8_t *, size_t);
     uint64_t (*unpack)(size_t, size_t, const uint8_t *, size_t, uint8_t *, size_t);
@@ -88,6 +89,7 @@ static uint32_t reference_tables(const uint8_t *file, size_t file_len)
 static const struct side library = {fiddlemarsh_check, fiddlemarsh_unpack, fiddlemarsh_pack, fiddlemarsh_press, library_tables};
 static const struct side reference = {reference_loader_check, reference_loader_unpack, reference_loader_pack,
                                       reference_loader_press, reference_tables};
+static const struct side fast = {fast_check, fast_unpack, fast_pack, fast_press, NULL};
 
 static uint8_t *output; /* room for any answer */
 static size_t rounds = 9;
@@ -156,23 +158,48 @@ static struct shape without_cells(struct shape shape)
     return shape;
 }
 
-static void differ(const struct set *set)
+/* All sides must agree before anybody looks at a clock. */
+
+static void disagree(const struct set *set, const char *call)
 {
-    fprintf(stderr, "library and reference differ on '%s': run the comparison in tests first\n", set->name);
+    fprintf(stderr, "%s of '%s': library, reference and fast.c differ: run the comparison in tests first\n", call, set->name);
     exit(1);
 }
 
-/* Both sides must agree before anybody looks at a clock. */
+static void must_agree_on_patterns(const struct set *set, uint8_t *other, const struct side *side)
+{
+    for (size_t i = 0; i < set->pattern_count; i++) {
+        const struct pattern *one = &set->patterns[i];
+        uint64_t rows = fiddlemarsh_unpack(one->rows, one->channels, one->data, one->size, output, FIDDLEMARSH_CELLS_MOST);
+        if (side->unpack(one->rows, one->channels, one->data, one->size, other, FIDDLEMARSH_CELLS_MOST) != rows ||
+            memcmp(output, other, one->cells_len) != 0)
+            disagree(set, "unpack");
+        uint64_t packed = fiddlemarsh_pack(one->rows, one->channels, one->cells, one->cells_len, output, FIDDLEMARSH_DATA_MOST);
+        if (side->pack(one->rows, one->channels, one->cells, one->cells_len, other, FIDDLEMARSH_DATA_MOST) != packed ||
+            memcmp(output, other, fiddlemarsh_packed_length(packed)) != 0)
+            disagree(set, "pack");
+    }
+}
+
+static void must_agree_with(const struct set *set, uint8_t *other, const struct side *side)
+{
+    for (size_t i = 0; i < set->module_count; i++) {
+        const struct module *module = &set->modules[i];
+        if (fiddlemarsh_check(module->bytes, module->length) != side->check(module->bytes, module->length))
+            disagree(set, "check");
+        uint64_t length = fiddlemarsh_press(module->bytes, module->length, output, module->length);
+        uint64_t other_length = side->press(module->bytes, module->length, other, module->length);
+        if (length != other_length || fiddlemarsh_refused(length) || memcmp(output, other, length) != 0)
+            disagree(set, "press");
+    }
+    must_agree_on_patterns(set, other, side);
+}
+
 static void must_agree(const struct set *set)
 {
     uint8_t *other = want(FIDDLEMARSH_FILE_MOST);
-    for (size_t i = 0; i < set->module_count; i++) {
-        const struct module *module = &set->modules[i];
-        uint64_t length = fiddlemarsh_press(module->bytes, module->length, output, module->length);
-        uint64_t other_length = reference_loader_press(module->bytes, module->length, other, module->length);
-        if (length != other_length || fiddlemarsh_refused(length) || memcmp(output, other, length) != 0)
-            differ(set);
-    }
+    must_agree_with(set, other, &reference);
+    must_agree_with(set, other, &fast);
     free(other);
 }
 
@@ -195,10 +222,10 @@ static void tables_must_agree(const struct set *set)
             memcmp(flat.patterns, rows.patterns, checked->patterns * sizeof rows.patterns[0]) != 0 ||
             memcmp(flat.instruments, rows.instruments, checked->instruments * sizeof rows.instruments[0]) != 0 ||
             timed_reader(module->bytes, module->length) != checked->patterns + checked->instruments + checked->samples)
-            differ(set);
+            disagree(set, "tables");
         for (size_t number = 0; number < checked->samples; number++)
             if (!same_sample(number))
-                differ(set);
+                disagree(set, "tables");
     }
 }
 
@@ -308,14 +335,28 @@ static double ratio(const struct set *set, work *first, const struct side *first
     return first_best / second_best;
 }
 
+/* The library's best time over that of the faster C, all taken in turns; a star where that is fast.c. */
+static void say_ratio(const struct set *set, work *run)
+{
+    const struct side *const sides[] = {&library, &reference, &fast};
+    size_t times = times_for_a_turn(run, set, &reference);
+    double best[COUNT(sides)] = {1e9, 1e9, 1e9};
+    for (size_t round = 0; round < rounds; round++)
+        for (size_t i = 0; i < COUNT(sides); i++) {
+            double time = time_of(run, set, sides[i], times);
+            best[i] = time < best[i] ? time : best[i];
+        }
+    bool is_fast = best[2] < best[1];
+    printf(" %7.2f%c", best[0] / best[is_fast ? 2 : 1], is_fast ? '*' : ' ');
+    fflush(stdout);
+}
+
 static void say_ratios(const struct set *set)
 {
     work *const works[] = {run_check, run_unpack, run_pack, run_press};
-    printf("%-46s", set->name);
-    for (size_t i = 0; i < COUNT(works); i++) {
-        printf(" %7.2f", ratio(set, works[i], &library, works[i], &reference));
-        fflush(stdout);
-    }
+    printf("%-45s", set->name);
+    for (size_t i = 0; i < COUNT(works); i++)
+        say_ratio(set, works[i]);
     printf("\n");
 }
 
@@ -412,7 +453,7 @@ static void say_conditions(const char *emulator)
     printf("run: %s%s; %zu rounds in turns, best of each, processor time\n", emulator != NULL ? "EMULATED by " : "native",
            emulator != NULL ? emulator : "", rounds);
     printf("buffers: all written once before the timing, not cleared between calls\n");
-    printf("reference: tests/reference.c at -O3, compiled by %s\n\n", __VERSION__);
+    printf("C: tests/reference.c and bench/fast.c at -O3, compiled by %s; * where fast.c is the faster\n\n", __VERSION__);
 }
 
 static const char *read_arguments(int argc, char **argv)
@@ -443,7 +484,7 @@ int main(int argc, char **argv)
         make_set("samples, near 16 MiB", &samples_shape, 1, 4),
         make_set("400 small modules", &small_shape, 400, 5),
     };
-    printf("time of the library / time of the reference       check  unpack    pack   press\n");
+    printf("time of the library / time of the faster C       check   unpack     pack    press\n");
     for (size_t i = 0; i < COUNT(sets); i++) {
         must_agree(&sets[i]);
         say_ratios(&sets[i]);
