@@ -23,10 +23,10 @@ run_test() {
         "$copy/program" ../README.md
         return
     fi
-    part=must-see-cli-$(basename "$file" .c).o
+    part=faulty-cli-$(basename "$file" .c).o
     $CC -std=c11 -w -c "$copy/$file" -o "$copy/$part"
     set -- "$copy/$part"
-    for object in "$build"/must-see-cli-*.o; do
+    for object in "$build"/faulty-cli-*.o; do
         [ "$object" = "$build/$part" ] || set -- "$@" "$object"
     done
     # shellcheck disable=SC2086  # lists
@@ -40,7 +40,7 @@ run_test() {
 see_one() {
     edit=$1 build=$2
     name=$(basename "$edit" .edit)
-    copy=$build/must-see-cli-$name
+    copy=$build/faulty-cli-$name
     by=$(sed -n 's/^by: //p' "$edit") file=$(sed -n 's/^file: //p' "$edit")
     rm -rf "$copy"
     mkdir -p "$copy/tests" "$copy/cli"
@@ -66,7 +66,7 @@ fi
 mkdir -p "$1"
 build=$(cd "$1" && pwd)
 for part in failing.c ../cli/*.c; do
-    [ "$part" = ../cli/example.c ] || $CC -std=c11 -w -c "$part" -o "$build/must-see-cli-$(basename "$part" .c).o"
+    [ "$part" = ../cli/example.c ] || $CC -std=c11 -w -c "$part" -o "$build/faulty-cli-$(basename "$part" .c).o"
 done
 count=$(find must-see-cli -name '*.edit' | wc -l)
 find must-see-cli -name '*.edit' | sort | xargs -n 1 -P "${JOBS:-2}" ./must-see-cli.sh --one "$build" "$(realpath "$2")" "$(realpath "$3")"
