@@ -75,8 +75,9 @@ static struct {
 
 static uint32_t library_tables(const uint8_t *file, size_t file_len)
 {
-    return timed_tables(file, file_len, flat.patterns, COUNT(flat.patterns), flat.instruments, COUNT(flat.instruments),
-                        flat.samples, COUNT(flat.samples), flat.tunes, COUNT(flat.tunes));
+    return fiddlemarsh_refusal(fiddlemarsh_tables(file, file_len, flat.patterns, COUNT(flat.patterns), flat.instruments,
+                                                  COUNT(flat.instruments), flat.samples, COUNT(flat.samples), flat.tunes,
+                                                  COUNT(flat.tunes)));
 }
 
 static uint32_t reference_tables(const uint8_t *file, size_t file_len)
