@@ -28,6 +28,7 @@
 
 #define COUNT(array) (sizeof(array) / sizeof((array)[0]))
 #define SECONDS_FOR_A_TURN 0.004
+#define DELTA_BYTES ((size_t)1 << 20)
 #define PATTERNS_MOST 4096 /* of a set */
 
 /* What a file has at most. */
@@ -57,6 +58,8 @@ struct side {
     uint64_t (*pack)(size_t, size_t, const uint8_t *, size_t, uint8_t *, size_t);
     uint64_t (*press)(const uint8_t *, size_t, uint8_t *, size_t);
     uint32_t (*tables)(const uint8_t *, size_t); /* the check that fills the side's own tables: 0, or the refusal's number */
+    uint64_t (*decode)(size_t, const uint8_t *, size_t, int16_t *, size_t);
+    uint64_t (*code)(size_t, const int16_t *, size_t, uint8_t *, size_t);
 };
 
 static struct {
@@ -87,10 +90,11 @@ static uint32_t reference_tables(const uint8_t *file, size_t file_len)
     return rows.checked.refusal.number;
 }
 
-static const struct side library = {fiddlemarsh_check, fiddlemarsh_unpack, fiddlemarsh_pack, fiddlemarsh_press, library_tables};
+static const struct side library = {fiddlemarsh_check, fiddlemarsh_unpack, fiddlemarsh_pack, fiddlemarsh_press, library_tables,
+                                    fiddlemarsh_decode, fiddlemarsh_code};
 static const struct side reference = {reference_loader_check, reference_loader_unpack, reference_loader_pack,
-                                      reference_loader_press, reference_tables};
-static const struct side fast = {fast_check, fast_unpack, fast_pack, fast_press, NULL};
+                                      reference_loader_press, reference_tables, reference_loader_decode, reference_loader_code};
+static const struct side fast = {fast_check, fast_unpack, fast_pack, fast_press, NULL, NULL, NULL};
 
 static uint8_t *output; /* room for any answer */
 static size_t rounds = 9;
@@ -298,6 +302,23 @@ static void run_copy(const struct set *set, const struct side *side)
 
 /* Timing */
 
+/* Deltas: a sample of a module's own bytes, whatever the set. Coding takes the values that decoding gave. */
+static size_t delta_width;
+static uint8_t deltas[DELTA_BYTES];
+static int16_t delta_values[DELTA_BYTES];
+
+static void run_decode(const struct set *set, const struct side *side)
+{
+    (void)set;
+    kept += side->decode(delta_width, deltas, DELTA_BYTES, delta_values, DELTA_BYTES);
+}
+
+static void run_code(const struct set *set, const struct side *side)
+{
+    (void)set;
+    kept += side->code(delta_width, delta_values, DELTA_BYTES * 8 / delta_width, deltas, DELTA_BYTES);
+}
+
 typedef void work(const struct set *, const struct side *);
 
 static double now(void)
@@ -361,6 +382,16 @@ static void say_ratios(const struct set *set)
     printf("\n");
 }
 
+/* A sample of 1 MiB, at both widths. */
+static void say_delta_ratios(const struct set *set)
+{
+    memcpy(deltas, set->modules[0].bytes + set->modules[0].length - DELTA_BYTES, DELTA_BYTES);
+    for (delta_width = 8; delta_width <= 16; delta_width += 8)
+        printf("deltas at %2zu bits, time of the library / the reference's: decode %.2f, code %.2f\n", delta_width,
+               ratio(set, run_decode, &library, run_decode, &reference), ratio(set, run_code, &library, run_code, &reference));
+    printf("\n");
+}
+
 /* Over the check of the same file; the reference's tables over its own check. */
 static void say_structure_ratios(const struct set *set)
 {
@@ -401,6 +432,24 @@ static void stack_press(void *nothing)
     kept += fiddlemarsh_press(stack_module->bytes, stack_module->length, output, FIDDLEMARSH_FILE_MOST);
 }
 
+static void stack_tables(void *nothing)
+{
+    (void)nothing;
+    kept += library_tables(stack_module->bytes, stack_module->length);
+}
+
+static void stack_decode(void *nothing)
+{
+    (void)nothing;
+    run_decode(NULL, &library);
+}
+
+static void stack_code(void *nothing)
+{
+    (void)nothing;
+    run_code(NULL, &library);
+}
+
 static void keep_largest(size_t *largest, void (*run)(void *))
 {
     size_t use = stack_use(run, NULL);
@@ -409,13 +458,14 @@ static void keep_largest(size_t *largest, void (*run)(void *))
 
 static void say_stack(const struct set *sets, size_t set_count)
 {
-    size_t check = 0, unpack = 0, pack = 0, press = 0;
+    size_t check = 0, unpack = 0, pack = 0, press = 0, tables = 0, decode = 0, code = 0;
     for (size_t i = 0; i < set_count; i++) {
         for (size_t j = 0; j < sets[i].module_count && j < 20; j++) {
             struct module cut = sets[i].modules[j];
             stack_module = &sets[i].modules[j];
             keep_largest(&check, stack_check);
             keep_largest(&press, stack_press);
+            keep_largest(&tables, stack_tables);
             stack_module = &cut;
             for (cut.length = 1; cut.length < sets[i].modules[j].length; cut.length *= 2) /* refusals too */
                 keep_largest(&check, stack_check), keep_largest(&press, stack_press);
@@ -426,7 +476,12 @@ static void say_stack(const struct set *sets, size_t set_count)
             keep_largest(&pack, stack_pack);
         }
     }
-    printf("largest stack use of a call, in bytes: check %zu, unpack %zu, pack %zu, press %zu\n", check, unpack, pack, press);
+    for (delta_width = 8; delta_width <= 16; delta_width += 8) {
+        keep_largest(&decode, stack_decode);
+        keep_largest(&code, stack_code);
+    }
+    printf("largest stack use of a call, in bytes: check %zu, unpack %zu, pack %zu, press %zu, tables %zu, decode %zu, code %zu\n", check,
+           unpack, pack, press, tables, decode, code);
 }
 
 /* The machine */
@@ -492,6 +547,7 @@ int main(int argc, char **argv)
     }
     printf("\npress of samples / memcpy of the same bytes: %.2f (the reference: %.2f)\n\n",
            ratio(&sets[3], run_press, &library, run_copy, &library), ratio(&sets[3], run_press, &reference, run_copy, &reference));
+    say_delta_ratios(&sets[3]);
     const struct shape bare_samples = without_cells(every_sample_shape), bare_patterns = without_cells(every_pattern_shape);
     const struct set structure_sets[] = {
         make_set("128 instruments of 16 samples, 64 patterns", &every_sample_shape, 1, 6),

@@ -1,4 +1,4 @@
-/* fiddlemarsh.h: checking, unpacking, packing and pressing FastTracker II (XM) modules, version 0x0104. This file is the manual.
+/* fiddlemarsh.h: checking, opening, packing and pressing FastTracker II (XM) modules, version 0x0104. This file is the manual.
 
    C99 or later, and C++. Link with libfiddlemarsh.a; of other libraries it needs at most memset and memcpy, which every libc has.
    Where it is installed:
@@ -10,8 +10,10 @@
 
    Every slice is a pointer and its length. Lengths count bytes, unless a call says otherwise. The caller owns all of it,
    before, during and after a call: the library allocates nothing, frees nothing, and keeps no pointer. A pointer must be good for
-   its whole length (readable, and for what a call fills writable), and may be NULL if the length is 0. Bytes need no alignment.
-   What a call writes must not overlap what it reads: pressing or packing in place is not possible.
+   its whole length (readable, and for what a call fills writable), and may be NULL if the length is 0. Bytes need no alignment;
+   numbers of 16 and 32 bits need that of their types.
+   What a call writes must not overlap what it reads, nor one thing that it fills another: pressing, packing or decoding in place is
+   not possible.
 
    Threads
 
@@ -45,6 +47,9 @@
        unpack              232    data_len + rows x channels
        pack                136    cells_len
        press               752    file_len: as the check, and what is written is written once
+       tables              @T@    file_len: as the check, and what is filled is read and written once more
+       decode              @D@    bytes_len
+       code                @C@    values_len
 
    Time grows in proportion to that and no faster, whatever the input holds.
 
@@ -187,38 +192,58 @@ uint64_t fiddlemarsh_pack(size_t rows, size_t channels, const uint8_t *cells, si
    Refusals: those of the check, then 14. */
 uint64_t fiddlemarsh_press(const uint8_t *file, size_t file_len, uint8_t *out, size_t out_len);
 
-/* Checks a whole module, and fills tables of what stands where in it. Their lengths count numbers, not bytes and not rows.
-   To a row belong, in this order:
-     patterns     3 numbers: the place of the data, its size in bytes, and the rows that it reads as
-     instruments  3 numbers: the place, the count of its samples, and the number of its first sample (with no samples, of the next
-                  sample there is)
-     samples      4 numbers: the place of the header, the place of the data, its length in bytes, and its width, 8 or 16
-     tunes        2 numbers for each sample: finetune and relative note, from -128 to 127
-   Rows stand in the order of the file, and patterns, instruments and samples are numbered from 0. Of a pattern row the size and
-   the rows are what fiddlemarsh_unpack takes as data_len and rows; of a sample row, length and width are fiddlemarsh_decode's.
-   Returns the end, as fiddlemarsh_check does, and has filled as many rows as the module has of each; numbers behind them stay.
-   Always enough are 256 x 3 numbers for patterns, 128 x 3 for instruments, 2048 x 4 for samples and 2048 x 2 for tunes. A table
-   that needs no row may be NULL with length 0; numbers at the end that make no whole row are room for none. Tables are aligned as
-   their types ask.
-   Refusals: 1 to 13 with the places that the check gives; then 14, place 0, if any table is too short, and then none is changed. */
+/* Checks a whole module as fiddlemarsh_check does, and fills the tables that say where everything stands: of each pattern,
+   instrument and sample a row, as described at FIDDLEMARSH_PATTERN_NUMBERS and behind it.
+   Lengths count numbers, not rows or bytes: a table of 256 patterns has the length 768. A row that is not whole counts for none, and
+   there are as many rows for samples as both samples and tunes have whole. Tables of the lengths FIDDLEMARSH_PATTERN_TABLE_MOST,
+   FIDDLEMARSH_INSTRUMENT_TABLE_MOST, FIDDLEMARSH_SAMPLE_TABLE_MOST and FIDDLEMARSH_TUNE_TABLE_MOST are enough for every module.
+   A table that needs no row may be NULL with length 0.
+   Returns the end, as the check does. How many rows were filled is told by the functions below; numbers behind them stay.
+   Refusals: those of the check, then 14 if one of the tables is too short; then none is changed. */
 uint64_t fiddlemarsh_tables(const uint8_t *file, size_t file_len, uint32_t *patterns, size_t patterns_len, uint32_t *instruments,
                             size_t instruments_len, uint32_t *samples, size_t samples_len, int8_t *tunes, size_t tunes_len);
 
-/* Turns a sample's stored bytes into its values: each value is the one before plus the stored difference, wrapped to the width.
-   width is 8 (a byte for each value) or 16 (two bytes for each, low byte first). bytes_len counts bytes, at most 16,777,216, and
-   values_len counts values, from -128 to 127 at 8 bits and from -32,768 to 32,767 at 16.
-   Returns how many values were written, from the front of values: bytes_len x 8 / width. Values behind them stay. No bytes give
-   no values, and then both slices may be NULL. values is aligned as its type asks.
-   Refusals, all with place 0: 16 (width not 8 or 16, bytes_len odd at 16 bits or above 16,777,216), then 14. */
+/* Decodes a sample's data, as they stand in a module, into signed values: each stored number is the difference from the value
+   before, and sums wrap.
+   width 8 or 16 is that of the sample; bytes_len is at most FIDDLEMARSH_FILE_MOST, and even at 16. values_len counts values.
+   Returns how many values it has filled: bytes_len, or half of it at 16. No bytes give no values.
+   Refusals, in this order: 16 (width or bytes_len), 14. */
 uint64_t fiddlemarsh_decode(size_t width, const uint8_t *bytes, size_t bytes_len, int16_t *values, size_t values_len);
 
-/* Turns a sample's values into the bytes that are stored: fiddlemarsh_decode at the same width gives the values back, where it
-   takes that many bytes.
-   values_len counts values, at most 16,777,216, and bytes_len counts bytes. At 8 bits each value is from -128 to 127.
-   Returns how many bytes were written, from the front of bytes: values_len x width / 8. Bytes behind them stay. values is aligned
-   as its type asks.
-   Refusals, all with place 0: 16 (width not 8 or 16, values_len above 16,777,216, a value that 8 bits do not hold), then 14. */
+/* Codes values as a sample's data: the way back.
+   width 8 or 16; values_len counts values, at most FIDDLEMARSH_FILE_MOST, and at 8 each is -128..127.
+   Returns how many bytes it has filled: values_len, or twice as many at 16.
+   Refusals, in this order: 16 (width, values_len or a value), 14. */
 uint64_t fiddlemarsh_code(size_t width, const int16_t *values, size_t values_len, uint8_t *bytes, size_t bytes_len);
+
+/* How much there is in a module that was accepted: for others the answers mean nothing, and for a file of under 74 bytes the memory
+   behind it would be read. */
+
+static inline uint32_t fiddlemarsh_channels(const uint8_t *file)
+{
+    return file[68] + 256u * file[69];
+}
+
+/* How many rows of the pattern table are filled. */
+static inline uint32_t fiddlemarsh_patterns(const uint8_t *file)
+{
+    return file[70] + 256u * file[71];
+}
+
+/* How many rows of the instrument table are filled. */
+static inline uint32_t fiddlemarsh_instruments(const uint8_t *file)
+{
+    return file[72] + 256u * file[73];
+}
+
+/* How many rows of the sample table are filled, by the instrument table of the same module. */
+static inline uint32_t fiddlemarsh_samples(const uint8_t *file, const uint32_t *instruments)
+{
+    uint32_t count = fiddlemarsh_instruments(file);
+    const uint32_t *last = instruments + (count > 0 ? count - 1 : 0) * FIDDLEMARSH_INSTRUMENT_NUMBERS;
+    return count > 0 ? last[FIDDLEMARSH_INSTRUMENT_FIRST_SAMPLE] + last[FIDDLEMARSH_INSTRUMENT_SAMPLES] : 0;
+}
+
 
 /* Taking an answer apart. */
 
@@ -240,7 +265,7 @@ static inline uint32_t fiddlemarsh_place(uint64_t answer)
     return fiddlemarsh_refused(answer) ? (uint32_t)answer : 0;
 }
 
-/* The end that an accepted check reports; 0 of a refusal. */
+/* The end that an accepted check reports, with tables or without; 0 of a refusal. */
 static inline uint32_t fiddlemarsh_end(uint64_t answer)
 {
     return fiddlemarsh_refused(answer) ? 0 : (uint32_t)answer;
@@ -266,6 +291,18 @@ static inline uint32_t fiddlemarsh_packed_rows(uint64_t answer)
 
 /* The length that pressing reports; 0 of a refusal. */
 static inline uint32_t fiddlemarsh_length(uint64_t answer)
+{
+    return fiddlemarsh_refused(answer) ? 0 : (uint32_t)answer;
+}
+
+/* How many values decoding reports; 0 of a refusal, and of no bytes. */
+static inline uint32_t fiddlemarsh_decoded_values(uint64_t answer)
+{
+    return fiddlemarsh_refused(answer) ? 0 : (uint32_t)answer;
+}
+
+/* How many bytes coding reports; 0 of a refusal, and of no values. */
+static inline uint32_t fiddlemarsh_coded_bytes(uint64_t answer)
 {
     return fiddlemarsh_refused(answer) ? 0 : (uint32_t)answer;
 }
@@ -350,14 +387,19 @@ static inline const char *fiddlemarsh_refusal_words(uint32_t number)
 }
 #endif
 
-/* A whole program, for 'program FILE': it checks a module, and tells the length that it would be pressed into.
+/* A whole program, for 'program FILE': it checks a module, fills the tables, unpacks every pattern and decodes every sample.
 
        #include <fiddlemarsh.h>
        #include <stdio.h>
        #include <stdlib.h>
 
        static uint8_t file[FIDDLEMARSH_FILE_MOST + 1]; // a byte more than a module may have: refused as too long, not cut
-       static uint8_t pressed[FIDDLEMARSH_FILE_MOST];
+       static uint32_t patterns[FIDDLEMARSH_PATTERN_TABLE_MOST];
+       static uint32_t instruments[FIDDLEMARSH_INSTRUMENT_TABLE_MOST];
+       static uint32_t samples[FIDDLEMARSH_SAMPLE_TABLE_MOST];
+       static int8_t tunes[FIDDLEMARSH_TUNE_TABLE_MOST];
+       static uint8_t cells[FIDDLEMARSH_CELLS_MOST];
+       static int16_t values[FIDDLEMARSH_FILE_MOST];
 
        static void stop_if_refused(const char *call, uint64_t answer)
        {
@@ -369,6 +411,33 @@ static inline const char *fiddlemarsh_refusal_words(uint32_t number)
            exit(1);
        }
 
+       static void open_pattern(uint32_t number, uint32_t channels)
+       {
+           const uint32_t *row = patterns + number * FIDDLEMARSH_PATTERN_NUMBERS;
+           uint64_t answer = fiddlemarsh_unpack(row[FIDDLEMARSH_PATTERN_ROWS], channels, file + row[FIDDLEMARSH_PATTERN_DATA_PLACE],
+                                                row[FIDDLEMARSH_PATTERN_DATA_SIZE], cells, sizeof cells);
+           stop_if_refused("unpack", answer);
+           size_t size = FIDDLEMARSH_CELLS_SIZE(fiddlemarsh_unpacked_rows(answer), channels), notes = 0;
+           for (size_t cell = 0; cell < size; cell += FIDDLEMARSH_CELL_BYTES)
+               notes += cells[cell] != 0;
+           printf("pattern %u: %u rows, %zu notes\n", (unsigned)number, (unsigned)fiddlemarsh_unpacked_rows(answer), notes);
+       }
+
+       static void open_sample(uint32_t number)
+       {
+           const uint32_t *row = samples + number * FIDDLEMARSH_SAMPLE_NUMBERS;
+           const int8_t *tune = tunes + number * FIDDLEMARSH_SAMPLE_TUNES;
+           uint64_t answer = fiddlemarsh_decode(row[FIDDLEMARSH_SAMPLE_WIDTH], file + row[FIDDLEMARSH_SAMPLE_DATA_PLACE],
+                                                row[FIDDLEMARSH_SAMPLE_LENGTH], values, FIDDLEMARSH_FILE_MOST);
+           stop_if_refused("decode", answer);
+           int highest = 0;
+           for (uint32_t i = 0; i < fiddlemarsh_decoded_values(answer); i++)
+               highest = values[i] > highest ? values[i] : highest;
+           printf("sample %u: %u values of %u bits, up to %d, finetune %d, relative note %d\n", (unsigned)number,
+                  (unsigned)fiddlemarsh_decoded_values(answer), (unsigned)row[FIDDLEMARSH_SAMPLE_WIDTH], highest,
+                  tune[FIDDLEMARSH_SAMPLE_FINETUNE], tune[FIDDLEMARSH_SAMPLE_RELATIVE_NOTE]);
+       }
+
        int main(int argc, char **argv)
        {
            FILE *in = argc == 2 ? fopen(argv[1], "rb") : NULL;
@@ -377,13 +446,15 @@ static inline const char *fiddlemarsh_refusal_words(uint32_t number)
            size_t file_len = fread(file, 1, sizeof file, in);
            fclose(in);
 
-           uint64_t answer = fiddlemarsh_check(file, file_len);
-           stop_if_refused("check", answer);
+           uint64_t answer = fiddlemarsh_tables(file, file_len, patterns, FIDDLEMARSH_PATTERN_TABLE_MOST, instruments,
+                                                FIDDLEMARSH_INSTRUMENT_TABLE_MOST, samples, FIDDLEMARSH_SAMPLE_TABLE_MOST, tunes,
+                                                FIDDLEMARSH_TUNE_TABLE_MOST);
+           stop_if_refused("tables", answer);
            printf("accepted, ends at place %u\n", (unsigned)fiddlemarsh_end(answer));
-
-           answer = fiddlemarsh_press(file, file_len, pressed, sizeof pressed);
-           stop_if_refused("press", answer);
-           printf("%zu bytes pressed into %u\n", file_len, (unsigned)fiddlemarsh_length(answer));
+           for (uint32_t i = 0; i < fiddlemarsh_patterns(file); i++)
+               open_pattern(i, fiddlemarsh_channels(file));
+           for (uint32_t i = 0; i < fiddlemarsh_samples(file, instruments); i++)
+               open_sample(i);
            return 0;
        }
 */

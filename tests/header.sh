@@ -40,14 +40,17 @@ refuses() { ! run "$1" && says "$2"; }
 
 ok "the header's program compiles" compile
 ok "it takes the example" run "$example"
-ok "it says end and length" says 'accepted, ends at place 6042
-6042 bytes pressed into 2862'
+ok "it opens it up" says 'accepted, ends at place 6042
+pattern 0: 64 rows, 32 notes
+pattern 1: 64 rows, 32 notes
+pattern 2: 64 rows, 0 notes
+sample 0: 1536 values of 8 bits, up to 96, finetune 0, relative note 12'
 head -c 400 "$example" >"$program.xm"
-ok "it refuses half of it" refuses "$program.xm" "check: refused, number 1 (cut) at place 336: the file ends before all of it is there: \
+ok "it refuses half of it" refuses "$program.xm" "tables: refused, number 1 (cut) at place 336: the file ends before all of it is there: \
 it was cut short on its way, or a size in it is wrong; save it anew and send it again"
 truncate -s 16777217 "$program.xm"
 ok "it refuses a long one" refuses "$program.xm" \
-    "check: refused, number 2 (file_too_long) at place 0: the file is over 16,777,216 bytes, too large for a board: shorten its samples"
+    "tables: refused, number 2 (file_too_long) at place 0: the file is over 16,777,216 bytes, too large for a board: shorten its samples"
 rm -f "$program.xm"
 
 echo "header: $passed passed, $failed failed"

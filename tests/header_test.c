@@ -99,6 +99,23 @@ static void test_answers(void)
     MUST(fiddlemarsh_packed_length(4194304) == 0 && fiddlemarsh_packed_rows(4194304) == 64);
     MUST(fiddlemarsh_packed_length(refused) == 0 && fiddlemarsh_packed_rows(refused) == 0);
     MUST(fiddlemarsh_length(16777216) == 16777216u && fiddlemarsh_length(refused) == 0);
+    MUST(fiddlemarsh_decoded_values(16777216) == 16777216u && fiddlemarsh_decoded_values(refused) == 0);
+    MUST(fiddlemarsh_coded_bytes(33554432) == 33554432u && fiddlemarsh_coded_bytes(refused) == 0);
+}
+
+static void test_counts(void)
+{
+    uint8_t file[80];
+    const uint32_t instruments[6] = {4000, 3, 0, 5000, 16, 3};
+    for (size_t i = 0; i < sizeof file; i++)
+        file[i] = (uint8_t)i;
+    MUST(fiddlemarsh_channels(file) == 17732 && fiddlemarsh_patterns(file) == 18246 && fiddlemarsh_instruments(file) == 18760);
+    file[72] = 2, file[73] = 0;
+    MUST(fiddlemarsh_instruments(file) == 2 && fiddlemarsh_samples(file, instruments) == 19);
+    file[72] = 1;
+    MUST(fiddlemarsh_samples(file, instruments) == 3);
+    file[72] = 0;
+    MUST(fiddlemarsh_samples(file, instruments) == 0 && fiddlemarsh_samples(file, NULL) == 0);
 }
 
 static void test_constants(void)
@@ -154,6 +171,7 @@ int main(int argc, char **argv)
     }
     test_refusals();
     test_answers();
+    test_counts();
     test_constants();
     test_readme(argv[1]);
     if (!wrong)
