@@ -46,8 +46,8 @@
        check               272    file_len: what stands in headers and patterns is read once, sample data are passed over
        unpack              232    data_len + rows x channels
        pack                136    cells_len
-       press               752    file_len: as the check, and what is written is written once
-       tables              @T@    file_len: as the check, and what is filled is read and written once more
+       press               752    file_len: as the check, and once more what is written
+       tables              @T@    file_len: as the check, and once more the headers
        decode              @D@    bytes_len
        code                @C@    values_len
 
