@@ -1,10 +1,11 @@
 /* bench.c: the library's speed as ratios to C, that of the tables and of the small reader as ratios to the check of the same file, and
    the stack of each call.
 
-   A ratio to C is the library's best time divided by the better one of two in C, compiled with -O3: the reference, which is careful
-   C, a byte at a time (no branch on what a cell holds but for empty ones, no tricks with words), and fast.c, which is written for
-   speed. All are taken in turns in one run, in processor time. Below 1 the library is faster. All buffers are written before, so no
-   page is met for the first time.
+   A ratio to C is the library's best time divided by that of C compiled with -O3: of the reference, and of the faster one of two, the
+   reference and fast.c. All are taken in turns in one run, in processor time. Below 1 the library is faster. All buffers are written
+   before, so no page is met for the first time.
+   The reference is careful C, a byte at a time: no branch on what a cell holds but for empty ones, no tricks with words. fast.c is
+   written for speed.
 
    bench [--rounds N] [--emulated-by NAME] */
 
@@ -357,8 +358,16 @@ static double ratio(const struct set *set, work *first, const struct side *first
     return first_best / second_best;
 }
 
-/* The library's best time over that of the faster C, all taken in turns; a star where that is fast.c. */
-static void say_ratio(const struct set *set, work *run)
+/* The library's best time over the reference's and over that of the faster C. */
+struct figure {
+    double to_reference;
+    double to_faster;
+    bool is_fast; /* fast.c is the faster */
+};
+
+static work *const works[] = {run_check, run_unpack, run_pack, run_press};
+
+static struct figure figure_of(const struct set *set, work *run)
 {
     const struct side *const sides[] = {&library, &reference, &fast};
     size_t times = times_for_a_turn(run, set, &reference);
@@ -369,16 +378,25 @@ static void say_ratio(const struct set *set, work *run)
             best[i] = time < best[i] ? time : best[i];
         }
     bool is_fast = best[2] < best[1];
-    printf(" %7.2f%c", best[0] / best[is_fast ? 2 : 1], is_fast ? '*' : ' ');
-    fflush(stdout);
+    return (struct figure){best[0] / best[1], best[0] / best[is_fast ? 2 : 1], is_fast};
 }
 
-static void say_ratios(const struct set *set)
+static void say_ratios(const struct set *set, struct figure *figures)
 {
-    work *const works[] = {run_check, run_unpack, run_pack, run_press};
-    printf("%-45s", set->name);
+    printf("%-46s", set->name);
+    for (size_t i = 0; i < COUNT(works); i++) {
+        figures[i] = figure_of(set, works[i]);
+        printf(" %7.2f", figures[i].to_reference);
+        fflush(stdout);
+    }
+    printf("\n");
+}
+
+static void say_faster(const struct set *set, const struct figure *figures)
+{
+    printf("%-46s", set->name);
     for (size_t i = 0; i < COUNT(works); i++)
-        say_ratio(set, works[i]);
+        printf(" %6.2f%c", figures[i].to_faster, figures[i].is_fast ? '*' : ' ');
     printf("\n");
 }
 
@@ -540,11 +558,15 @@ int main(int argc, char **argv)
         make_set("samples, near 16 MiB", &samples_shape, 1, 4),
         make_set("400 small modules", &small_shape, 400, 5),
     };
-    printf("time of the library / time of the faster C       check   unpack     pack    press\n");
+    struct figure figures[COUNT(sets)][COUNT(works)];
+    printf("time of the library / time of the reference       check  unpack    pack   press\n");
     for (size_t i = 0; i < COUNT(sets); i++) {
         must_agree(&sets[i]);
-        say_ratios(&sets[i]);
+        say_ratios(&sets[i], figures[i]);
     }
+    printf("\ntime of the library / time of the faster C        check  unpack    pack   press\n");
+    for (size_t i = 0; i < COUNT(sets); i++)
+        say_faster(&sets[i], figures[i]);
     printf("\npress of samples / memcpy of the same bytes: %.2f (the reference: %.2f)\n\n",
            ratio(&sets[3], run_press, &library, run_copy, &library), ratio(&sets[3], run_press, &reference, run_copy, &reference));
     say_delta_ratios(&sets[3]);
