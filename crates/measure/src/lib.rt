@@ -60,6 +60,7 @@ fn kept_at(stored: &[u8], place: usize, used: usize) -> usize
     k0 + k1 + k2 + k3 + k4 + k5
 }
 
+// All of four tests, which were all made: it takes no jump.
 fn all_four(a: bool, b: bool, c: bool, d: bool) -> bool
     ensures { λ r. ⌜ r ≡ (a && (b && (c && d))) ⌝ }
 {
