@@ -11,7 +11,7 @@ faultOf r = record { number = r .number; place = r .place }
 abbrev pub refusalIn : Fault → Refusal
 refusalIn f = record { number = f .number; place = f .place }
 
--- "accepted, number and place are 0".
+-- Accepted, number and place are 0.
 abbrev pub noFault : Fault
 noFault = record { number = 0; place = 0 }
 

@@ -2,7 +2,7 @@
 use Prim.Native.Nat.{ℕ, zero, suc, _+_, _*_, _≤_, _<_}
 use mathlib.Core.List.{List, [], _∷_}
 use mathlib.Core.Path.{_≡_, refl, sym, ap, ap₂, _∙_}
-use native.Mathlib.Nat.{add-assoc, add-mul, mul-le-mul-right, one-mul, suc-mul, zero-mul}
+use native.Mathlib.Nat.{add-assoc, mul-le-mul-right, zero-mul}
 use native.Mathlib.Omega.{arith}
 use lib.IntN.{ℤ}
 use lib.ListN.{length, getD, drop, replicate, length-drop, length-append, length-replicate, getD-replicate}
@@ -92,25 +92,22 @@ head-used size place s e = passed _ _ e λ h e. (ap Stretch.bytes (sym (got-valu
 next-times : (j count size : ℕ) → j < count → (j + 1) * size ≤ count * size
 next-times j count size h = mul-le-mul-right size (omega arith)
 
-times-next : (j size : ℕ) → (j + 1) * size ≡ j * size + size
-times-next j size = add-mul j 1 size ∙ ap (λ (n : ℕ). j * size + n) (one-mul size)
-
 pub record HeadsRead (file : List ℕ) (start size count j place : ℕ) : Type 0 where
   pub reached : Reached headFormat (replicate count size) file start (λ done. Unit {0}) j place
   pub there : place ≡ start + j * size
 
 module _ (file : List ℕ) (start size count : ℕ) where
   pub heads-start : HeadsRead file start size count 0 start
-  heads-start = record { reached = reached-start headFormat _ file start (λ done. Unit {0}) tt; there = omega (arith, zero-mul size) }
+  heads-start = record { reached = reached-start headFormat _ file start (λ done. Unit {0}) tt; there = omega arith }
 
   module _ {j place : ℕ} (w : HeadsRead file start size count j place) where
     pub heads-room : j < count → start + count * size ≤ length file → place + size ≤ length file
-    heads-room h l = omega (arith, w .there, next-times j count size h, times-next j size)
+    heads-room h l = omega (arith, w .there, next-times j count size h)
 
     pub heads-on : j < count → {next : ℕ} → Next next ≡ placeStep place (readHead size place (drop place file)) → HeadsRead file start size count (j + 1) next
     heads-on h e = next-got place _ e λ i n ei q. record {
       reached = reached-on headFormat _ file start (w .reached) size (rw length-replicate h) (getD-replicate count j size size h) (λ done. Unit {0}) ei q (λ t. tt);
-      there = omega (arith, w .there, times-next j size, head-used size place (drop place file) ei .1);
+      there = omega (arith, w .there, head-used size place (drop place file) ei .1);
     }
 
     pub heads-out : j < count → {step : Step} {f : Fault} → step ≡ placeStep place (readHead size place (drop place file)) → step ≡ Refused f
@@ -131,7 +128,7 @@ unfolding headsFrom
 getD-heads zero size j s d h = absurd (omega arith)
 getD-heads (suc count) size zero s d h = ap (λ (n : ℕ). headBytes size (drop n s)) (sym (zero-mul size))
 getD-heads (suc count) size (suc j) s d h =
-    let e : size + j * size ≡ suc j * size = omega (arith, suc-mul j size) in
+    let e : size + j * size ≡ suc j * size = omega arith in
     getD-heads count size j (drop size s) d (omega arith) ∙ ap (headBytes size) (drop-drop (j * size) size s ∙ ap (λ (n : ℕ). drop n s) e)
 
 -- The loop over the data
@@ -146,11 +143,11 @@ pub record DataRead (file : List ℕ) (heads size count start j head place : ℕ
 
 module _ (file : List ℕ) (heads size count start : ℕ) where
   pub data-start : start ≤ length file → DataRead file heads size count start 0 heads start
-  data-start l = record { reached = reached-start dataFormat _ file start (λ done. Unit {0}) tt; there = omega (arith, zero-mul size); inside = l }
+  data-start l = record { reached = reached-start dataFormat _ file start (λ done. Unit {0}) tt; there = omega arith; inside = l }
 
   module _ {j head place : ℕ} (w : DataRead file heads size count start j head place) where
     pub data-room : j < count → heads + count * size ≤ length file → head + size ≤ length file
-    data-room h l = omega (arith, w .there, next-times j count size h, times-next j size)
+    data-room h l = omega (arith, w .there, next-times j count size h)
 
     module _ (h : j < count) where
       same-head : (d : List ℕ) → getD (headsFrom count size (drop heads file)) j d ≡ headBytes size (drop head file)
@@ -160,7 +157,7 @@ module _ (file : List ℕ) (heads size count start : ℕ) where
       pub data-on : {next : ℕ} → Next next ≡ placeStep place (readData (headBytes size (drop head file)) place (drop place file)) → DataRead file heads size count start (j + 1) (head + size) next
       data-on e = next-got place _ e λ i n ei q. record {
         reached = reached-on dataFormat _ file start (w .reached) (headBytes size (drop head file)) (rw length-heads h) (same-head _) (λ done. Unit {0}) ei q (λ t. tt);
-        there = omega (arith, w .there, times-next j size);
+        there = omega (arith, w .there);
         inside = omega (arith, w .inside, data-inside _ place (drop place file) ei, length-drop place file);
       }
 
