@@ -19,7 +19,6 @@ use Rattle.steps.specs.declared.instrument.InstrumentStep.the-variants.{Refused
 use Rattle.refusal.specs.declared.Fault.{Fault}
 use Rattle.writers.specs.Found.{Told, readAt, pressedAt, endOf}
 use Rattle.writers.specs.Instrument.{InstrumentIs}
-use Rattle.press.specs.declared.module.Reached.{Reached}
 use Rattle.press.proofs.EachLaws.{told-got, got-told, EachLeft, each-none, each-first, each-room, each-more, each-done, each-end}
 use Rattle.writers.proofs.PatternLaws.{pattern-used}
 use Rattle.writers.proofs.InstrumentLaws.{instrument-there, never-refused, is-next-of, is-long}
@@ -91,10 +90,6 @@ module _ (file lent : List ℕ) (at channels count : ℕ) (marks : List ℕ) whe
                 (ap (λ (n : ℕ). place + n) (u ∙ sym (pattern-used file place channels 0 (f .read)))) z e;
             marked = rw add-one (first-marked .1);
           }
-
-pub reached-path : {place place′ written written′ : ℕ} → place ≡ place′ → written ≡ written′
-    → _≡_ {A = Reached} (record { place = place; written = written }) (record { place = place′; written = written′ })
-reached-path p q = cc
 
 -- The instruments that are left
 module _ (file lent : List ℕ) (at count : ℕ) where

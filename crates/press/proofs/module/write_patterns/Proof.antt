@@ -5,7 +5,7 @@ use native.Mathlib.Omega.{arith}
 use lib.ListN.{length-drop}
 use Rattle.xm.proofs.Lay.{part-all}
 use Rattle.writers.proofs.PatternLaws.{head-inside, pattern-inside}
-use Rattle.press.proofs.RowLaws.{PatternsLeft, patterns-none, pattern-told, pattern-room, patterns-more, patterns-done, reached-path}
+use Rattle.press.proofs.RowLaws.{PatternsLeft, patterns-none, pattern-told, pattern-room, patterns-more, patterns-done}
 use borrow.Author.Needs.{needs}
 use Rattle.press.proofs.module.write_patterns.Statement.{statement}
 use Rattle.press.proofs.module.write_patterns.Tie as tie
@@ -71,7 +71,7 @@ same-length : tie.Need-same-length Inv-loop μ-loop
 same-length c = c .before .loop .inv .writes .laid .kept
 
 returns : tie.Need-returns Inv-loop μ-loop
-returns c = let d = patterns-done _ _ _ _ _ _ (c .before .loop .inv) (c .loop-test .left) in (reached-path (d .0) (d .1), d .2)
+returns c = let d = patterns-done _ _ _ _ _ _ (c .before .loop .inv) (c .loop-test .left) in (cc (d .0, d .1), d .2)
 
 pub write-patterns-spec : {M : Type 1} → statement M
 write-patterns-spec =
