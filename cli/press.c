@@ -11,8 +11,8 @@
 #include <stdlib.h>
 #include <string.h>
 
-/* The files that were written into a directory so far: none of them is written over for another one. */
-struct written {
+/* Files that are not written over: those that are to be read, and those that were written into a directory so far. */
+struct kept {
     struct stat *first;
     size_t count;
 };
@@ -22,7 +22,7 @@ struct job {
     struct manner manner;
     const struct name *in;
     const char *out;
-    struct written *written; /* NULL where the user names OUT */
+    struct kept *kept; /* NULL where the user names OUT */
 };
 
 /* In a directory */
@@ -30,25 +30,25 @@ struct job {
 /* The user named no OUT, so nothing of the user's own is written over unasked. */
 static bool may_replace(const struct job *job, const struct input *input, const struct output *output)
 {
-    const struct written *written = job->written;
-    if (written == NULL || !output->replaces)
+    const struct kept *kept = job->kept;
+    if (kept == NULL || !output->replaces)
         return true;
     if (same_file(&input->about, &output->about)) {
         trouble(job->in->text, "would be written over itself: not done");
         return false;
     }
-    for (size_t i = 0; i < written->count; i++)
-        if (same_file(&written->first[i], &output->about)) {
+    for (size_t i = 0; i < kept->count; i++)
+        if (same_file(&kept->first[i], &output->about)) {
             trouble(job->in->text, "would be written over another of these files: not done");
             return false;
         }
     return true;
 }
 
-static void remember(struct written *written, const struct output *output)
+static void keep(struct kept *kept, const char *path)
 {
-    if (written != NULL && stat(output->path, &written->first[written->count]) == 0)
-        written->count++;
+    if (kept != NULL && stat(path, &kept->first[kept->count]) == 0)
+        kept->count++;
 }
 
 /* One file */
@@ -79,7 +79,7 @@ static enum status write_pressed(const struct job *job, const struct input *inpu
     }
     if (put_in_place(output) != ACCEPTED)
         return TROUBLE;
-    remember(job->written, output);
+    keep(job->kept, output->path);
     return ACCEPTED;
 }
 
@@ -117,35 +117,43 @@ enum status press_file(struct manner manner, char *in, const char *out)
 
 /* Many files */
 
-static enum status press_found(struct manner manner, const struct name *in, const char *directory, struct written *written)
+static enum status press_found(struct manner manner, const struct name *in, const char *directory, struct kept *kept)
 {
     const char *slash = strrchr(in->text, '/');
     char *out = join(directory, slash == NULL ? in->text : slash + 1);
-    enum status status = press_one(&(struct job){manner, in, out, written});
+    enum status status = press_one(&(struct job){manner, in, out, kept});
     free(out);
     return status;
+}
+
+static enum status press_all(struct manner manner, const char *directory, const struct names *names)
+{
+    struct counts counts = {{0}};
+    struct kept kept = {calloc(2 * names->count, sizeof(struct stat)), 0};
+    if (kept.first == NULL)
+        return trouble(directory, "not enough memory");
+    for (size_t i = 0; i < names->count; i++)
+        keep(&kept, names->first[i].text);
+    for (size_t i = 0; i < names->count; i++) {
+        say_progress(manner, i, names->count);
+        counts.of[press_found(manner, &names->first[i], directory, &kept)]++;
+    }
+    say_counts(manner, counts, "pressed");
+    free(kept.first);
+    return worst_of(counts);
 }
 
 enum status press_into(struct manner manner, const char *directory, int count, char **named)
 {
     struct stat about;
     struct names names = {NULL, 0, 0};
-    struct counts counts = {{0}};
     if (stat(directory, &about) != 0)
         return trouble(directory, "cannot be written into: %s", strerror(errno));
     if (!S_ISDIR(about.st_mode))
         return trouble(directory, "is not a directory");
     for (int i = 0; i < count; i++)
         add_named(&names, named[i], &about);
-    struct written written = {calloc(names.count, sizeof(struct stat)), 0};
-    if (written.first == NULL)
-        return trouble(directory, "not enough memory");
-    for (size_t i = 0; i < names.count; i++) {
-        say_progress(manner, i, names.count);
-        counts.of[press_found(manner, &names.first[i], directory, &written)]++;
-    }
-    say_counts(manner, counts, "pressed");
-    free(written.first);
+    enum status status = press_all(manner, directory, &names);
     free_names(&names);
-    return worst_of(counts);
+    return status;
 }

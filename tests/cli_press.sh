@@ -154,6 +154,10 @@ ok "and counted" says '^2 files: 1 pressed, 0 refused, 1 trouble$'
 fiddlemarsh press --into morning morning/other.xm
 ok "press --into: a file of DIR" complains_only 'fiddlemarsh: morning/other.xm: would be written over itself: not done'
 ok "stays as it is" is_same morning/other.xm example.xm
+cp pressed.xm morning/a/song.xm
+fiddlemarsh press --into morning morning/a/song.xm morning/song.xm
+ok "press --into: a file that is yet to be read" complains '^fiddlemarsh: morning/a/song.xm: would be written over another of these files: not done$'
+ok "stays as well" is_same morning/song.xm example.xm
 ln -sf ../morning/song.xm into/song.xm
 fiddlemarsh press --into into morning/song.xm
 ok "press --into: a link to a file itself" complains 'would be written over itself: not done$'
