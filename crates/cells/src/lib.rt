@@ -9,7 +9,7 @@ use slices::write::clear;
 ghost use mathlib.Core.Path.{_≡_};
 ghost use Prim.Native.Nat.{_+_, _*_, _≤_};
 ghost use mathlib.Core.Bool.{true, cond};
-ghost use lib.ListN.{replicate, length, drop};
+ghost use lib.ListN.{length, drop};
 ghost use Rattle.xm.specs.Got.{accepted};
 ghost use Rattle.xm.specs.Format.{flat};
 ghost use Rattle.xm.specs.Answer.{inFront};

@@ -1,18 +1,16 @@
 -- The loader's number for each case of a call's answer: that of the paper's answer which the case stands for.
 use Prim.Native.Nat.{ℕ, _+_, _*_}
-use Rattle.xm.specs.Answer.{Answer, gives, refuses, loaderNumber}
+use Rattle.xm.specs.Answer.{refuses, loaderNumber}
 use Rattle.refusal.specs.Fault.{refusalIn}
 use Rattle.refusal.specs.declared.Fault.{Fault}
 use Rattle.samples.specs.declared.Decoded.{Decoded}
 use Rattle.samples.specs.declared.Decoded.the-variants as decoded
 use Rattle.samples.specs.declared.Coded.{Coded}
 use Rattle.samples.specs.declared.Coded.the-variants as coded
-use Rattle.walk.specs.declared.Module.{Module}
 use Rattle.walk.specs.declared.Verdict.{Verdict}
 use Rattle.walk.specs.declared.Verdict.the-variants as verdict
 use Rattle.cells.specs.declared.Unpacked.{Unpacked}
 use Rattle.cells.specs.declared.Unpacked.the-variants as unpacked
-use Rattle.packing.specs.declared.Form.{Form}
 use Rattle.packing.specs.declared.Packed.{Packed}
 use Rattle.packing.specs.declared.Packed.the-variants as packed
 use Rattle.press.specs.declared.Pressed.{Pressed}

@@ -1,18 +1,17 @@
 -- Signed numbers as the code makes them: a number's lower and upper half, over the width that it is read at; and a value below 0 and
 -- from 0 on, as a residue. Assumes nothing.
-use Prim.Native.Nat.{ℕ, suc, _+_, _-_, _/_, _%_, _^_, _≤_, _<_}
+use Prim.Native.Nat.{ℕ, suc, _-_, _%_, _^_, _≤_, _<_}
 use mathlib.Core.Bool.{Bool, true, false, _&&_, true≢false}
 use mathlib.Core.Path.{_≡_, refl, sym, ap, _∙_, subst}
 use native.Mathlib.Nat.{not-suc-le-zero}
 use native.Mathlib.Omega.{arith}
 use lib.Dec.{T, leb, ltb}
-use lib.IntN.{ℤ, pos, negsuc, _+ℤ_, _-ℤ_, natAbs}
+use lib.IntN.{ℤ, pos, negsuc, _-ℤ_, natAbs}
 use lib.Signed.{ltZ, leZ, nonNeg}
 use borrow.Author.Tests.{leb-true, leb-false, ltb-true, lt-ltb, le-ltb}
 use mir.Syntax.{Width, w16}
 use mir.Val.{hbits, Fits, SFits, toZ, ofZ}
-use mir.Facts.{toZ-pos, toZ-ofZ, sfits-widen}
-use Rattle.xm.specs.Number.{signed}
+use mir.Facts.{toZ-ofZ, sfits-widen}
 use Rattle.xm.specs.Delta.{residue, fits}
 use Rattle.xm.proofs.Delta.{residue-below}
 

@@ -8,13 +8,13 @@ use native.Mathlib.Omega.{arith}
 use lib.Dec.{eqb}
 use lib.ListN.{length, getD, take, drop, replicate, length-append, length-take, length-map, length-replicate, List·getD-append}
 use lib.Seq.{drop-at, take-at, getD-append-add}
-use Rattle.xm.specs.Number.{Bytes, byteAt, longAt, part, signed}
+use Rattle.xm.specs.Number.{byteAt, longAt, part, signed}
 use Rattle.xm.specs.Got.{Holds}
-use Rattle.xm.specs.Format.{Format, sampleData, joined, EachGood, All}
+use Rattle.xm.specs.Format.{sampleData, joined, EachGood, All}
 use Rattle.xm.specs.PatternInFile.{PatternFound, GoodStored, patternFormat}
 use Rattle.xm.specs.Sample.{leastHead, Stretch, isWide, widthOf, lengthOf}
 use Rattle.xm.specs.Instrument.{InstrumentFound, instrumentView}
-use Rattle.xm.specs.Module.{Found, patternsFor, moduleFormat, readFile}
+use Rattle.xm.specs.Module.{patternsFor, moduleFormat}
 use Rattle.xm.specs.Delta.{widthTest, decoding, valuesOf}
 use Rattle.xm.specs.Table.{SampleRow, patternRow, sampleCount, instrumentRowsFrom, sampleRow, sampleRowsOf, sampleRowsIn, sampleRows, sampleStride, sampleNumbers}
 use Rattle.xm.specs.Press.{contentOf}

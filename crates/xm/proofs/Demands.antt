@@ -6,11 +6,10 @@ use native.Mathlib.Omega.{arith}
 use borrow.Author.Tests.{lt-ltb, le-ltb}
 use lib.IntN.{ℤ}
 use lib.ListN.{length, getD, drop, length-append, length-drop, length-map, List·getD-eq-default}
-use Rattle.xm.specs.Number.{Bytes, signed}
+use Rattle.xm.specs.Number.{Bytes}
 use Rattle.xm.specs.Got.{Refusal, got, refused, _at_, AllHold}
-use Rattle.xm.specs.Format.{Format, joined, All}
+use Rattle.xm.specs.Format.{joined, All}
 use Rattle.xm.specs.Answer.{Answer, gives, refuses, behind, numbers, inFront, loaderNumber}
-use Rattle.xm.specs.Stored.{Pattern}
 use Rattle.xm.specs.Header.{Header, songLengthAt, restartAt, restartInside, restartOf, headerOf, readHeader}
 use Rattle.xm.specs.Sample.{Stretch}
 use Rattle.xm.specs.Instrument.{Instrument, InstrumentFound, instrumentView}
@@ -18,10 +17,10 @@ use Rattle.xm.specs.Module.{Found, Content, moduleFormat, fileMost, read
 use Rattle.xm.specs.Delta.{sums, storedNumbers, decoded, decoding, coding, countWritten, limitTest}
 use Rattle.xm.specs.Table.{Checked, checkedAs, checkResults, checking, checkNumbers, checkLoader, checkingInto, checkIntoLoader, Tables, Room, roomOf, roomTests, tablesAfter, patternRows, instrumentRows, sampleRowsIn, sampleRows, patternStride, instrumentStride, sampleStride, tuneStride, patternNumbers, instrumentNumbers, sampleNumbers, sampleTunes}
 use Rattle.xm.specs.Press.{pressed, pressingAs, pressing, pressedLength, pressLoader}
-use Rattle.xm.specs.Demands.{KeepsItsWord, TablesKept, Demand₁, Demand₂, Demand₃, CheckTells, countsOf, accepts, PressReadsBack, RunningSums, PressesOnce, FileOf, RoomFor, TablesTell, RestIgnored, RestartsRead, PlaysOrders, LoaderTells, Limited, LoadersTell}
+use Rattle.xm.specs.Demands.{KeepsItsWord, TablesKept, Demand₁, Demand₂, Demand₃, CheckTells, countsOf, RunningSums, PressesOnce, FileOf, RoomFor, TablesTell, RestIgnored, RestartsRead, PlaysOrders, LoaderTells, Limited, LoadersTell}
 use Rattle.xm.proofs.Got.{refused-tests, refused-bind, got-never, pass, passed, step, step-refused, bind-got}
 use Rattle.xm.proofs.Answer.{answer-gives, answer-refuses, gives-got, gives-passed, gives-bound, gives-same, gives-refuses, refuses-refused, tests-fail, behind-holds, behind-fails, behind-gave, behind-refused, SoundRefusal, word-kept, loader-tells, accepted-gives, reported-written}
-use Rattle.xm.proofs.Format.{joined-length, cons-path}
+use Rattle.xm.proofs.Format.{joined-length}
 use Rattle.xm.proofs.Packing.{unpack-word, pack-word, unpacks-to-cells, pack-shortest, unpack-tells, pack-tells, pack-apart}
 use Rattle.xm.proofs.Delta.{valuesFrom, values-none, values-step, decoded-most, coded-most, decoding-gave, coding-gave, coding-decoding, decoding-coding}
 use Rattle.xm.proofs.Fault.{FileFault, module-faults, whole-faults}

@@ -1,14 +1,14 @@
 -- The laws of a format, and that formats put together keep them. Assumes nothing.
 use Prim.Native.Nat.{ℕ, zero, suc, _+_, _*_, _≤_}
 use mathlib.Core.Bool.{true}
-use mathlib.Core.List.{List, [], _∷_, _++_, map, append-assoc}
+use mathlib.Core.List.{List, [], _∷_, _++_, append-assoc}
 use mathlib.Core.Path.{_≡_, refl, sym, ap, ap₂, _∙_}
 use native.Mathlib.Nat.{add-assoc, add-zero, mul-zero, mul-suc, add-comm}
 use native.Mathlib.Omega.{arith}
 use lib.ListN.{length, drop, replicate, length-append, length-drop}
 use lib.Seq.{drop-append-seam, drop-drop}
 use Rattle.xm.specs.Number.{Bytes}
-use Rattle.xm.specs.Got.{Got, got, _>>=_}
+use Rattle.xm.specs.Got.{got, _>>=_}
 use Rattle.xm.specs.Format.{Region, Format, joined, flat, over, then, each, eachRead, EachGood, All}
 use Rattle.xm.specs.Structure.{isStructure}
 use Rattle.xm.specs.Region.{Adjoin}

@@ -1,11 +1,11 @@
 -- Rules for what a reading comes to, from its tests and steps; and for what an accepted reading says of them. Assumes nothing.
-use Prim.Native.Nat.{ℕ, _%_, _≤_, _<_}
-use mathlib.Core.Bool.{Bool, true, false, _&&_, not, and-eq-true-iff}
-use mathlib.Core.List.{List, [], _∷_, _++_}
+use Prim.Native.Nat.{ℕ, _%_}
+use mathlib.Core.Bool.{Bool, true, false, not, and-eq-true-iff}
+use mathlib.Core.List.{List, [], _∷_}
 use mathlib.Core.Path.{_≡_, refl, sym, ap, _∙_, subst₂}
 use native.Mathlib.Omega.{arith}
 use lib.Dec.{leb, eqb}
-use borrow.Author.Tests.{leb-true, le-leb, lt-leb, leb-false, eqb-true, eq-eqb, eqb-false, ne-eqb}
+use borrow.Author.Tests.{leb-true, le-leb, eqb-true, eq-eqb, eqb-false, ne-eqb}
 use Rattle.xm.specs.Format.{All}
 use Rattle.xm.specs.Got.{Refusal, Got, got, refused, _>>=_, _>>_, Test, present, atLeast, atMost, within, exactly, unlike, even, holds, when, passes, allPass, refusalOf, Holds, AllHold, ensure, checked}
 

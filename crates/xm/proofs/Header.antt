@@ -10,11 +10,11 @@ use lib.ListN.{length, take, drop, replicate, length-append, length-drop, length
 use lib.Seq.{length-take-le}
 use Rattle.xm.specs.Number.{Bytes, byteAt, wordAt, longAt, part}
 use Rattle.xm.specs.Got.{got, AllHold, present, atLeast, exactly, _at_}
-use Rattle.xm.specs.Header.{mark, version, sizeFrom, leastHeader, ordersMost, ordersFrom, headerEnd, countTests, headerTests, Header, HeaderFound, GoodHeader, restartInside, restartOf, headerOf, readHeader, idText, writeHeader, headerFormat}
+use Rattle.xm.specs.Header.{mark, version, sizeFrom, leastHeader, ordersMost, headerEnd, countTests, headerTests, Header, HeaderFound, GoodHeader, restartInside, restartOf, headerOf, readHeader, idText, writeHeader, headerFormat}
 use Rattle.xm.specs.Region.{Adjoin}
 use Rattle.xm.proofs.Number.{bytes-drop, bytes-take, bytes-by, bytes-zeros, word-small, Agree}
-use Rattle.xm.proofs.Got.{no-true, pass, passed, got-by, got-both, got-carry}
-use Rattle.xm.proofs.Format.{Back, ReadsBack, Keeps, Held, Adjoins, Firm}
+use Rattle.xm.proofs.Got.{no-true, pass, passed, got-both, got-carry}
+use Rattle.xm.proofs.Format.{Back, Keeps, Held, Adjoins, Firm}
 use Rattle.xm.proofs.Field.{Field, byteField, wordField, longField, textField, noField, _⊗_}
 
 -- Restart is below the song length, and what is below is kept

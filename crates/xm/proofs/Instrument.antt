@@ -1,21 +1,21 @@
 -- Laws of instruments. Assumes nothing.
 use Prim.Native.Nat.{ℕ, zero, suc, _+_, _*_, _≤_, _<_}
-use mathlib.Core.Bool.{true, false}
-use mathlib.Core.List.{List, [], _∷_, _++_, map, append-assoc, append-nil}
+use mathlib.Core.Bool.{true}
+use mathlib.Core.List.{List, [], _∷_, _++_, append-assoc, append-nil}
 use mathlib.Core.Path.{_≡_, refl, sym, ap, ap₂, _∙_, subst}
 use native.Mathlib.Nat.{add-assoc, suc-mul, zero-mul}
 use native.Mathlib.Omega.{arith}
 use lib.Dec.{ltb}
-use borrow.Author.Tests.{lt-ltb, ltb-true}
-use lib.ListN.{length, take, drop, replicate, length-append, length-drop, length-replicate}
+use borrow.Author.Tests.{lt-ltb}
+use lib.ListN.{length, drop, replicate, length-append, length-drop, length-replicate}
 use lib.Seq.{drop-at, drop-drop, length-take-le}
 use Rattle.xm.specs.Number.{Bytes, byteAt, wordAt, longAt, part, byte, word, long}
-use Rattle.xm.specs.Got.{got, Test, AllHold, present, atLeast, atMost, when, _at_}
-use Rattle.xm.specs.Format.{Format, each, joined, flat, EachGood}
-use Rattle.xm.specs.Sample.{leastHead, Samples, SamplesFound, samplesFormat, Stretch, readHead, headFormat, dataFormat}
+use Rattle.xm.specs.Got.{got, AllHold, present, atLeast, atMost, when, _at_}
+use Rattle.xm.specs.Format.{each, joined, flat, EachGood}
+use Rattle.xm.specs.Sample.{leastHead, Samples, SamplesFound, samplesFormat, Stretch, readHead, headFormat}
 use Rattle.xm.specs.Instrument.{leastInstrument, samplesMost, instrumentTests, Instrument, InstrumentFound, voiceSize, voiceOf, readInstrument, writeVoice, countOf, writeInstrument, GoodVoice, GoodInstrument, instrumentView, instrumentFormat}
 use Rattle.xm.specs.Region.{Adjoin}
-use Rattle.xm.proofs.Number.{bytes-drop, bytes-take, bytes-append, bytes-nil, bytes-cons, bytes-zeros, word-small, long-small, Agree, agree-byte, agree-word, agree-long, agree-part, agree-drop, agree-fewer}
+use Rattle.xm.proofs.Number.{bytes-drop, bytes-take, bytes-append, bytes-nil, bytes-cons, bytes-zeros, Agree, agree-byte, agree-word, agree-long, agree-part, agree-drop}
 use Rattle.xm.proofs.Got.{no-true, pass, step, passed, bind-got, got-used, got-both, got-carry}
 use Rattle.xm.proofs.Format.{Back, ReadsBack, Keeps, Held, Adjoins, Firm, Tells, each-length, flat-append}
 use Rattle.xm.proofs.Field.{Field, byteField, wordField, longField, textField, noField, _⊗_, word-plain, long-plain}

@@ -1,20 +1,19 @@
 -- Laws of a pattern in a file. Assumes nothing.
-use Prim.Native.Nat.{ℕ, _+_, _≤_, _<_}
+use Prim.Native.Nat.{ℕ, _+_, _≤_}
 use mathlib.Core.List.{List, [], _∷_, _++_}
 use mathlib.Core.Path.{_≡_, refl, sym, ap, ap₂, _∙_, subst}
 use native.Mathlib.Nat.{add-assoc}
 use native.Mathlib.Omega.{arith}
-use lib.ListN.{length, take, drop, length-append, length-drop, length-take}
-use lib.Seq.{length-take-le, take-append-seam, drop-at, drop-drop}
-use Rattle.xm.specs.Number.{Bytes, byteAt, wordAt, longAt, part, byte, word, long}
+use lib.ListN.{length, drop, length-append, length-drop, length-take}
+use lib.Seq.{length-take-le}
+use Rattle.xm.specs.Number.{wordAt, longAt, part, word, long}
 use Rattle.xm.specs.Got.{got, AllHold, present, atLeast, within, _at_}
-use Rattle.xm.specs.Format.{flat}
-use Rattle.xm.specs.Stored.{Pattern, GoodPattern, readStored, writeStored}
+use Rattle.xm.specs.Stored.{Pattern, readStored, writeStored}
 use Rattle.xm.specs.PatternInFile.{leastPattern, dataMost, patternTests, PatternFound, GoodStored, readPattern, writePattern, patternFormat}
 use Rattle.xm.specs.Region.{Adjoin}
-use Rattle.xm.proofs.Number.{bytes-drop, bytes-take, bytes-append, bytes-nil, word-small, part-drop, Agree, agree-word, agree-long, agree-part}
+use Rattle.xm.proofs.Number.{bytes-drop, bytes-take, word-small, part-drop, agree-word, agree-long, agree-part}
 use Rattle.xm.proofs.Got.{no-true, pass, step, passed, bind-got, got-both, got-carry}
-use Rattle.xm.proofs.Format.{Back, ReadsBack, Keeps, Held, Adjoins, Firm, Tells}
+use Rattle.xm.proofs.Format.{Back, Keeps, Held, Adjoins, Firm, Tells}
 use Rattle.xm.proofs.Field.{Field, byteField, wordField, longField, textField, noField, _⊗_}
 use Rattle.xm.proofs.Stored.{stored-back, stored-keeps, stored-plain}
 

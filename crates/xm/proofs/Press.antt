@@ -1,12 +1,12 @@
 -- Pressing within any format that has the laws: the file written reads as the same content, and none of that content is shorter.
 -- Assumes nothing.
 use Prim.Native.Nat.{ℕ, _≤_, _<_}
-use mathlib.Core.List.{List, [], _∷_, append-nil}
+use mathlib.Core.List.{List, [], append-nil}
 use mathlib.Core.Path.{_≡_, refl, ap, _∙_}
 use native.Mathlib.Decide.{decLe}
 use native.Mathlib.Omega.{arith}
 use lib.ListN.{length}
-use Rattle.xm.specs.Got.{got, present, _at_}
+use Rattle.xm.specs.Got.{got, _at_}
 use Rattle.xm.specs.Format.{Format}
 use Rattle.xm.specs.Answer.{Answer, gives, refuses, answered}
 use Rattle.xm.specs.Module.{fileMost}

@@ -1,14 +1,14 @@
 -- Laws of sample headers and sample data. Assumes nothing.
 use Prim.Native.Nat.{ℕ, _+_, _≤_}
 use mathlib.Core.List.{List, [], _∷_, _++_}
-use mathlib.Core.Path.{_≡_, refl, sym, ap, _∙_}
+use mathlib.Core.Path.{_≡_, refl, sym, ap}
 use native.Mathlib.Omega.{arith}
 use lib.ListN.{length, take, drop, replicate, length-append}
 use lib.Seq.{length-take-le, take-at}
-use Rattle.xm.specs.Number.{Bytes, part}
+use Rattle.xm.specs.Number.{part}
 use Rattle.xm.specs.Got.{got, AllHold}
-use Rattle.xm.specs.Format.{Format, each, All}
-use Rattle.xm.specs.Sample.{leastHead, headBytes, dataSize, headTests, Stretch, readHead, headFormat, readData, dataFormat, SamplesFound, samplesFormat}
+use Rattle.xm.specs.Format.{each, All}
+use Rattle.xm.specs.Sample.{leastHead, dataSize, headTests, Stretch, readHead, headFormat, readData, dataFormat, SamplesFound, samplesFormat}
 use Rattle.xm.specs.Region.{Adjoin}
 use Rattle.xm.proofs.Number.{bytes-take, agree-take}
 use Rattle.xm.proofs.Got.{no-true, pass, passed, bind-got, got-by, got-value, got-carry}

@@ -1,20 +1,15 @@
 -- The tables of an accepted file: every place is the start of its region, and what stands there is the content. Assumes nothing.
-use Prim.Native.Nat.{ℕ, _+_, _/_, _%_, _≤_}
-use mathlib.Core.Bool.{Bool, true, false, cond}
+use Prim.Native.Nat.{ℕ, _+_}
+use mathlib.Core.Bool.{true, false}
 use mathlib.Core.List.{List, [], _∷_, _++_, map, append-nil}
 use mathlib.Core.Path.{_≡_, refl, sym, ap, ap₂, _∙_}
-use native.Mathlib.Omega.{arith}
 use lib.Dec.{eqb}
-use lib.ListN.{length, drop, length-drop}
-use lib.Seq.{length-take-le}
-use Rattle.xm.specs.Number.{Bytes, part}
-use Rattle.xm.specs.Got.{got}
-use Rattle.xm.specs.Format.{Kind, Region, header, patternHeader, patternData, instrument, sampleHeader, sampleData, Format, joined, All}
-use Rattle.xm.specs.Sample.{Stretch, stretchRegion, SamplesFound, samplesFormat, widthOf, isWide, lengthOf, dataSize}
+use Rattle.xm.specs.Format.{Kind, header, patternHeader, patternData, instrument, sampleHeader, sampleData, joined, All}
+use Rattle.xm.specs.Sample.{Stretch, stretchRegion, SamplesFound, samplesFormat, dataSize}
 use Rattle.xm.specs.PatternInFile.{PatternFound, patternFormat}
-use Rattle.xm.specs.Instrument.{Instrument, InstrumentFound, instrumentFormat, instrumentView}
+use Rattle.xm.specs.Instrument.{InstrumentFound, instrumentFormat}
 use Rattle.xm.specs.Module.{Found, moduleFormat}
-use Rattle.xm.specs.Table.{PatternRow, InstrumentRow, SampleRow, patternRow, patternRows, sampleCount, instrumentRowsFrom, instrumentRows, sampleRow, sampleRowsOf, sampleRowsIn, sampleRows}
+use Rattle.xm.specs.Table.{PatternRow, InstrumentRow, SampleRow, patternRow, patternRows, sampleCount, instrumentRowsFrom, instrumentRows, sampleRowsOf, sampleRowsIn, sampleRows}
 use Rattle.xm.specs.Asking.{Lies}
 use Rattle.xm.specs.Structure.{kindNumber}
 use Rattle.xm.specs.Region.{ofKind}

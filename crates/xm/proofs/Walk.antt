@@ -5,7 +5,7 @@ use mathlib.Core.Path.{_≡_, refl, sym, ap, ap₂, _∙_}
 use native.Mathlib.Nat.{add-assoc, zero-add}
 use native.Mathlib.Numerals.{add-one}
 use native.Mathlib.Omega.{arith}
-use lib.ListN.{length, drop, getD, length-drop, drop-of-length-le, length-append}
+use lib.ListN.{length, drop, getD, drop-of-length-le, length-append}
 use lib.Seq.{drop-drop, drop-cons}
 use Rattle.xm.specs.Got.{Refusal, Got, got, refused, _>>=_}
 use Rattle.xm.specs.Format.{Format, eachRead}

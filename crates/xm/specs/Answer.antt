@@ -1,7 +1,7 @@
 -- What a call answers, and what the memory that it was lent holds afterwards.
 use Prim.Native.Nat.{ℕ, _+_, _*_, _^_}
 use mathlib.Core.Bool.{cond}
-use mathlib.Core.List.{List, [], _∷_, _++_, map}
+use mathlib.Core.List.{List, _∷_, _++_, map}
 use lib.ListN.{length, drop}
 use Rattle.xm.specs.Got.{Got, got, refused, Refusal, Test, passes, refusalOf}
 

@@ -3,7 +3,7 @@
 use Prim.Native.Nat.{ℕ, _+_}
 use mathlib.Core.List.{List, [], _∷_, _++_, map}
 use lib.ListN.{drop}
-use Rattle.xm.specs.Got.{Got, got, Reader, _>>=_}
+use Rattle.xm.specs.Got.{got, Reader, _>>=_}
 
 -- "The regions of an accepted file": a pattern has two, its header and its data.
 pub data Kind : Type 0 where

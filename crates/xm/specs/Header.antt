@@ -1,5 +1,5 @@
 -- The header of a module: where its fields stand, its refusals in order, and how it is written.
-use Prim.Native.Nat.{ℕ, _+_, _-_, _≤_, _<_}
+use Prim.Native.Nat.{ℕ, _+_, _-_, _<_}
 use mathlib.Core.Bool.{Bool, cond}
 use mathlib.Core.List.{List, [], _∷_, _++_}
 use mathlib.Core.Path.{_≡_}
@@ -7,7 +7,7 @@ use lib.Dec.{ltb}
 use lib.ListN.{length, replicate}
 use Rattle.xm.specs.Number.{Bytes, byteAt, wordAt, longAt, part, byte, word, long}
 use Rattle.xm.specs.Got.{got, Reader, _>>_, Test, checked, present, atLeast, atMost, within, exactly, _at_, AllHold}
-use Rattle.xm.specs.Format.{Format, Region, header, flat}
+use Rattle.xm.specs.Format.{Format, header, flat}
 use Rattle.xm.specs.Stored.{channelsMost}
 
 -- "byte 37 not 1A hex, or version not 0x0104"

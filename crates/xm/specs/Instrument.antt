@@ -1,13 +1,13 @@
 -- An instrument: "size I (4), name (22), type (1), sample count k at 27 (2). If k > 0: sample header size H at 29 (4), note map 33 ..
 -- reserved 241", to 263; "Then k sample headers of H bytes each, then the k samples' data".
 use Prim.Native.Nat.{ℕ, zero, suc, _+_, _*_, _≤_, _<_}
-use mathlib.Core.List.{List, [], _∷_, _++_}
+use mathlib.Core.List.{List, [], _∷_}
 use mathlib.Core.Path.{_≡_}
 use lib.Dec.{ltb}
 use lib.ListN.{length, drop, replicate}
 use Rattle.xm.specs.Number.{Bytes, byteAt, wordAt, longAt, part, byte, word, long}
 use Rattle.xm.specs.Got.{got, Reader, _>>=_, _>>_, Test, checked, present, atLeast, atMost, when, _at_}
-use Rattle.xm.specs.Format.{Format, Region, instrument, flat}
+use Rattle.xm.specs.Format.{Format, instrument, flat}
 use Rattle.xm.specs.Sample.{leastHead, Samples, SamplesFound, samplesFormat}
 
 -- "I = 29 or 263"

@@ -4,7 +4,7 @@ use mathlib.Core.List.{List, [], _∷_, _++_}
 use lib.ListN.{length, getD, drop}
 use Rattle.xm.specs.Got.{got, _>>=_, _>>_, Test, checked, present, atMost, within, exactly, _at_}
 use Rattle.xm.specs.Format.{flat}
-use Rattle.xm.specs.Answer.{Answer, answered, result, numbers, after, loaderNumber}
+use Rattle.xm.specs.Answer.{Answer, answered, numbers, after, loaderNumber}
 use Rattle.xm.specs.Cell.{noteMost, cellSize}
 use Rattle.xm.specs.Stored.{rowsMost, channelsMost, Pattern, readStored, writeStored, cellsOf}
 use Rattle.xm.specs.PatternInFile.{dataMost}

@@ -1,11 +1,11 @@
 -- A pattern in a file: "length L (4), packing type (1, ignored), rows (2), data size S (2). Data begins L bytes after the header's
 -- start and takes S bytes; the next structure follows at once."
 use Prim.Native.Nat.{ℕ, _+_, _≤_}
-use mathlib.Core.List.{List, [], _∷_, _++_}
+use mathlib.Core.List.{List, [], _∷_}
 use lib.ListN.{length}
 use Rattle.xm.specs.Number.{wordAt, longAt, part, byte, word, long}
 use Rattle.xm.specs.Got.{got, Reader, _>>=_, _>>_, Test, checked, present, atLeast, within, _at_}
-use Rattle.xm.specs.Format.{Format, Region, patternHeader, patternData, flat}
+use Rattle.xm.specs.Format.{Format, patternHeader, patternData, flat}
 use Rattle.xm.specs.Stored.{rowsMost, Pattern, GoodPattern, readStored, writeStored}
 
 -- "L below 9": the press writes 9.

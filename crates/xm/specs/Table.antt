@@ -7,7 +7,6 @@ use lib.ListN.{length}
 use Rattle.xm.specs.Got.{got, _>>=_, _>>_, Test, checked, present, _at_}
 use Rattle.xm.specs.Format.{joined}
 use Rattle.xm.specs.Answer.{Answer, gives, refuses, answered, numbers, inFront, after, loaderNumber}
-use Rattle.xm.specs.Stored.{Pattern}
 use Rattle.xm.specs.PatternInFile.{PatternFound}
 use Rattle.xm.specs.Sample.{Stretch, widthOf, finetune, relativeNote}
 use Rattle.xm.specs.Instrument.{InstrumentFound}
