@@ -43,13 +43,13 @@
    Stack is what a call takes below its caller's, return address included: the most that was measured on x86-64.
 
        call       stack, bytes    time grows with
-       check               272    file_len: what stands in headers and patterns is read once, sample data are passed over
-       unpack              232    data_len + rows x channels
-       pack                136    cells_len
-       press               752    file_len: as the check, and once more what is written
-       tables              @T@    file_len: as the check, and once more the headers
-       decode              @D@    bytes_len
-       code                @C@    values_len
+       check               304    file_len: what stands in headers and patterns is read once, sample data are passed over
+       unpack              216    data_len + rows x channels
+       pack                168    cells_len
+       press               656    file_len: as the check, and once more what is written
+       tables              384    file_len: as the check, and once more the headers
+       decode               24    bytes_len
+       code                 24    values_len
 
    Time grows in proportion to that and no faster, whatever the input holds.
 
