@@ -28,8 +28,9 @@ use Rattle.walk.specs.File.{verdictOf}
 use Rattle.walk.specs.declared.Module.{Module}
 use Rattle.walk.specs.declared.Verdict.the-variants as verdict
 use Rattle.tables.specs.Accepted.{Accepted}
-use Rattle.tables.specs.Place.{countsOf, patternAt}
-use Rattle.tables.specs.declared.place.Counts.{Counts}
+use Rattle.steps.specs.Step.{headerPart}
+use Rattle.tables.specs.Place.{patternAt}
+use Rattle.steps.specs.declared.header.HeaderPart.{HeaderPart}
 use Rattle.tables.specs.declared.place.PatternAt.{PatternAt}
 use Rattle.tables.proofs.VerdictLaws.{verdict-got, verdict-refused}
 use Rattle.structures.specs.declared.Standing.the-variants as standing
@@ -133,9 +134,9 @@ module _ (file : List ℕ) where
     pub start-accepted : Accepted (readFile file)
     start-accepted = verdict-got file e λ found end q v. rw q tt
 
-    pub start-reached : {c : Counts} → c ≡ countsOf file
+    pub start-reached : {c : HeaderPart} → c ≡ headerPart file
         → reached.Within (record { patterns = c .patterns; instruments = c .instruments; place = c .start; heads = 0; head = 0; «head_size» = 0 }) ≡ reachedOf (started file)
     unfolding started
     start-reached same = verdict-got file e λ found end q v.
-        ap (λ (c : Counts). reached.Within (record { patterns = c .patterns; instruments = c .instruments; place = c .start; heads = 0; head = 0; «head_size» = 0 })) same
+        ap (λ (c : HeaderPart). reached.Within (record { patterns = c .patterns; instruments = c .instruments; place = c .start; heads = 0; head = 0; «head_size» = 0 })) same
         ∙ sym (ap reachedOf (answer-gives (λ (found : Found) end. aheadAtFirst file) q))

@@ -1,9 +1,9 @@
 // One structure after the other: what a reader hands over at a call, and how far it has read then. On a plain slice and numbers, so that the
 // small reader itself has only calls and a store. The file is checked once, at the start; a call reads one structure's own fields.
 use refusal::Fault;
+use steps::header::header_part;
 use steps::instrument::InstrumentStep;
 use steps::instrument::read_instrument;
-use tables::place::header_counts;
 use tables::place::pattern_at;
 use walk::Verdict;
 use walk::check;
@@ -161,7 +161,7 @@ pub fn start_checked(file: &[u8], verdict: Verdict) -> Reached
 {
     match verdict {
         Verdict::Accepted(found) => {
-            let counts = header_counts(file);
+            let counts = header_part(file);
             Reached::Within(Ahead {
                 patterns: counts.patterns,
                 instruments: counts.instruments,

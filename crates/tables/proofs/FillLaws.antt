@@ -20,9 +20,10 @@ use Rattle.xm.specs.Table.{SampleRow, patternRow, patternRows, sampleCount, ins
 use Rattle.xm.specs.Asking.{noRow}
 use Rattle.xm.proofs.Lay.{Laid, laid-none, laid-more, laid-done}
 use Rattle.tables.specs.Accepted.{Accepted, listIn, ReadsFrom, InstrumentsFrom}
-use Rattle.tables.specs.Place.{patternAt, instrumentAt, dataEnd, Stands}
+use Rattle.steps.specs.Step.{instrumentHead}
+use Rattle.tables.specs.Place.{patternAt, dataEnd, Stands}
 use Rattle.tables.specs.declared.place.PatternAt.{PatternAt}
-use Rattle.tables.specs.declared.place.InstrumentAt.{InstrumentAt}
+use Rattle.steps.specs.declared.instrument.InstrumentHead.{InstrumentHead}
 use Rattle.tables.proofs.Reading.{accepted-small, accepted-header, reads-none}
 use Rattle.tables.proofs.InstrumentLaws.{InstrumentStands, instruments-next}
 use Rattle.tables.proofs.PlaceLoops.{Skipping, PatternFits, skipping-start, skipping-on, skipping-end}
@@ -118,14 +119,14 @@ module _ (file lent : List ℕ) where
       pub instruments-place : place ≤ length file
       instruments-place = instruments-next file (w .small) bytes (w .reads) l λ i n more ei s ep rest. omega (arith, s .inside)
 
-      module _ {x : InstrumentAt} (e : x ≡ instrumentAt place (drop place file)) where
+      module _ {x : InstrumentHead} (e : x ≡ instrumentHead place (drop place file)) where
         pub instruments-stands : Stands file x
         instruments-stands = instruments-next file (w .small) bytes (w .reads) l λ i n more ei s ep rest. rw e (s .stands)
 
         instrument-first : {i : InstrumentFound} {n : ℕ} {more : List InstrumentFound} → InstrumentStands file place i n → w .parts ≡ i ∷ more
             → joined instrumentNumbers (instrumentRowsFrom first (w .parts)) ≡ (place ∷ x .samples ∷ first ∷ []) ++ joined instrumentNumbers (instrumentRowsFrom (first + x .samples) more)
         instrument-first {i} {n} {more} s ep =
-            let k : sampleCount i ≡ x .samples = s .counted ∙ sym (ap InstrumentAt.samples e) in
+            let k : sampleCount i ≡ x .samples = s .counted ∙ sym (ap InstrumentHead.samples e) in
             ap (λ (l : List InstrumentFound). joined instrumentNumbers (instrumentRowsFrom first l)) ep
             ∙ ap₂ (λ (p n : ℕ). (p ∷ n ∷ first ∷ []) ++ joined instrumentNumbers (instrumentRowsFrom (first + n) more)) (s .starts) k
 
@@ -141,7 +142,7 @@ module _ (file lent : List ℕ) where
               parts = more;
               end = w .end;
               reads = rw behind rest;
-              few = omega (arith, w .few, s .stands .few, ap InstrumentAt.samples e);
+              few = omega (arith, w .few, s .stands .few, ap InstrumentHead.samples e);
               laid = rw f (laid-lay (w .laid) (place ∷ x .samples ∷ first ∷ []) _ (instrument-first s ep) n refl);
             }
 

@@ -19,7 +19,8 @@ use Rattle.xm.proofs.Got.{passed, bind-got, got-value, got-used, got-carry}
 use Rattle.xm.proofs.Format.{cons-path, read-length}
 use Rattle.xm.proofs.Instrument.{heads-used, instrument-keeps}
 use Rattle.tables.specs.Accepted.{ReadsFrom}
-use Rattle.tables.specs.Place.{headSizeOf, instrumentAt, dataBefore, dataStart, dataEnd, Stands, rowOf, rowsFrom}
+use Rattle.steps.specs.Step.{headSizeOf, instrumentHead}
+use Rattle.tables.specs.Place.{dataBefore, dataStart, dataEnd, Stands, rowOf, rowsFrom}
 use Rattle.tables.proofs.Reading.{reads-next}
 
 -- One header, and the data that it says
@@ -96,11 +97,11 @@ size-rows (suc k) s place bytesPlace t = refl
 -- An instrument's fields stand in the file, its rows are those of its sample headers, and the next structure starts behind their data
 pub record InstrumentStands (file : List ℕ) (place : ℕ) (i : InstrumentFound) (n : ℕ) : Type 0 where
   pub tests : AllHold (instrumentTests place (drop place file))
-  pub stands : Stands file (instrumentAt place (drop place file))
+  pub stands : Stands file (instrumentHead place (drop place file))
   pub starts : i .place ≡ place
   pub counted : sampleCount i ≡ countAt (drop place file)
-  pub rows : let x = instrumentAt place (drop place file) in sampleRowsIn i ≡ rowsFrom (x .samples) (x .«head_size») (x .heads) (dataStart x) (drop (x .heads) file)
-  pub next : place + n ≡ dataEnd file (instrumentAt place (drop place file))
+  pub rows : let x = instrumentHead place (drop place file) in sampleRowsIn i ≡ rowsFrom (x .samples) (x .«head_size») (x .heads) (dataStart x) (drop (x .heads) file)
+  pub next : place + n ≡ dataEnd file (instrumentHead place (drop place file))
   pub some : 1 ≤ n
   pub inside : place + n ≤ length file
 
@@ -128,7 +129,7 @@ module _ (file : List ℕ) (place : ℕ) where
       ∙ sym (size-rows k from (place + I) (place + I + k * headSizeOf k from) (drop (place + I) file))
 
   stands-next : {hs ds : List Stretch} {b : ℕ} → SamplesRead k H (place + I) (place + I + k * H) (drop I from) hs ds b
-      → place + (I + (k * H + b)) ≡ dataEnd file (instrumentAt place from)
+      → place + (I + (k * H + b)) ≡ dataEnd file (instrumentHead place from)
   stands-next w =
       let last : dataBefore k (headSizeOf k from) (drop (place + I) file) ≡ dataBefore k H (drop I from) =
       size-before k from (drop (place + I) file) ∙ ap (dataBefore k H) (sym (drop-drop I place file)) in

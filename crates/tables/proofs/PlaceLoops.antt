@@ -15,22 +15,15 @@ use Rattle.xm.specs.Table.{patternRow, patternNumbers}
 use Rattle.tables.specs.Accepted.{Accepted, listIn, ReadsFrom, InstrumentsFrom}
 use Rattle.tables.specs.Place.{patternAt, dataBefore, dataStart, dataEnd, Stands}
 use Rattle.tables.specs.Sought.{Left}
-use Rattle.tables.specs.declared.place.Counts.{Counts}
+use Rattle.steps.specs.declared.header.HeaderPart.{HeaderPart}
 use Rattle.tables.specs.declared.place.PatternAt.{PatternAt}
-use Rattle.tables.specs.declared.place.InstrumentAt.{InstrumentAt}
+use Rattle.steps.specs.declared.instrument.InstrumentHead.{InstrumentHead}
 use Rattle.tables.proofs.Reading.{accepted-got, reads-none, reads-next, file-reads}
 use Rattle.tables.proofs.PatternLaws.{pattern-stands}
 
 -- What is read at a place, by its fields
-pub counts-path : {a b c d e f : ℕ} → a ≡ b → c ≡ d → e ≡ f → _≡_ {A = Counts} (record { patterns = a; instruments = c; start = e }) (record { patterns = b; instruments = d; start = f })
-counts-path p q r = cc
-
 pub pattern-path : {a b c d e f : ℕ} → a ≡ b → c ≡ d → e ≡ f → _≡_ {A = PatternAt} (record { place = a; size = c; rows = e }) (record { place = b; size = d; rows = f })
 pattern-path p q r = cc
-
-pub instrument-path : {a b c d e f : ℕ} → a ≡ b → c ≡ d → e ≡ f
-    → _≡_ {A = InstrumentAt} (record { samples = a; heads = c; «head_size» = e }) (record { samples = b; heads = d; «head_size» = f })
-instrument-path p q r = cc
 
 -- So many patterns are still to be stepped over, from a place on; behind them are the instruments
 pub record Skipping (file : List ℕ) (left place : ℕ) (parts : List PatternFound) : Type 0 where
@@ -82,7 +75,7 @@ times-step zero size l = absurd (omega arith)
 times-step (suc left) size l = let z : suc left - 1 ≡ left = omega arith in rw z (omega (arith, suc-mul left size))
 
 -- The samples that are left of an instrument: all of them, and those behind the next one
-pub left-start : (file : List ℕ) (x : InstrumentAt) → Stands file x → Left file (x .«head_size») (dataEnd file x) (x .samples) (x .heads) (dataStart x)
+pub left-start : (file : List ℕ) (x : InstrumentHead) → Stands file x → Left file (x .«head_size») (dataEnd file x) (x .samples) (x .heads) (dataStart x)
 left-start file x w = record { same = refl; fits = omega (arith, w .inside); wide = w .wide; inside = w .inside }
 
 module _ (file : List ℕ) (size end : ℕ) {left head place : ℕ} (w : Left file size end left head place) where

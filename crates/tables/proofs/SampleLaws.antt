@@ -17,9 +17,10 @@ use Rattle.xm.specs.Table as row
 use Rattle.xm.specs.Table.{sampleRowsIn, sampleRows}
 use Rattle.xm.specs.Asking.{noRow}
 use Rattle.tables.specs.Accepted.{listIn, ReadsFrom, InstrumentsFrom}
-use Rattle.tables.specs.Place.{instrumentAt, dataBefore, dataStart, Stands, rowOf, rowsFrom}
+use Rattle.steps.specs.Step.{instrumentHead}
+use Rattle.tables.specs.Place.{dataBefore, dataStart, Stands, rowOf, rowsFrom}
 use Rattle.tables.specs.Sought.{Seeks, soughtFrom}
-use Rattle.tables.specs.declared.place.InstrumentAt.{InstrumentAt}
+use Rattle.steps.specs.declared.instrument.InstrumentHead.{InstrumentHead}
 use Rattle.tables.specs.declared.sample.SampleRow.{SampleRow}
 use Rattle.tables.proofs.Reading.{accepted-small, some-accepted, reads-none}
 use Rattle.tables.proofs.InstrumentLaws.{InstrumentStands, instruments-next}
@@ -136,14 +137,14 @@ module _ (file : List ℕ) (number : ℕ) (some : number < length (listIn sample
       pub seeks-tests : AllHold (instrumentTests place (drop place file))
       seeks-tests = seeks-next λ i n more s ep rest. s .tests
 
-      module _ {x : InstrumentAt} (e : x ≡ instrumentAt place (drop place file)) where
+      module _ {x : InstrumentHead} (e : x ≡ instrumentHead place (drop place file)) where
         pub seeks-stands : Stands file x
         seeks-stands = seeks-next λ i n more s ep rest. rw e (s .stands)
 
         pub seeks-on : Seeks file (record { number = number; left = x .samples; head = x .heads; «head_size» = x .«head_size»; «data_place» = dataStart x })
         seeks-on = seeks-next λ i n more s ep rest. rw e (record {
           behind = place + n;
-          here = rw (s .next) (left-start file (instrumentAt place (drop place file)) (s .stands));
+          here = rw (s .next) (left-start file (instrumentHead place (drop place file)) (s .stands));
           count = w .count - 1;
           parts = more;
           end = w .end;
@@ -152,4 +153,4 @@ module _ (file : List ℕ) (number : ℕ) (some : number < length (listIn sample
         })
 
         pub seeks-less : length file - dataStart x < length file - place
-        seeks-less = seeks-next λ i n more s ep rest. omega (arith, ap InstrumentAt.heads e, s .tests .1 .0, seeks-stands .inside)
+        seeks-less = seeks-next λ i n more s ep rest. omega (arith, ap InstrumentHead.heads e, s .tests .1 .0, seeks-stands .inside)

@@ -3,31 +3,18 @@ use Prim.Native.Nat.{ℕ, zero, suc, _+_, _*_, _≤_, _<_}
 use mathlib.Core.List.{List, [], _∷_}
 use lib.IntN.{ℤ}
 use lib.ListN.{length, drop}
-use Rattle.xm.specs.Header.{patternsAt, instrumentsAt, headerEnd}
 use Rattle.xm.specs.PatternInFile.{headSizeAt, rowsAt, dataSizeAt}
 use Rattle.xm.specs.Sample.{leastHead, headBytes, dataSize, widthOf, finetune, relativeNote}
-use Rattle.xm.specs.Instrument.{samplesMost, instrumentSizeAt, countAt, headerSizeAt}
+use Rattle.xm.specs.Instrument.{samplesMost}
 use Rattle.xm.specs.Module.{fileMost}
 use Rattle.xm.specs.Table as row
 use Rattle.steps.specs.Step.{rowsReadAs}
-use Rattle.tables.specs.declared.place.Counts.{Counts}
 use Rattle.tables.specs.declared.place.PatternAt.{PatternAt}
-use Rattle.tables.specs.declared.place.InstrumentAt.{InstrumentAt}
+use Rattle.steps.specs.declared.instrument.InstrumentHead.{InstrumentHead}
 use Rattle.tables.specs.declared.sample.SampleRow.{SampleRow}
-
-abbrev pub countsOf : (file : List ℕ) → Counts
-countsOf file = record { patterns = patternsAt file; instruments = instrumentsAt file; start = headerEnd file }
 
 abbrev pub patternAt : (place : ℕ) → List ℕ → PatternAt
 patternAt place s = record { place = place + headSizeAt s; size = dataSizeAt s; rows = rowsReadAs (rowsAt s) (dataSizeAt s) }
-
--- An instrument without samples has no H.
-abbrev pub headSizeOf : (k : ℕ) → List ℕ → ℕ
-headSizeOf zero s = 0
-headSizeOf (suc k) s = headerSizeAt s
-
-abbrev pub instrumentAt : (place : ℕ) → List ℕ → InstrumentAt
-instrumentAt place s = record { samples = countAt s; heads = place + instrumentSizeAt s; «head_size» = headSizeOf (countAt s) s }
 
 -- The bytes of the data of the first samples, whose headers stand in front of `s`.
 unfoldable pub dataBefore : (number size : ℕ) → List ℕ → ℕ
@@ -35,14 +22,14 @@ dataBefore zero size s = 0
 dataBefore (suc number) size s = dataSize (headBytes size s) + dataBefore number size (drop size s)
 
 -- Where the data of an instrument's samples begin, and where they end.
-abbrev pub dataStart : InstrumentAt → ℕ
+abbrev pub dataStart : InstrumentHead → ℕ
 dataStart x = x .heads + x .samples * x .«head_size»
 
-abbrev pub dataEnd : (file : List ℕ) → InstrumentAt → ℕ
+abbrev pub dataEnd : (file : List ℕ) → InstrumentHead → ℕ
 dataEnd file x = dataStart x + dataBefore (x .samples) (x .«head_size») (drop (x .heads) file)
 
 -- An instrument whose headers and data lie in the file.
-pub record Stands (file : List ℕ) (x : InstrumentAt) : Type 0 where
+pub record Stands (file : List ℕ) (x : InstrumentHead) : Type 0 where
   pub small : length file ≤ fileMost
   pub few : x .samples ≤ samplesMost
   pub wide : 0 < x .samples → leastHead ≤ x .«head_size»

@@ -1,12 +1,12 @@
 // The three tables of an accepted file, each filled by a second pass, in a lent table that has the room.
 use crate::place::data_end;
 use crate::place::first_instrument;
-use crate::place::header_counts;
-use crate::place::instrument_at;
 use crate::place::pattern_at;
 use crate::sample::first_sought;
 use crate::sample::put_sample;
 use crate::sample::row_step;
+use steps::header::header_part;
+use steps::instrument::instrument_head;
 ghost use mathlib.Core.Path.{_≡_};
 ghost use Prim.Native.Nat.{_+_, _≤_};
 ghost use mathlib.Core.List.{[], _∷_};
@@ -39,7 +39,7 @@ pub fn fill_patterns(file: &[u8], table: &mut [u32])
     requires { ⌜ length (joined patternNumbers (listIn patternRows (readFile (now file)))) ≤ length (now table) ⌝ }
     ensures { λ _. ⌜ now (table .exit) ≡ inFront (joined patternNumbers (listIn patternRows (readFile (now (file .entry))))) (now (table .entry)) ⌝ }
 {
-    let counts = header_counts(file);
+    let counts = header_part(file);
     let mut place = counts.start;
     let mut left = counts.patterns;
     let mut to: usize = 0;
@@ -64,13 +64,13 @@ pub fn fill_instruments(file: &[u8], table: &mut [u32])
     requires { ⌜ length (joined instrumentNumbers (listIn instrumentRows (readFile (now file)))) ≤ length (now table) ⌝ }
     ensures { λ _. ⌜ now (table .exit) ≡ inFront (joined instrumentNumbers (listIn instrumentRows (readFile (now (file .entry))))) (now (table .entry)) ⌝ }
 {
-    let counts = header_counts(file);
+    let counts = header_part(file);
     let mut place = first_instrument(file);
     let mut left = counts.instruments;
     let mut first: usize = 0;
     let mut to: usize = 0;
     while 0 < left {
-        let instrument = instrument_at(file, place);
+        let instrument = instrument_head(file, place);
         let samples = instrument.samples;
         put_three(table, to, place as u32, samples as u32, first as u32);
         place = data_end(file, instrument);

@@ -1,7 +1,7 @@
 // The row of a sample, found from the file alone.
 use crate::place::first_instrument;
-use crate::place::instrument_at;
 use asking::SAMPLE_STRIDE;
+use steps::instrument::instrument_head;
 use steps::sample::sample_head;
 ghost use mathlib.Core.Path.{_≡_};
 ghost use Prim.Native.Nat.{_+_, _*_, _<_, _≤_, _/_, _%_, _^_};
@@ -109,7 +109,7 @@ pub fn row_step(file: &[u8], from: Sought) -> RowStep
     let mut size = from.head_size;
     let mut place = from.data_place;
     while left == 0 {
-        let instrument = instrument_at(file, place);
+        let instrument = instrument_head(file, place);
         left = instrument.samples;
         head = instrument.heads;
         size = instrument.head_size;

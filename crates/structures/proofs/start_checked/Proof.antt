@@ -9,14 +9,14 @@ use Rattle.structures.proofs.start_checked.Tie as tie
 enum-known-verdict : tie.Need-enum-known-verdict
 enum-known-verdict c = search needs
 
-header-counts-requires : tie.Need-header-counts-requires
-header-counts-requires c κs = accepted-header _ (start-accepted _ (sym (c .before .verdict .given .1) ∙ c .before .before .before .before .pre)) .0
+header-part-requires : tie.Need-header-part-requires
+header-part-requires c κs = accepted-header _ (start-accepted _ (sym (c .before .verdict .given .1) ∙ c .before .before .before .before .pre)) .0
 
 enum-known-verdict-2 : tie.Need-enum-known-verdict-2
 enum-known-verdict-2 c = search needs
 
 returns : tie.Need-returns
-returns c = start-reached _ (sym (c .before .before .verdict .given .1) ∙ c .before .before .before .before .before .pre) (c .header-counts .ensures)
+returns c = start-reached _ (sym (c .before .before .verdict .given .1) ∙ c .before .before .before .before .before .pre) (c .header-part .ensures)
 
 returns-2 : tie.Need-returns-2
 returns-2 c = start-refused _ (sym (c .before .verdict2 .given .1) ∙ c .before .before .before .before .pre)
@@ -24,4 +24,4 @@ returns-2 c = start-refused _ (sym (c .before .verdict2 .given .1) ∙ c .before
 pub start-checked-spec : {M : Type 1} → statement M
 start-checked-spec =
     tie.close
-    (tie.spec enum-known-verdict header-counts-requires enum-known-verdict-2 returns returns-2)
+    (tie.spec enum-known-verdict header-part-requires enum-known-verdict-2 returns returns-2)

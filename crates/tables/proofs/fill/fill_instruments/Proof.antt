@@ -2,7 +2,7 @@
 -- laid. Assumes nothing.
 use mathlib.Core.Path.{ap}
 use native.Mathlib.Omega.{arith}
-use Rattle.tables.specs.declared.place.Counts.{Counts}
+use Rattle.steps.specs.declared.header.HeaderPart.{HeaderPart}
 use Rattle.tables.proofs.Reading.{accepted-header}
 use Rattle.tables.proofs.FillLaws.{FillingInstruments, instruments-start, instruments-tests, instruments-place, instruments-stands, instruments-room, instruments-on, instruments-done}
 use Rattle.tables.proofs.fill.fill_instruments.Statement.{statement}
@@ -14,8 +14,8 @@ Inv-loop file table₀ place₀ left₀ first₀ to₀ table place left first to
 abbrev μ-loop : tie.MeasureT-loop
 μ-loop file table₀ place₀ left₀ first₀ to₀ table place left first to = left
 
-header-counts-requires : tie.Need-header-counts-requires Inv-loop μ-loop
-header-counts-requires c κs = accepted-header _ (c .before .before .pre .0) .0
+header-part-requires : tie.Need-header-part-requires Inv-loop μ-loop
+header-part-requires c κs = accepted-header _ (c .before .before .pre .0) .0
 
 first-instrument-requires : tie.Need-first-instrument-requires Inv-loop μ-loop
 first-instrument-requires c κs = c .before .before .before .pre .0
@@ -23,40 +23,40 @@ first-instrument-requires c κs = c .before .before .before .pre .0
 loop-holds : tie.Need-loop-holds Inv-loop μ-loop
 loop-holds c =
     let p = c .before .before .before .before .pre in
-    rw (ap Counts.instruments (c .before .header-counts .ensures)) (instruments-start _ _ (p .0) (c .first-instrument .ensures) (p .1))
+    rw (ap HeaderPart.instruments (c .before .header-part .ensures)) (instruments-start _ _ (p .0) (c .first-instrument .ensures) (p .1))
 
-instrument-at-requires : tie.Need-instrument-at-requires Inv-loop μ-loop
-instrument-at-requires c κs = let w = c .before .loop .inv in (instruments-tests _ _ w (record { below = λ i. omega (arith, c .before .before .before .before .before .shared-slice-known .given i) }) (c .loop-test .taken), w .small)
+instrument-head-requires : tie.Need-instrument-head-requires Inv-loop μ-loop
+instrument-head-requires c κs = instruments-tests _ _ (c .before .loop .inv) (record { below = λ i. omega (arith, c .before .before .before .before .before .shared-slice-known .given i) }) (c .loop-test .taken)
 
 cast-put-three : tie.Need-cast-put-three Inv-loop μ-loop
 cast-put-three c = let w = c .before .before .before .loop .inv in omega (arith, instruments-place _ _ w (record { below = λ i. omega (arith, c .before .before .before .before .before .before .before .shared-slice-known .given i) }) (c .before .before .loop-test .taken), w .small)
 
 cast-put-three-2 : tie.Need-cast-put-three-2 Inv-loop μ-loop
-cast-put-three-2 c = omega (arith, instruments-stands _ _ (c .before .before .before .loop .inv) (record { below = λ i. omega (arith, c .before .before .before .before .before .before .before .shared-slice-known .given i) }) (c .before .before .loop-test .taken) (c .before .instrument-at .ensures) .few)
+cast-put-three-2 c = omega (arith, instruments-stands _ _ (c .before .before .before .loop .inv) (record { below = λ i. omega (arith, c .before .before .before .before .before .before .before .shared-slice-known .given i) }) (c .before .before .loop-test .taken) (c .before .instrument-head .ensures) .few)
 
 cast-put-three-3 : tie.Need-cast-put-three-3 Inv-loop μ-loop
 cast-put-three-3 c = omega (arith, c .before .before .before .loop .inv .few)
 
 put-three-requires : tie.Need-put-three-requires Inv-loop μ-loop
-put-three-requires c κs = instruments-room _ _ (c .before .before .before .loop .inv) (record { below = λ i. omega (arith, c .before .before .before .before .before .before .before .shared-slice-known .given i) }) (c .before .before .loop-test .taken) (c .before .instrument-at .ensures)
+put-three-requires c κs = instruments-room _ _ (c .before .before .before .loop .inv) (record { below = λ i. omega (arith, c .before .before .before .before .before .before .before .shared-slice-known .given i) }) (c .before .before .loop-test .taken) (c .before .instrument-head .ensures)
 
 data-end-requires : tie.Need-data-end-requires Inv-loop μ-loop
-data-end-requires c κs = instruments-stands _ _ (c .before .before .before .before .before .before .loop .inv) (record { below = λ i. omega (arith, c .before .before .before .before .before .before .before .before .before .before .shared-slice-known .given i) }) (c .before .before .before .before .before .loop-test .taken) (c .before .before .before .before .instrument-at .ensures)
+data-end-requires c κs = instruments-stands _ _ (c .before .before .before .before .before .before .loop .inv) (record { below = λ i. omega (arith, c .before .before .before .before .before .before .before .before .before .before .shared-slice-known .given i) }) (c .before .before .before .before .before .loop-test .taken) (c .before .before .before .before .instrument-head .ensures)
 
 sub-left : tie.Need-sub-left Inv-loop μ-loop
 sub-left c = omega arith
 
 add-first : tie.Need-add-first Inv-loop μ-loop
-add-first c = omega (arith, c .before .before .before .before .before .before .before .loop .inv .few, instruments-stands _ _ (c .before .before .before .before .before .before .before .loop .inv) (record { below = λ i. omega (arith, c .before .before .before .before .before .before .before .before .before .before .before .shared-slice-known .given i) }) (c .before .before .before .before .before .before .loop-test .taken) (c .before .before .before .before .before .instrument-at .ensures) .few)
+add-first c = omega (arith, c .before .before .before .before .before .before .before .loop .inv .few, instruments-stands _ _ (c .before .before .before .before .before .before .before .loop .inv) (record { below = λ i. omega (arith, c .before .before .before .before .before .before .before .before .before .before .before .shared-slice-known .given i) }) (c .before .before .before .before .before .before .loop-test .taken) (c .before .before .before .before .before .instrument-head .ensures) .few)
 
 add-to : tie.Need-add-to Inv-loop μ-loop
-add-to c = omega (arith, instruments-room _ _ (c .before .before .before .before .before .before .before .loop .inv) (record { below = λ i. omega (arith, c .before .before .before .before .before .before .before .before .before .before .before .shared-slice-known .given i) }) (c .before .before .before .before .before .before .loop-test .taken) (c .before .before .before .before .before .instrument-at .ensures))
+add-to c = omega (arith, instruments-room _ _ (c .before .before .before .before .before .before .before .loop .inv) (record { below = λ i. omega (arith, c .before .before .before .before .before .before .before .before .before .before .before .shared-slice-known .given i) }) (c .before .before .before .before .before .before .loop-test .taken) (c .before .before .before .before .before .instrument-head .ensures))
 
 loop-less : tie.Need-loop-less Inv-loop μ-loop
 loop-less c = omega arith
 
 loop-again : tie.Need-loop-again Inv-loop μ-loop
-loop-again c = instruments-on _ _ (c .before .before .before .before .before .before .before .loop .inv) (record { below = λ i. omega (arith, c .before .before .before .before .before .before .before .before .before .before .before .shared-slice-known .given i) }) (c .before .before .before .before .before .before .loop-test .taken) (c .before .before .before .before .before .instrument-at .ensures) (c .before .before .before .put-three .ensures) (c .data-end .ensures)
+loop-again c = instruments-on _ _ (c .before .before .before .before .before .before .before .loop .inv) (record { below = λ i. omega (arith, c .before .before .before .before .before .before .before .before .before .before .before .shared-slice-known .given i) }) (c .before .before .before .before .before .before .loop-test .taken) (c .before .before .before .before .before .instrument-head .ensures) (c .before .before .before .put-three .ensures) (c .data-end .ensures)
     (omega arith)
 
 same-length : tie.Need-same-length Inv-loop μ-loop
@@ -71,10 +71,10 @@ fill-instruments-spec =
     (tie.spec
     Inv-loop
     μ-loop
-    header-counts-requires
+    header-part-requires
     first-instrument-requires
     loop-holds
-    instrument-at-requires
+    instrument-head-requires
     cast-put-three
     cast-put-three-2
     cast-put-three-3

@@ -2,7 +2,7 @@
 -- Assumes nothing.
 use mathlib.Core.Path.{ap}
 use native.Mathlib.Omega.{arith}
-use Rattle.tables.specs.declared.place.Counts.{Counts}
+use Rattle.steps.specs.declared.header.HeaderPart.{HeaderPart}
 use Rattle.tables.proofs.Reading.{accepted-header}
 use Rattle.tables.proofs.PlaceLoops.{skipping-room}
 use Rattle.tables.proofs.FillLaws.{FillingPatterns, patterns-start, patterns-fit, patterns-room, patterns-on, patterns-done}
@@ -15,17 +15,17 @@ Inv-loop file table₀ place₀ left₀ to₀ table place left to = FillingPatte
 abbrev μ-loop : tie.MeasureT-loop
 μ-loop file table₀ place₀ left₀ to₀ table place left to = left
 
-header-counts-requires : tie.Need-header-counts-requires Inv-loop μ-loop
-header-counts-requires c κs = accepted-header _ (c .before .before .pre .0) .0
+header-part-requires : tie.Need-header-part-requires Inv-loop μ-loop
+header-part-requires c κs = accepted-header _ (c .before .before .pre .0) .0
 
 loop-holds : tie.Need-loop-holds Inv-loop μ-loop
 loop-holds c =
-    let e = c .header-counts .ensures in
+    let e = c .header-part .ensures in
     let p = c .before .before .before .pre in
-    rw (ap Counts.patterns e, ap Counts.start e) (patterns-start _ _ (p .0) (p .1))
+    rw (ap HeaderPart.patterns e, ap HeaderPart.start e) (patterns-start _ _ (p .0) (p .1))
 
 pattern-at-requires : tie.Need-pattern-at-requires Inv-loop μ-loop
-pattern-at-requires c κs = let w = c .before .loop .inv .skipping in (skipping-room _ w (c .loop-test .taken), w .small)
+pattern-at-requires c κs = skipping-room _ (c .before .loop .inv .skipping) (c .loop-test .taken)
 
 cast-put-three : tie.Need-cast-put-three Inv-loop μ-loop
 cast-put-three c =
@@ -77,7 +77,7 @@ fill-patterns-spec =
     (tie.spec
     Inv-loop
     μ-loop
-    header-counts-requires
+    header-part-requires
     loop-holds
     pattern-at-requires
     cast-put-three

@@ -5,7 +5,7 @@ use native.Mathlib.Omega.{arith}
 use Rattle.xm.specs.PatternInFile.{PatternFound}
 use Rattle.tables.proofs.Reading.{accepted-header}
 use Rattle.tables.proofs.PlaceLoops.{Skipping, skipping-start, skipping-room, skipping-on, skipping-end}
-use Rattle.tables.specs.declared.place.Counts.{Counts}
+use Rattle.steps.specs.declared.header.HeaderPart.{HeaderPart}
 use Rattle.tables.proofs.place.first_instrument.Statement.{statement}
 use Rattle.tables.proofs.place.first_instrument.Tie as tie
 
@@ -15,14 +15,14 @@ Inv-loop file place₀ left₀ place left = (parts : List PatternFound) × Skipp
 abbrev μ-loop : tie.MeasureT-loop
 μ-loop file place₀ left₀ place left = left
 
-header-counts-requires : tie.Need-header-counts-requires Inv-loop μ-loop
-header-counts-requires c κs = accepted-header _ (c .before .pre) .0
+header-part-requires : tie.Need-header-part-requires Inv-loop μ-loop
+header-part-requires c κs = accepted-header _ (c .before .pre) .0
 
 loop-holds : tie.Need-loop-holds Inv-loop μ-loop
-loop-holds c = let e = c .header-counts .ensures in rw (ap Counts.patterns e, ap Counts.start e) (_, skipping-start _ (c .before .before .pre))
+loop-holds c = let e = c .header-part .ensures in rw (ap HeaderPart.patterns e, ap HeaderPart.start e) (_, skipping-start _ (c .before .before .pre))
 
 pattern-at-requires : tie.Need-pattern-at-requires Inv-loop μ-loop
-pattern-at-requires c κs = let w = c .before .loop .inv .1 in (skipping-room _ w (c .loop-test .taken), w .small)
+pattern-at-requires c κs = skipping-room _ (c .before .loop .inv .1) (c .loop-test .taken)
 
 add-place : tie.Need-add-place Inv-loop μ-loop
 add-place c =
@@ -45,4 +45,4 @@ returns c = skipping-end _ (c .before .loop .inv .1) (omega arith) .1
 pub first-instrument-spec : {M : Type 1} → statement M
 first-instrument-spec =
     tie.close
-    (tie.spec Inv-loop μ-loop header-counts-requires loop-holds pattern-at-requires add-place sub-left loop-less loop-again returns)
+    (tie.spec Inv-loop μ-loop header-part-requires loop-holds pattern-at-requires add-place sub-left loop-less loop-again returns)

@@ -21,20 +21,20 @@ abbrev μ-loop : tie.MeasureT-loop
 loop-holds : tie.Need-loop-holds Inv-loop μ-loop
 loop-holds c = c .before .pre .2
 
-instrument-at-requires : tie.Need-instrument-at-requires Inv-loop μ-loop
-instrument-at-requires c κs = (seeks-tests _ _ (c .before .before .before .pre .0) (record { below = λ i. omega (arith, c .before .before .shared-slice-known .given i) }) (c .before .loop .inv) (c .loop-test .taken), seeks-small _ _ (c .before .before .before .pre .0) (record { below = λ i. omega (arith, c .before .before .shared-slice-known .given i) }))
+instrument-head-requires : tie.Need-instrument-head-requires Inv-loop μ-loop
+instrument-head-requires c κs = seeks-tests _ _ (c .before .before .before .pre .0) (record { below = λ i. omega (arith, c .before .before .shared-slice-known .given i) }) (c .before .loop .inv) (c .loop-test .taken)
 
 mul-place : tie.Need-mul-place Inv-loop μ-loop
-mul-place c = let w = seeks-stands _ _ (c .before .before .before .before .pre .0) (record { below = λ i. omega (arith, c .before .before .before .shared-slice-known .given i) }) (c .before .before .loop .inv) (c .before .loop-test .taken) (c .instrument-at .ensures) in omega (arith, w .inside, w .small)
+mul-place c = let w = seeks-stands _ _ (c .before .before .before .before .pre .0) (record { below = λ i. omega (arith, c .before .before .before .shared-slice-known .given i) }) (c .before .before .loop .inv) (c .before .loop-test .taken) (c .instrument-head .ensures) in omega (arith, w .inside, w .small)
 
 add-place : tie.Need-add-place Inv-loop μ-loop
-add-place c = let w = seeks-stands _ _ (c .before .before .before .before .pre .0) (record { below = λ i. omega (arith, c .before .before .before .shared-slice-known .given i) }) (c .before .before .loop .inv) (c .before .loop-test .taken) (c .instrument-at .ensures) in omega (arith, w .inside, w .small)
+add-place c = let w = seeks-stands _ _ (c .before .before .before .before .pre .0) (record { below = λ i. omega (arith, c .before .before .before .shared-slice-known .given i) }) (c .before .before .loop .inv) (c .before .loop-test .taken) (c .instrument-head .ensures) in omega (arith, w .inside, w .small)
 
 loop-less : tie.Need-loop-less Inv-loop μ-loop
-loop-less c = seeks-less _ _ (c .before .before .before .before .pre .0) (record { below = λ i. omega (arith, c .before .before .before .shared-slice-known .given i) }) (c .before .before .loop .inv) (c .before .loop-test .taken) (c .instrument-at .ensures)
+loop-less c = seeks-less _ _ (c .before .before .before .before .pre .0) (record { below = λ i. omega (arith, c .before .before .before .shared-slice-known .given i) }) (c .before .before .loop .inv) (c .before .loop-test .taken) (c .instrument-head .ensures)
 
 loop-again : tie.Need-loop-again Inv-loop μ-loop
-loop-again c = seeks-on _ _ (c .before .before .before .before .pre .0) (record { below = λ i. omega (arith, c .before .before .before .shared-slice-known .given i) }) (c .before .before .loop .inv) (c .before .loop-test .taken) (c .instrument-at .ensures)
+loop-again c = seeks-on _ _ (c .before .before .before .before .pre .0) (record { below = λ i. omega (arith, c .before .before .before .shared-slice-known .given i) }) (c .before .before .loop .inv) (c .before .loop-test .taken) (c .instrument-head .ensures)
 
 sample-row-requires : tie.Need-sample-row-requires Inv-loop μ-loop
 sample-row-requires c κs =
@@ -72,7 +72,7 @@ row-step-spec =
     Inv-loop
     μ-loop
     loop-holds
-    instrument-at-requires
+    instrument-head-requires
     mul-place
     add-place
     loop-less
