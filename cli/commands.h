@@ -8,6 +8,9 @@
 /* Checks each file, and each in a directory. */
 enum status check_files(struct manner manner, int count, char **named);
 
+/* Says which files are one song, and which are alone. */
+enum status same_files(struct manner manner, int count, char **named);
+
 /* Presses one file into another. */
 enum status press_file(struct manner manner, char *in, const char *out);
 

@@ -1,4 +1,4 @@
-/* fiddlemarsh.c: checks and presses FastTracker II modules from the command line, over libfiddlemarsh. */
+/* fiddlemarsh.c: checks, presses and compares FastTracker II modules from the command line, over libfiddlemarsh. */
 
 #define _GNU_SOURCE /* getopt_long */
 
@@ -15,18 +15,29 @@
 #include <unistd.h>
 
 static const char help[] =
-    "Checks and presses FastTracker II (XM) modules.\n"
+    "Checks, presses and compares FastTracker II (XM) modules.\n"
     "\n"
     "usage: fiddlemarsh check [--quiet] [--tsv] FILE...\n"
     "       fiddlemarsh press [--quiet] IN OUT\n"
     "       fiddlemarsh press [--quiet] --into DIR FILE...\n"
+    "       fiddlemarsh same [--quiet] [--tsv] FILE...\n"
     "       fiddlemarsh --help | --version\n"
     "\n"
     "check says of each file whether it is accepted, one line a file, and counts\n"
     "them in the last line. press writes the shortest file of the same content to\n"
     "OUT, or that of each FILE into the directory DIR, under the file's own name.\n"
     "\n"
-    "  -q, --quiet      tell only what needs a person: refused files, and trouble\n"
+    "same says which files are one song: a line for each song that comes more than\n"
+    "once, with its files in the order given, then a line for each file that is\n"
+    "alone, then one for each that is refused, and the counts. What is compared is\n"
+    "the pressed bytes, all of them: it is proved of the press that they are the\n"
+    "same exactly when the content is. How a file is stored makes no other song of\n"
+    "it: header sizes, patterns packed or plain, bytes behind the end. The module's\n"
+    "name is content, so a module under another name (in it, not the file's) is\n"
+    "another song; so are tempo, tracker name and all else that press keeps.\n"
+    "\n"
+    "  -q, --quiet      tell only what needs a person: refused files, and trouble;\n"
+    "                   with same also the songs that come more than once\n"
     "  -t, --tsv        one record a file, for scripts\n"
     "  -i, --into DIR   press every FILE into DIR, which must be there\n"
     "  -h, --help       this text\n"
@@ -34,7 +45,8 @@ static const char help[] =
     "\n"
     "A FILE or IN of - is standard input. A FILE that is a directory stands for the\n"
     "files in it, and in directories in it, whose names end in .xm or .XM; links to\n"
-    "directories are not followed.\n"
+    "directories are not followed. same reads files twice if others look like them,\n"
+    "so it takes regular files alone, and no standard input.\n"
     "\n"
     "OUT, and each file in DIR, is written whole or not at all: on any refusal or\n"
     "trouble it stays as it was, and there is no half file. IN and OUT may be the\n"
@@ -50,7 +62,9 @@ static const char help[] =
     "the module's end; how many bytes were read; the file's name. A field that has\n"
     "nothing to tell is -. In a name the backslash, and every byte that is not\n"
     "printable ASCII, is written as \\0 and three octal digits, so that printf %b\n"
-    "gives the name back.\n"
+    "gives the name back. A record of same has one field more, in front: the number\n"
+    "of the song, counted from 1, the same for all its files and - for a file that\n"
+    "is not accepted.\n"
     "\n"
     "Pressed files carry the ID text \"Extended module: \", as the rules of the boards\n"
     "have it. Players that insist on a capital M there, as FastTracker II writes it,\n"
@@ -100,6 +114,14 @@ static enum status read_options(int count, char **arguments, struct request *req
     return ACCEPTED;
 }
 
+static bool names_standard_input(int count, char **named)
+{
+    for (int i = 0; i < count; i++)
+        if (is_standard_input(named[i]))
+            return true;
+    return false;
+}
+
 static enum status run_check(const struct request *request, int count, char **named)
 {
     if (request->into != NULL)
@@ -112,7 +134,7 @@ static enum status run_check(const struct request *request, int count, char **na
 static enum status run_press(const struct request *request, int count, char **named)
 {
     if (request->manner.tsv)
-        return wrong_usage("--tsv is for check", NULL);
+        return wrong_usage("--tsv is for check and same", NULL);
     if (request->into == NULL && count != 2)
         return wrong_usage("press wants IN and OUT, or --into DIR and FILEs", NULL);
     if (request->into == NULL && is_standard_input(named[1]))
@@ -121,10 +143,20 @@ static enum status run_press(const struct request *request, int count, char **na
         return press_file(request->manner, named[0], named[1]);
     if (count == 0)
         return wrong_usage("press wants at least one FILE", NULL);
-    for (int i = 0; i < count; i++)
-        if (is_standard_input(named[i]))
-            return wrong_usage("standard input has no name to be written under: press - OUT", NULL);
+    if (names_standard_input(count, named))
+        return wrong_usage("standard input has no name to be written under: press - OUT", NULL);
     return press_into(request->manner, request->into, count, named);
+}
+
+static enum status run_same(const struct request *request, int count, char **named)
+{
+    if (request->into != NULL)
+        return wrong_usage("--into is for press", NULL);
+    if (count == 0)
+        return wrong_usage("same wants at least one FILE", NULL);
+    if (names_standard_input(count, named))
+        return wrong_usage("same may have to read a file twice, and standard input comes once: name a file", NULL);
+    return same_files(request->manner, count, named);
 }
 
 static enum status run(int count, char **arguments)
@@ -138,12 +170,14 @@ static enum status run(int count, char **arguments)
     if (request.version)
         return puts("fiddlemarsh " FIDDLEMARSH_VERSION), ACCEPTED;
     if (optind >= count)
-        return wrong_usage("a command is wanted: check or press", NULL);
+        return wrong_usage("a command is wanted: check, press or same", NULL);
     const char *command = arguments[optind++];
     if (strcmp(command, "check") == 0)
         return run_check(&request, count - optind, arguments + optind);
     if (strcmp(command, "press") == 0)
         return run_press(&request, count - optind, arguments + optind);
+    if (strcmp(command, "same") == 0)
+        return run_same(&request, count - optind, arguments + optind);
     return wrong_usage("no such command: ", command);
 }
 

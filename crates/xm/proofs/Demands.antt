@@ -16,8 +16,8 @@ use Rattle.xm.specs.Instrument.{Instrument, InstrumentFound, instrumentV
 use Rattle.xm.specs.Module.{Found, Content, moduleFormat, fileMost, readFile, plays}
 use Rattle.xm.specs.Delta.{sums, storedNumbers, decoded, decoding, coding, countWritten, limitTest}
 use Rattle.xm.specs.Table.{Checked, checkedAs, checkResults, checking, checkNumbers, checkLoader, checkingInto, checkIntoLoader, Tables, Room, roomOf, roomTests, tablesAfter, patternRows, instrumentRows, sampleRowsIn, sampleRows, patternStride, instrumentStride, sampleStride, tuneStride, patternNumbers, instrumentNumbers, sampleNumbers, sampleTunes}
-use Rattle.xm.specs.Press.{pressed, pressingAs, pressing, pressedLength, pressLoader}
-use Rattle.xm.specs.Demands.{KeepsItsWord, TablesKept, Demand₁, Demand₂, Demand₃, CheckTells, countsOf, RunningSums, PressesOnce, FileOf, RoomFor, TablesTell, RestIgnored, RestartsRead, PlaysOrders, LoaderTells, Limited, LoadersTell}
+use Rattle.xm.specs.Press.{pressed, pressingAs, pressing, pressLoader}
+use Rattle.xm.specs.Demands.{KeepsItsWord, TablesKept, Demand₁, Demand₂, Demand₃, CheckTells, countsOf, RunningSums, PressesWhole, SameBytes, RoomFor, TablesTell, RestIgnored, RestartsRead, PlaysOrders, LoaderTells, Limited, LoadersTell}
 use Rattle.xm.proofs.Got.{refused-tests, refused-bind, got-never, pass, passed, step, step-refused, bind-got}
 use Rattle.xm.proofs.Answer.{answer-gives, answer-refuses, gives-got, gives-passed, gives-bound, gives-same, gives-refuses, refuses-refused, tests-fail, behind-holds, behind-fails, behind-gave, behind-refused, SoundRefusal, word-kept, loader-tells, accepted-gives, reported-written}
 use Rattle.xm.proofs.Format.{joined-length}
@@ -27,7 +27,7 @@ use Rattle.xm.proofs.Fault.{FileFault, module-faults, whole-faults}
 use Rattle.xm.proofs.Sample.{SamplesTold}
 use Rattle.xm.proofs.Module.{module-back, module-keeps, module-firm, module-tells, whole-read, whole-firm}
 use Rattle.xm.proofs.Accepted.{rows-length}
-use Rattle.xm.proofs.Press.{pressed-exactly, pressed-shortest, pressed-reads, pressed-again, pressed-ends}
+use Rattle.xm.proofs.Press.{pressed-exactly, pressed-shortest, pressed-reads, pressed-ends, pressed-back, same-bytes}
 
 -- Check: its refusals, where it ends, and what it counts
 file-fault : (file : List ℕ) (r : Refusal) → Bytes file → checking file ≡ refuses r → FileFault file r
@@ -239,12 +239,7 @@ demand₃ = record { patterns = pack-shortest; modules = pressed-exactly moduleF
 pub demand₂ : Demand₂
 demand₂ = record {
   check = check-tells;
-  press = λ content file out f n.
-      accepted-gives (pressing file (length out)) (λ r e. press-fault file (length out) r (f .plain) e .sound .low) n λ bytes e.
-      let d = demand₃ .modules content file (length out) f in
-      let same = gives-same (sym (d .given-else (λ q. gives-refuses e q)) ∙ e) in
-      let stands = reported-written pressedLength (λ bytes. bytes) (pressing file (length out)) out bytes e (omega arith) in
-      subst (FileOf moduleFormat content) (same ∙ sym stands) (d .written);
+  press = pressed-back moduleFormat module-back module-keeps;
   unpack = unpacks-to-cells;
   decode = λ width values out room f n l.
       accepted-gives (coding width values (length out)) (λ r e. code-word width values .numbered (length out) r e .0) n λ bytes e.
@@ -258,14 +253,16 @@ demand₂ = record {
 }
 
 -- The further claims: `fifteen` stands in Packing, `accepted-files` and `asks-exactly` in Accepted, `readers-tell` in Structure
-pub presses-once : PressesOnce
-presses-once content file f = record {
+pub presses-whole : PressesWhole
+presses-whole content file f = record {
   no-longer = pressed-shortest moduleFormat module-back module-keeps f;
   ends =
       check-tells .accepted content (pressed content) (pressed-reads moduleFormat module-back module-keeps f)
       ∙ ap {B = List ℕ} (λ (n : ℕ). 0 ∷ 0 ∷ n ∷ countsOf content) (pressed-ends moduleFormat module-back module-keeps f);
-  again = pressed-again moduleFormat module-back module-keeps f;
 }
+
+pub module-bytes : SameBytes moduleFormat
+module-bytes = same-bytes moduleFormat module-back module-keeps
 
 pub tables-tell : (file : List ℕ) (room : Room) → TablesTell file room
 unfolding checkingInto

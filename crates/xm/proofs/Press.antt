@@ -1,21 +1,25 @@
--- Pressing within any format that has the laws: the file written reads as the same content, and none of that content is shorter.
--- Assumes nothing.
+-- Pressing within any format that has the laws: the file written reads as the same content, none of that content is shorter, and the
+-- same bytes are written of the same content only. Assumes nothing.
 use Prim.Native.Nat.{ℕ, _≤_, _<_}
 use mathlib.Core.List.{List, [], append-nil}
-use mathlib.Core.Path.{_≡_, refl, ap, _∙_}
+use mathlib.Core.Path.{_≡_, refl, sym, ap, _∙_}
 use native.Mathlib.Decide.{decLe}
 use native.Mathlib.Omega.{arith}
 use lib.ListN.{length}
 use Rattle.xm.specs.Got.{got, _at_}
 use Rattle.xm.specs.Format.{Format}
-use Rattle.xm.specs.Answer.{Answer, gives, refuses, answered}
+use Rattle.xm.specs.Answer.{Answer, gives, refuses, answered, numberOf}
 use Rattle.xm.specs.Module.{fileMost}
-use Rattle.xm.specs.Press.{pressingAs}
-use Rattle.xm.specs.Demands.{FileOf, PressesShortest}
-use Rattle.xm.proofs.Got.{pass, step, test-fails}
-use Rattle.xm.proofs.Answer.{gives-refuses}
+use Rattle.xm.specs.Press.{pressingAs, pressedLength, pressNumbersAs}
+use Rattle.xm.specs.Demands.{FileOf, accepts, pressedInto, PressReadsBack, PressesShortest, SameBytes}
+use Rattle.xm.proofs.Got.{pass, step, test-fails, got-value}
+use Rattle.xm.proofs.Answer.{gives-refuses, reported-written}
 use Rattle.xm.proofs.Format.{Back, Keeps, Held}
 use Rattle.xm.proofs.Module.{whole-reads, whole-read}
+
+-- A file has one content
+pub content-one : {I A : Type 0} (F : Format (Unit {0}) I A) {x y : A} {file : List ℕ} → FileOf F x file → FileOf F y file → x ≡ y
+content-one F f g = sym (f .same) ∙ ap (F .view) (got-value (sym (f .reads) ∙ g .reads)) ∙ g .same
 
 module _ {I A : Type 0} (F : Format (Unit {0}) I A) (back : Back F tt) (keeps : Keeps F tt) where
   -- Good content within the size limit is pressed to a file of that content
@@ -81,6 +85,27 @@ module _ {I A : Type 0} (F : Format (Unit {0}) I A) (back : Back F tt) (keeps : 
   unfolding pressed-reads pressed-file
   pressed-ends f = refl
 
-  -- a pressed file presses to itself
-  pub pressed-again : {x : A} {file : List ℕ} → FileOf F x file → (room : ℕ) → length (F .write x) ≤ room → pressingAs F (F .write x) room ≡ gives (F .write x)
-  pressed-again f room h = press-gives (pressed-reads f) room h
+  -- demand 2: what stands in the output is the file written
+  pub pressed-into : {x : A} {file : List ℕ} → FileOf F x file → (out : List ℕ) → accepts (pressNumbersAs F file (length out)) → pressedInto F file out ≡ F .write x
+  pressed-into {x} {file} f out n = go (decLe (length (F .write x)) (length out))
+    where
+      go : Dec (length (F .write x) ≤ length out) → pressedInto F file out ≡ F .write x
+      go (yes h) = reported-written pressedLength (λ bytes. bytes) (pressingAs F file (length out)) out (F .write x) (press-gives f (length out) h) (omega arith)
+      go (no h) = absurd (let z : _≡_ {A = ℕ} 14 0 = ap numberOf (sym (press-narrow f (length out) (omega (arith, h)))) ∙ n in omega arith)
+
+  pub pressed-back : PressReadsBack F
+  pressed-back x file out f n = rw (pressed-into f out n) (pressed-reads f)
+
+  -- the same bytes exactly of the same content; and a pressed file presses to itself
+  pub same-bytes : SameBytes F
+  same-bytes = record {
+    same-exactly = λ x y file other out lent f g n m.
+        let p = pressed-into f out n in
+        let q = pressed-into g lent m in
+        (λ e. content-one F (pressed-reads f) (rw (sym p ∙ e ∙ q) (pressed-reads g)), λ e. p ∙ ap (F .write) e ∙ sym q);
+    again = λ x file out lent f n h.
+        let p = pressed-into f out n in
+        let r : FileOf F x (pressedInto F file out) = rw p (pressed-reads f) in
+        let g = press-gives r (length lent) (omega (arith, ap length p)) in
+        (ap numberOf g, pressed-into r lent (ap numberOf g) ∙ sym p);
+  }

@@ -1,7 +1,9 @@
 -- The wrong presses are ruled out: what each writes reads as the song, and the press writes fewer bytes. By computation. Assumes nothing.
+use Prim.Native.Nat.{ℕ}
 use mathlib.Core.List.{[], _∷_, map}
 use mathlib.Core.Path.{_≡_, refl}
 use lib.Count.{ones, onesIn}
+use lib.ListN.{getD}
 use Rattle.xm.specs.Number.{wordAt, longAt}
 use Rattle.xm.specs.Got.{_>>=_, _>>_, ensure, checked}
 use Rattle.xm.specs.Cell.{lengthBy, fieldsBy, cellAt, readCell, kept, marks, kepts, marked, plainBy, goesPlain, writeCell}
@@ -12,8 +14,17 @@ use Rattle.xm.specs.Sample.{readHead, readData}
 use Rattle.xm.specs.Instrument.{readInstrument, writeVoice, writeInstrument}
 use Rattle.xm.specs.Module.{readWhole}
 use Rattle.xm.specs.Press.{pressed}
-use Rattle.xm.specs.Wrong.{song, wrongFiles, readsAs}
+use Rattle.xm.specs.Wrong.{song, wrongFiles, withTempo, forgetful, typed, readsAs}
 
 pub wrong-longer : map readsAs (pressed song ∷ wrongFiles) ≡ (song ∷ [], 662) ∷ (song ∷ [], 665) ∷ (song ∷ [], 664) ∷ (song ∷ [], 663) ∷ []
 unfolding readWhole _>>=_ _>>_ ensure checked restartInside restartOf readHeader writeHeader readPattern writePattern readStored readCells readCell cellAt fieldsBy lengthBy ones onesIn writeStored needsNoData allZero writeCell goesPlain plainBy marked kepts marks kept readHead readData readInstrument writeVoice writeInstrument wordAt longAt
 wrong-longer = refl
+
+-- One file for two songs: they differ in the tempo, and the press that forgets it gives the same bytes of both
+pub forgets : (forgetful song ≡ forgetful (withTempo 3 song)) × (song .0 .tempo ≡ 6)
+forgets = (refl, refl)
+
+-- Two files for one song: each reads as it and would be written as it stands, with its own byte at 340
+pub keeps-type : (map (λ (type : ℕ). readsAs (typed type)) (0 ∷ 1 ∷ []) ≡ (song ∷ [], 662) ∷ (song ∷ [], 662) ∷ []) × (map (λ (type : ℕ). getD (typed type) 340 9) (0 ∷ 1 ∷ []) ≡ 0 ∷ 1 ∷ [])
+unfolding readWhole _>>=_ _>>_ ensure checked restartInside restartOf readHeader writeHeader readPattern writePattern readStored readCells readCell cellAt fieldsBy lengthBy ones onesIn writeStored needsNoData allZero writeCell goesPlain plainBy marked kepts marks kept readHead readData readInstrument writeVoice writeInstrument wordAt longAt
+keeps-type = (refl, refl)

@@ -1,6 +1,7 @@
 -- The three demands, and the paper's further claims, as statements over these definitions. docs/PROMISES.md says where each is proved.
--- `Demand₁`, `Demand₂`, `Demand₃`; then of packing `Fifteen`; of pressing `PressesOnce`; of the check's tables `TablesTell`; of accepted
--- files `AcceptedFiles`, `AsksExactly`, `RestIgnored`, `RestartsRead`, `PlaysOrders`; of the small reader `ReadersTell`; of the loader `LoadersTell`.
+-- `Demand₁`, `Demand₂`, `Demand₃`; then of packing `Fifteen`; of pressing `PressesWhole` and `SameBytes`; of the check's tables `TablesTell`; of
+-- accepted files `AcceptedFiles`, `AsksExactly`, `RestIgnored`, `RestartsRead`, `PlaysOrders`; of the small reader `ReadersTell`; of the loader
+-- `LoadersTell`.
 use Prim.Native.Nat.{ℕ, _+_, _*_, _/_, _%_, _^_, _≤_, _<_}
 use mathlib.Core.Bool.{true, cond}
 use mathlib.Core.List.{List, [], _∷_, _++_, map}
@@ -105,10 +106,14 @@ pub record CheckTells : Type 0 where
   pub refused-so : (file : List ℕ) (r : Refusal) → readFile file ≡ refused r → checkNumbers file ≡ r .number ∷ r .place ∷ 0 ∷ 0 ∷ 0 ∷ 0 ∷ 0 ∷ []
   pub acceptable : (file : List ℕ) → Bytes file → accepts (checkNumbers file) → (content : Content) × FileOf moduleFormat content file
 
+-- The bytes that pressing leaves in the output it was lent, by the length that it reports.
+abbrev pub pressedInto : {I A : Type 0} → Format (Unit {0}) I A → (file out : List ℕ) → List ℕ
+pressedInto F file out = take (resultIn (pressNumbersAs F file (length out)) 0) (pressAfterAs F file out)
+
 -- "Pressing gives back a file that reads as the same content", of any format that reads whole files.
 abbrev pub PressReadsBack : {I A : Type 0} → Format (Unit {0}) I A → Type 0
 PressReadsBack {I} {A} F = (content : A) (file out : List ℕ) → FileOf F content file → accepts (pressNumbersAs F file (length out))
-    → FileOf F content (take (resultIn (pressNumbersAs F file (length out)) 0) (pressAfterAs F file out))
+    → FileOf F content (pressedInto F file out)
 
 -- "Unpacking a packed pattern returns its cells": by the length and the rows that packing reports.
 pub record UnpacksToCells (rows channels : ℕ) (cells lent : List ℕ) (reported after : List ℕ) : Type 0 where
@@ -168,14 +173,22 @@ pub record Fifteen : Type 0 where
   pub at-51 : rowsMost * 51 * cellMost ≤ dataMost
   pub at-52 : (cells : List ℕ) × WellFormed rowsMost 52 cells × ((room : ℕ) → packing rowsMost 52 cells room ≡ refuses (15 at 0))
 
--- The pressed length "never exceeds the input's"; the pressed file is used to its last byte, and pressing it changes nothing.
-pub record PressedOnce (content : Content) (file : List ℕ) : Type 0 where
+-- The pressed length "never exceeds the input's"; the pressed file is used to its last byte.
+pub record PressedWhole (content : Content) (file : List ℕ) : Type 0 where
   pub no-longer : length (pressed content) ≤ length file
   pub ends : checkNumbers (pressed content) ≡ 0 ∷ 0 ∷ length (pressed content) ∷ countsOf content
-  pub again : (room : ℕ) → length (pressed content) ≤ room → pressing (pressed content) room ≡ gives (pressed content)
 
-abbrev pub PressesOnce : Type 0
-PressesOnce = (content : Content) (file : List ℕ) → FileOf moduleFormat content file → PressedOnce content file
+abbrev pub PressesWhole : Type 0
+PressesWhole = (content : Content) (file : List ℕ) → FileOf moduleFormat content file → PressedWhole content file
+
+-- "two accepted files of one format press to the same bytes, room given, exactly when their content is equal, and .. pressing a pressed
+-- file changes nothing": of any format that reads whole files.
+pub record SameBytes {I A : Type 0} (F : Format (Unit {0}) I A) : Type 0 where
+  pub same-exactly : (content content′ : A) (file file′ out out′ : List ℕ) → FileOf F content file → FileOf F content′ file′
+      → accepts (pressNumbersAs F file (length out)) → accepts (pressNumbersAs F file′ (length out′))
+      → (pressedInto F file out ≡ pressedInto F file′ out′) ↔ (content ≡ content′)
+  pub again : (content : A) (file out out′ : List ℕ) → FileOf F content file → accepts (pressNumbersAs F file (length out))
+      → length (pressedInto F file out) ≤ length out′ → accepts (pressNumbersAs F (pressedInto F file out) (length out′)) × (pressedInto F (pressedInto F file out) out′ ≡ pressedInto F file out)
 
 -- The check that fills tables: the file's own refusal first, then 14 exactly when a count is above the rows lent.
 abbrev pub RoomFor : Room → Found → Type 0

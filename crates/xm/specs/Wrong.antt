@@ -12,7 +12,7 @@ use Rattle.xm.specs.PatternInFile.{PatternFound, leastPattern, writePatt
 use Rattle.xm.specs.Sample.{leastHead, samplesFormat}
 use Rattle.xm.specs.Instrument.{Instrument, leastInstrument, voiceSize, countOf, writeInstrument}
 use Rattle.xm.specs.Module.{Found, Content, readFile}
-use Rattle.xm.specs.Press.{contentOf}
+use Rattle.xm.specs.Press.{contentOf, pressed}
 
 -- The song: two patterns of one cell, whose instrument alone is not 0, and an instrument with a sample of one byte.
 abbrev pub song : Content
@@ -79,6 +79,35 @@ longInstrument x = flat (
 
 abbrev pub wrongFiles : List (List ℕ)
 wrongFiles = firstPacked saved (readFile saved) ∷ fileBy longPattern writeInstrument song ∷ fileBy writePattern longInstrument song ∷ []
+
+-- A14: a press that forgets a field gives one file for two songs; one that keeps what is no content gives two files for one.
+abbrev pub withTempo : ℕ → Content → Content
+withTempo tempo content = (
+  record {
+    moduleName = content .0 .moduleName;
+    trackerName = content .0 .trackerName;
+    songLength = content .0 .songLength;
+    restart = content .0 .restart;
+    channels = content .0 .channels;
+    patterns = content .0 .patterns;
+    instruments = content .0 .instruments;
+    flags = content .0 .flags;
+    tempo = tempo;
+    bpm = content .0 .bpm;
+    orders = content .0 .orders;
+  },
+  content .1,
+)
+
+abbrev pub forgetful : Content → List ℕ
+forgetful content = pressed (withTempo 0 content)
+
+-- The packing type, which is ignored, as found.
+abbrev pub typedPattern : (type : ℕ) → Pattern → List ℕ
+typedPattern type p = flat (long leastPattern ∷ byte type ∷ word (p .rows) ∷ word (length (writeStored p)) ∷ writeStored p ∷ [])
+
+abbrev pub typed : (type : ℕ) → List ℕ
+typed type = fileBy (typedPattern type) writeInstrument song
 
 -- What a file reads as, and how many bytes it takes.
 abbrev pub contentsIn : Got Found → List Content
