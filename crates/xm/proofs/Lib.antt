@@ -1,3 +1,4 @@
+pub mod Abacus
 pub mod Number
 pub mod Got
 pub mod Answer

@@ -1,0 +1,104 @@
+-- The definitions worked on small numbers, by computation. Modules are checked in the order of their names, and this one before the laws: so a wrong
+-- definition is refused first by a number that differs. Assumes nothing.
+use Prim.Native.Nat.{ℕ}
+use mathlib.Core.List.{List, [], _∷_, map}
+use mathlib.Core.Path.{_≡_, refl}
+use lib.Count.{ones, onesIn}
+use lib.IntN.{pos, negsuc}
+use lib.ListN.{length, replicate}
+use Rattle.xm.specs.Number.{wordAt, longAt, signed}
+use Rattle.xm.specs.Got.{Got, got, refused, _>>=_, _>>_, ensure, checked}
+use Rattle.xm.specs.Format.{Region, Kind, header, patternHeader, patternData, instrument, sampleHeader, sampleData}
+use Rattle.xm.specs.Answer.{loaderNumber}
+use Rattle.xm.specs.Cell.{lengthBy, fieldsBy, cellAt, readCell, kept, marks, kepts, marked, plainBy, goesPlain, writeCell}
+use Rattle.xm.specs.Stored.{readCells, readStored, allZero, needsNoData, writeStored, cellsOf}
+use Rattle.xm.specs.Header.{restartInside, restartOf, readHeader, writeHeader}
+use Rattle.xm.specs.PatternInFile.{PatternFound, readPattern, writePattern}
+use Rattle.xm.specs.Sample.{Stretch, readHead, readData}
+use Rattle.xm.specs.Instrument.{readInstrument, writeVoice, writeInstrument}
+use Rattle.xm.specs.Module.{readWhole, plays}
+use Rattle.xm.specs.Packing.{unpacking, unpackNumbers, unpackAfter, packing, packNumbers, packLoader}
+use Rattle.xm.specs.Delta.{pairs, storedNumbers, sums, decoded, decoding, decodeNumbers}
+use Rattle.xm.specs.Table.{InstrumentRow, instrumentRowsFrom, checking, checkNumbers, checkingInto, checkIntoLoader, sampleNumbers}
+use Rattle.xm.specs.Asking.{asking, askNumbers, askingFlat}
+use Rattle.xm.specs.Structure.{kindNumber, structuresOf, handHead}
+use Rattle.xm.specs.Press.{pressed}
+use Rattle.xm.specs.Wrong.{song}
+
+-- The bytes used and some numbers of what is read; none of a refusal
+abbrev pub numbersIn : {A : Type 0} → (A → List ℕ) → Got A → List ℕ
+numbersIn f (got a n) = n ∷ f a
+numbersIn f (refused r) = []
+
+-- A pattern at 100, whose header has ten bytes and whose data has one: this stands at 110
+pub long-header : numbersIn (λ (i : PatternFound). i .place ∷ i .headSize ∷ i .dataPlace ∷ i .dataSize ∷ []) (readPattern 1 100 (10 ∷ 0 ∷ 0 ∷ 0 ∷ 0 ∷ 1 ∷ 0 ∷ 1 ∷ 0 ∷ 0 ∷ 0x80 ∷ [])) ≡ 11 ∷ 100 ∷ 10 ∷ 110 ∷ 1 ∷ []
+unfolding readPattern _>>=_ _>>_ ensure checked readStored readCells readCell cellAt fieldsBy lengthBy ones onesIn wordAt longAt
+long-header = refl
+
+-- A sample of one byte, 5, with another behind it
+pub one-byte : numbersIn Stretch.bytes (readData (1 ∷ replicate 39 0) 0 (5 ∷ 6 ∷ [])) ≡ 1 ∷ 5 ∷ []
+unfolding readData _>>_ ensure checked longAt
+one-byte = refl
+
+-- A step of 1 from 127 wraps; two values are two
+pub wraps : decoded 8 (127 ∷ 1 ∷ []) ≡ pos 127 ∷ negsuc 127 ∷ []
+unfolding decoded storedNumbers pairs sums signed
+wraps = refl
+
+pub two-values : decodeNumbers 8 (127 ∷ 1 ∷ []) 2 ≡ 0 ∷ 0 ∷ 2 ∷ []
+unfolding decoding decoded storedNumbers pairs sums _>>_ ensure checked
+two-values = refl
+
+-- Two empty cells are two bytes. Three are packed, and unpacked; a note and an empty cell are three bytes, in two rows: 3 + 65,536 × 2
+pub two-empty : writeStored (record { rows = 2; cells = replicate 2 (replicate 5 0) }) ≡ 0x80 ∷ 0x80 ∷ []
+unfolding writeStored needsNoData allZero writeCell goesPlain plainBy marked kepts marks kept ones onesIn
+two-empty = refl
+
+pub three-packed : (packNumbers 3 1 (replicate 15 0) 3 ≡ 0 ∷ 0 ∷ 3 ∷ 3 ∷ []) × (packLoader 2 1 (1 ∷ replicate 9 0) 3 ≡ 131075)
+unfolding packing cellsOf _>>_ ensure checked writeStored needsNoData allZero writeCell goesPlain plainBy marked kepts marks kept ones onesIn loaderNumber
+three-packed = (refl, refl)
+
+pub three-unpacked : (unpackNumbers 3 1 (replicate 3 0x80) 15 ≡ 0 ∷ 0 ∷ 3 ∷ []) × (unpackAfter 1 1 (0x80 ∷ []) (replicate 6 7) ≡ 0 ∷ 0 ∷ 0 ∷ 0 ∷ 0 ∷ 7 ∷ [])
+unfolding unpacking _>>=_ _>>_ ensure checked readStored readCells readCell cellAt fieldsBy lengthBy ones onesIn
+three-unpacked = (refl, refl)
+
+-- Behind an instrument without samples the first sample is still number 0
+pub no-samples : map InstrumentRow.first (instrumentRowsFrom 0 (replicate 2 (record { place = 0; size = 29; name = []; type = 0; voice = []; samples = ([], []) }))) ≡ 0 ∷ 0 ∷ []
+no-samples = refl
+
+-- One byte at 2 is asked for by the numbers of its row
+pub one-asked : askNumbers (askingFlat (7 ∷ 8 ∷ 9 ∷ []) (sampleNumbers (record { headerPlace = 0; dataPlace = 2; size = 1; width = 8; finetune = pos 0; relativeNote = pos 0 })) 0) ≡ 0 ∷ 0 ∷ 2 ∷ 1 ∷ []
+unfolding asking _>>_ ensure checked
+one-asked = refl
+
+-- Three kinds are handed over; of two sample headers one is left
+pub three-kinds : map (λ (r : Region). kindNumber (r .kind)) (structuresOf (map (λ (k : Kind). record { kind = k; place = 0; size = 0 }) (header ∷ patternHeader ∷ patternData ∷ instrument ∷ sampleHeader ∷ sampleData ∷ []))) ≡ 1 ∷ 3 ∷ 4 ∷ []
+three-kinds = refl
+
+pub one-left : handHead (record { patterns = 0; instruments = 0; place = 0; heads = 2; head = 0; headSize = 40 }) .ahead .heads ≡ 1
+one-left = refl
+
+-- At two channels an order entry that names no pattern plays 128 cells
+pub two-channels : length (plays (
+  record {
+    moduleName = [];
+    trackerName = [];
+    songLength = 1;
+    restart = 0;
+    channels = 2;
+    patterns = 0;
+    instruments = 0;
+    flags = 0;
+    tempo = 6;
+    bpm = 125;
+    orders = 0 ∷ [];
+  },
+  ([], []),
+) 0 .cells) ≡ 128
+unfolding plays
+two-channels = refl
+
+-- No bytes are refused; the song's file is read to its end, with and without tables
+pub song-checked : (checkNumbers [] ≡ 1 ∷ 0 ∷ 0 ∷ 0 ∷ 0 ∷ 0 ∷ 0 ∷ []) × (checkNumbers (pressed song) ≡ 0 ∷ 0 ∷ 662 ∷ 1 ∷ 2 ∷ 1 ∷ 1 ∷ []) × (checkIntoLoader (record { patterns = 2; instruments = 1; samples = 1 }) (pressed song) ≡ 662)
+unfolding checking checkingInto loaderNumber readWhole _>>=_ _>>_ ensure checked restartInside restartOf readHeader writeHeader readPattern writePattern readStored readCells readCell cellAt fieldsBy lengthBy ones onesIn writeStored needsNoData allZero writeCell goesPlain plainBy marked kepts marks kept readHead readData readInstrument writeVoice writeInstrument wordAt longAt
+song-checked = (refl, refl, refl)
