@@ -15,11 +15,11 @@ use Rattle.xm.specs.Stored.{readCells, readStored, allZero, needsNoData,
 use Rattle.xm.specs.Header.{restartInside, restartOf, readHeader, writeHeader}
 use Rattle.xm.specs.PatternInFile.{PatternFound, readPattern, writePattern}
 use Rattle.xm.specs.Sample.{Stretch, readHead, readData}
-use Rattle.xm.specs.Instrument.{readInstrument, writeVoice, writeInstrument}
+use Rattle.xm.specs.Instrument.{InstrumentFound, readInstrument, writeVoice, writeInstrument, instrumentFormat}
 use Rattle.xm.specs.Module.{readWhole, plays}
 use Rattle.xm.specs.Packing.{unpacking, unpackNumbers, unpackAfter, packing, packNumbers, packLoader}
 use Rattle.xm.specs.Delta.{pairs, storedNumbers, sums, decoded, decoding, decodeNumbers}
-use Rattle.xm.specs.Table.{InstrumentRow, instrumentRowsFrom, checking, checkNumbers, checkingInto, checkIntoLoader, sampleNumbers}
+use Rattle.xm.specs.Table.{patternRow, InstrumentRow, instrumentRowsFrom, checking, checkNumbers, checkingInto, checkIntoLoader, patternNumbers, sampleNumbers}
 use Rattle.xm.specs.Asking.{asking, askNumbers, askingFlat}
 use Rattle.xm.specs.Structure.{kindNumber, structuresOf, handHead}
 use Rattle.xm.specs.Press.{pressed}
@@ -30,8 +30,8 @@ abbrev pub numbersIn : {A : Type 0} → (A → List ℕ) → Got A → List ℕ
 numbersIn f (got a n) = n ∷ f a
 numbersIn f (refused r) = []
 
--- A pattern at 100, whose header has ten bytes and whose data has one: this stands at 110
-pub long-header : numbersIn (λ (i : PatternFound). i .place ∷ i .headSize ∷ i .dataPlace ∷ i .dataSize ∷ []) (readPattern 1 100 (10 ∷ 0 ∷ 0 ∷ 0 ∷ 0 ∷ 1 ∷ 0 ∷ 1 ∷ 0 ∷ 0 ∷ 0x80 ∷ [])) ≡ 11 ∷ 100 ∷ 10 ∷ 110 ∷ 1 ∷ []
+-- A pattern at 100, whose header has ten bytes and whose data has one: its row says 110, one byte, one row
+pub long-header : numbersIn (λ (i : PatternFound). patternNumbers (patternRow i)) (readPattern 1 100 (10 ∷ 0 ∷ 0 ∷ 0 ∷ 0 ∷ 1 ∷ 0 ∷ 1 ∷ 0 ∷ 0 ∷ 0x80 ∷ [])) ≡ 11 ∷ 110 ∷ 1 ∷ 1 ∷ []
 unfolding readPattern _>>=_ _>>_ ensure checked readStored readCells readCell cellAt fieldsBy lengthBy ones onesIn wordAt longAt
 long-header = refl
 
@@ -62,9 +62,12 @@ pub three-unpacked : (unpackNumbers 3 1 (replicate 3 0x80) 15 ≡ 0 ∷ 0 ∷ 3 
 unfolding unpacking _>>=_ _>>_ ensure checked readStored readCells readCell cellAt fieldsBy lengthBy ones onesIn
 three-unpacked = (refl, refl)
 
--- Behind an instrument without samples the first sample is still number 0
-pub no-samples : map InstrumentRow.first (instrumentRowsFrom 0 (replicate 2 (record { place = 0; size = 29; name = []; type = 0; voice = []; samples = ([], []) }))) ≡ 0 ∷ 0 ∷ []
-no-samples = refl
+-- An instrument of 29 bytes without samples takes so many; behind it the first sample is still number 0
+abbrev pub bare : InstrumentFound
+bare = record { place = 0; size = 29; name = []; type = 0; voice = []; samples = ([], []) }
+
+pub no-samples : (map Region.size (instrumentFormat .regions bare) ≡ 29 ∷ []) × (map InstrumentRow.first (instrumentRowsFrom 0 (bare ∷ bare ∷ [])) ≡ 0 ∷ 0 ∷ [])
+no-samples = (refl, refl)
 
 -- One byte at 2 is asked for by the numbers of its row
 pub one-asked : askNumbers (askingFlat (7 ∷ 8 ∷ 9 ∷ []) (sampleNumbers (record { headerPlace = 0; dataPlace = 2; size = 1; width = 8; finetune = pos 0; relativeNote = pos 0 })) 0) ≡ 0 ∷ 0 ∷ 2 ∷ 1 ∷ []
