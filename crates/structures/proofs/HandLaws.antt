@@ -33,11 +33,12 @@ use Rattle.tables.specs.Place.{patternAt}
 use Rattle.steps.specs.declared.header.HeaderPart.{HeaderPart}
 use Rattle.tables.specs.declared.place.PatternAt.{PatternAt}
 use Rattle.tables.proofs.VerdictLaws.{verdict-got, verdict-refused}
+use Rattle.structures.specs.declared.Standing.{Standing}
 use Rattle.structures.specs.declared.Standing.the-variants as standing
 use Rattle.structures.specs.declared.Ahead.{Ahead}
 use Rattle.structures.specs.declared.Reached.the-variants as reached
 use Rattle.structures.specs.declared.Handed.{Handed}
-use Rattle.structures.specs.Handing.{aheadIn, handedWith, handedOf, reachedOf}
+use Rattle.structures.specs.Handing.{aheadOf, aheadIn, handedWith, handedOf, reachedOf}
 
 -- What has to lie in the file, and does or does not
 module _ (a b : ℕ) (x : structure.Handed) (ahead : Ahead) where
@@ -47,11 +48,33 @@ module _ (a b : ℕ) (x : structure.Handed) (ahead : Ahead) where
   pub is-there : a ≤ b → {h : Handed} → h ≡ handedOf x → h ≡ handedOf (cond (leb a b) x (endsAt (aheadIn ahead)))
   is-there l e = rw (le-leb a b l) e
 
+-- How far has been read, number by number
+pub record Reads (x y : Ahead) : Type 0 where
+  pub patterns : x .patterns ≡ y .patterns
+  pub instruments : x .instruments ≡ y .instruments
+  pub place : x .place ≡ y .place
+  pub heads : x .heads ≡ y .heads
+  pub head : x .head ≡ y .head
+  pub head-size : x .«head_size» ≡ y .«head_size»
+
+ahead-path : {p p′ i i′ l l′ k k′ h h′ n n′ : ℕ} → p ≡ p′ → i ≡ i′ → l ≡ l′ → k ≡ k′ → h ≡ h′ → n ≡ n′
+    → _≡_ {A = Ahead} (record { patterns = p; instruments = i; place = l; heads = k; head = h; «head_size» = n }) (record { patterns = p′; instruments = i′; place = l′; heads = k′; head = h′; «head_size» = n′ })
+ahead-path p i l k h n = cc
+
+handed-by : {s : Standing} {x y : Ahead} {r : Handed} → r ≡ handedWith s x → Reads x y → r ≡ handedWith s y
+handed-by {s} e w = e ∙ ap (handedWith s) (ahead-path (w .patterns) (w .instruments) (w .place) (w .heads) (w .head) (w .head-size))
+
+-- A sample header
+pub head-handed : (ahead : Ahead) {x : Ahead} {r : Handed} → r ≡ handedWith (standing.SampleHeader (ahead .head)) x → Reads x (aheadOf (handHead (aheadIn ahead) .ahead)) → r ≡ handedOf (handHead (aheadIn ahead))
+head-handed ahead made reads = handed-by made reads
+
 -- A pattern, by what was read at its place
-pub pattern-handed : (s : List ℕ) (ahead : Ahead) {x : PatternAt} → x ≡ patternAt (ahead .place) s
-    → handedWith (standing.Pattern (ahead .place)) (record { patterns = ahead .patterns - 1; instruments = ahead .instruments; place = x .place + x .size; heads = 0; head = 0; «head_size» = 0 }) ≡ handedOf (handPattern s (aheadIn ahead))
-pattern-handed s ahead e =
-    ap (λ (x : PatternAt). handedWith (standing.Pattern (ahead .place)) (record { patterns = ahead .patterns - 1; instruments = ahead .instruments; place = x .place + x .size; heads = 0; head = 0; «head_size» = 0 })) e
+abbrev pub patternNext : Ahead → PatternAt → Ahead
+patternNext ahead at = record { patterns = ahead .patterns - 1; instruments = ahead .instruments; place = at .place + at .size; heads = 0; head = 0; «head_size» = 0 }
+
+pub pattern-handed : (s : List ℕ) (ahead : Ahead) {at : PatternAt} {x : Ahead} {r : Handed} → at ≡ patternAt (ahead .place) s → r ≡ handedWith (standing.Pattern (ahead .place)) x → Reads x (patternNext ahead at)
+    → r ≡ handedOf (handPattern s (aheadIn ahead))
+pattern-handed s ahead e made reads = handed-by made reads ∙ ap (λ (at : PatternAt). handedWith (standing.Pattern (ahead .place)) (patternNext ahead at)) e
 
 pub pattern-fits : (file : List ℕ) (place : ℕ) → Bytes file → length file ≤ fileMost → place + leastPattern ≤ length file → {x : PatternAt} → x ≡ patternAt place (drop place file) → x .place + x .size < 2 ^ 64
 pattern-fits file place bytes small there e =
@@ -65,7 +88,7 @@ partIn other (step.Refused fault) = other
 read-never : {A : Type 0} {part : InstrumentPart} {fault : Fault} → step.Read part ≡ step.Refused fault → A
 read-never e = absurd (let z : _≡_ {A = ℕ} 0 1 = cc in omega arith)
 
-abbrev partNext : Ahead → InstrumentPart → Ahead
+abbrev pub partNext : Ahead → InstrumentPart → Ahead
 partNext ahead part = record {
   patterns = ahead .patterns;
   instruments = ahead .instruments - 1;
@@ -76,11 +99,11 @@ partNext ahead part = record {
 }
 
 module _ (ahead : Ahead) where
-  pub instrument-handed : (g : Got InstrumentFound) {part : InstrumentPart} → step.Read part ≡ instrumentStep (ahead .place) g
-      → handedWith (standing.Instrument (ahead .place)) (partNext ahead part) ≡ handedOf (handInstrument g (aheadIn ahead))
-  instrument-handed (got i n) {part} e =
-      ap (λ (p : InstrumentPart). handedWith (standing.Instrument (ahead .place)) (partNext ahead p)) (ap (partIn part) e)
-  instrument-handed (refused r) e = read-never e
+  pub instrument-handed : (g : Got InstrumentFound) {part : InstrumentPart} {x : Ahead} {r : Handed} → step.Read part ≡ instrumentStep (ahead .place) g
+      → r ≡ handedWith (standing.Instrument (ahead .place)) x → Reads x (partNext ahead part) → r ≡ handedOf (handInstrument g (aheadIn ahead))
+  instrument-handed (got i n) {part} e made reads =
+      handed-by made reads ∙ ap (λ (p : InstrumentPart). handedWith (standing.Instrument (ahead .place)) (partNext ahead p)) (ap (partIn part) e)
+  instrument-handed (refused r) e made reads = read-never e
 
   pub instrument-not : (g : Got InstrumentFound) {s : InstrumentStep} {fault : Fault} → s ≡ instrumentStep (ahead .place) g → s ≡ step.Refused fault
       → handedWith standing.End ahead ≡ handedOf (handInstrument g (aheadIn ahead))

@@ -18,7 +18,7 @@ returns : tie.Need-returns
 returns c = c .hand-over .ensures ∙ ap (handing _) (sym (c .before .before .reached .given .1))
 
 returns-2 : tie.Need-returns-2
-returns-2 c = sym (ap (handing _) (c .before .reached2 .given .1))
+returns-2 c = sym (ap (handing (c .before .before .before .before .args .file .now)) (c .before .reached2 .given .1))
 
 pub hand-spec : {M : Type 1} → statement M
 hand-spec =

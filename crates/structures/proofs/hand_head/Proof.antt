@@ -2,7 +2,7 @@
 use mathlib.Core.Path.{_∙_}
 use native.Mathlib.Omega.{arith}
 use Prim.Native.Nat.{_+_}
-use Rattle.structures.proofs.HandLaws.{not-there, is-there}
+use Rattle.structures.proofs.HandLaws.{not-there, is-there, head-handed}
 use borrow.Author.Needs.{needs}
 use Rattle.structures.proofs.hand_head.Statement.{statement}
 use Rattle.structures.proofs.hand_head.Tie as tie
@@ -32,7 +32,7 @@ with-ahead-requires-3 c κs = search needs
 
 returns-3 : tie.Need-returns-3
 returns-3 c =
-    let a = c .before .before .before .before .args in is-there (a .ahead .head + a .ahead .«head_size») (a .length) _ (a .ahead) (omega arith) (c .with-ahead3 .ensures)
+    let a = c .before .before .before .before .args in is-there (a .ahead .head + a .ahead .«head_size») (a .length) _ (a .ahead) (omega arith) (head-handed (a .ahead) (c .with-ahead3 .ensures) (omega arith))
 
 pub hand-head-spec : {M : Type 1} → statement M
 hand-head-spec =

@@ -42,7 +42,7 @@ with-ahead-requires-3 c κs = search needs
 
 returns-3 : tie.Need-returns-3
 returns-3 c =
-    let a = c .before .before .before .before .before .before .before .before .before .args in is-there (a .ahead .place) (length (a .file .now)) _ (a .ahead) (omega arith) (c .with-ahead3 .ensures ∙ instrument-handed (a .ahead) (readInstrument (a .ahead .place) (drop (a .ahead .place) (a .file .now))) (sym (c .before .before .before .before .step .given .1) ∙ c .before .before .before .before .before .before .read-instrument .ensures))
+    let a = c .before .before .before .before .before .before .before .before .before .args in is-there (a .ahead .place) (length (a .file .now)) _ (a .ahead) (omega arith) (instrument-handed (a .ahead) (readInstrument (a .ahead .place) (drop (a .ahead .place) (a .file .now))) (sym (c .before .before .before .before .step .given .1) ∙ c .before .before .before .before .before .before .read-instrument .ensures) (c .with-ahead3 .ensures) (omega arith))
 
 pub hand-instrument-spec : {M : Type 1} → statement M
 hand-instrument-spec =

@@ -41,7 +41,7 @@ with-ahead-requires-3 c κs = search needs
 
 returns-3 : tie.Need-returns-3
 returns-3 c =
-    let a = c .before .before .before .before .before .before .before .args in is-there (a .ahead .place + leastPattern) (length (a .file .now)) _ (a .ahead) (omega arith) (c .with-ahead3 .ensures ∙ pattern-handed _ (a .ahead) (c .before .before .before .pattern-at .ensures))
+    let a = c .before .before .before .before .before .before .before .args in is-there (a .ahead .place + leastPattern) (length (a .file .now)) _ (a .ahead) (omega arith) (pattern-handed _ (a .ahead) (c .before .before .before .pattern-at .ensures) (c .with-ahead3 .ensures) (omega arith))
 
 pub hand-pattern-spec : {M : Type 1} → statement M
 hand-pattern-spec =
