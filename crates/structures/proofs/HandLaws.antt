@@ -69,7 +69,7 @@ pub head-handed : (ahead : Ahead) {x : Ahead} {r : Handed} → r ≡ handedWith 
 head-handed ahead made reads = handed-by made reads
 
 -- A pattern, by what was read at its place
-abbrev pub patternNext : Ahead → PatternAt → Ahead
+abbrev patternNext : Ahead → PatternAt → Ahead
 patternNext ahead at = record { patterns = ahead .patterns - 1; instruments = ahead .instruments; place = at .place + at .size; heads = 0; head = 0; «head_size» = 0 }
 
 pub pattern-handed : (s : List ℕ) (ahead : Ahead) {at : PatternAt} {x : Ahead} {r : Handed} → at ≡ patternAt (ahead .place) s → r ≡ handedWith (standing.Pattern (ahead .place)) x → Reads x (patternNext ahead at)
@@ -88,7 +88,7 @@ partIn other (step.Refused fault) = other
 read-never : {A : Type 0} {part : InstrumentPart} {fault : Fault} → step.Read part ≡ step.Refused fault → A
 read-never e = absurd (let z : _≡_ {A = ℕ} 0 1 = cc in omega arith)
 
-abbrev pub partNext : Ahead → InstrumentPart → Ahead
+abbrev partNext : Ahead → InstrumentPart → Ahead
 partNext ahead part = record {
   patterns = ahead .patterns;
   instruments = ahead .instruments - 1;

@@ -26,8 +26,10 @@ length-by lead bits from = go (ltb lead 128) refl
 few : (bits : ℕ) → ones (bitAnd bits 31) ≤ 5
 few bits = ones-le 5 (bitAnd bits 31) (mask-lt bits 5)
 
+returns : tie.Need-returns
+returns c = length-by _ _ _ (c .before .bits-by .ensures) (c .fields-from .ensures .0)
+
 pub cell-length-spec : {M : Type 1} → statement M
 cell-length-spec =
     tie.close
-    (tie.spec (λ c κs. search needs) (λ c κs. search needs) (λ c. omega (arith, few (c .before .bits-by .result))) (λ c. omega (arith, few (c .before .bits-by .result)))
-    (λ c. length-by _ _ _ (c .before .bits-by .ensures) (c .fields-from .ensures .0)))
+    (tie.spec (λ c κs. search needs) (λ c κs. search needs) (λ c. omega (arith, few (c .before .bits-by .result))) (λ c. omega (arith, few (c .before .bits-by .result))) returns)
