@@ -12,12 +12,12 @@ returns : tie.Need-returns
 returns c = rw (c .before .before .before .pre .0 .nothing (c .if1 .taken)) (refl, refl)
 
 copy-requires : tie.Need-copy-requires
-copy-requires c κs = let p = c .before .before .before .before .before .pre .0 in omega (arith, ap length (p .already (cc)))
+copy-requires c κs = let p = c .before .before .before .before .before .pre .0 in omega (arith, ap length (p .already (c .before .if2 .taken)))
 
 returns-2 : tie.Need-returns-2
 returns-2 c =
     let p = c .before .before .before .before .before .before .before .before .pre .0 in
-    rw (p .already (cc)) (refl, c .before .before .copy .ensures)
+    rw (p .already (c .before .before .before .before .if2 .taken)) (refl, c .before .before .copy .ensures)
 
 mul-press-cells : tie.Need-mul-press-cells
 mul-press-cells c = let p = c .before .before .before .before .pre .0 in omega (arith, mul-le-mul (p .rows-most) (p .channels-most))
