@@ -6,6 +6,10 @@ use borrow.Author.Needs.{needs}
 use Rattle.line.proofs.put_accepted.Statement.{statement}
 use Rattle.line.proofs.put_accepted.Tie as tie
 
+-- The numbers first: what has room is a line of these
+returns : tie.Need-returns
+returns c = c .put-line .ensures
+
 slice-aggregate-put-line : tie.Need-slice-aggregate-put-line
 slice-aggregate-put-line c = search needs
 
@@ -16,9 +20,6 @@ put-line-requires : tie.Need-put-line-requires
 put-line-requires c κs =
     let a = c .before .before .before .args in
     omega (arith, numbered-few (a .end ∷ a .channels ∷ a .counts .patterns ∷ a .counts .instruments ∷ a .counts .samples ∷ []) (omega arith, (omega arith, (omega arith, (omega arith, (omega arith, tt))))))
-
-returns : tie.Need-returns
-returns c = c .put-line .ensures
 
 pub put-accepted-spec : {M : Type 1} → statement M
 put-accepted-spec =

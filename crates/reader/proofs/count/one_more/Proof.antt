@@ -36,7 +36,7 @@ returns-2 : tie.Need-returns-2
 returns-2 c = sym (ap (oneMore _) (c .before .before .standing2 .given .1))
 
 returns-3 : tie.Need-returns-3
-returns-3 c = sym (ap (oneMore _) (c .before .before .standing3 .given .1))
+returns-3 c = sym (ap (oneMore (c .before .before .before .before .args .counts)) (c .before .before .standing3 .given .1))
 
 returns-4 : tie.Need-returns-4
 returns-4 c = search needs
