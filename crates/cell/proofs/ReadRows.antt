@@ -12,11 +12,10 @@ use Rattle.xm.specs.Cell.{lengthBy, cellAt, readCell}
 use Rattle.xm.specs.Stored.{Pattern, readRow, readCells, readStored}
 use Rattle.xm.specs.Row.{cellsIn}
 use Rattle.xm.specs.Packing.{argumentTests}
-use Rattle.xm.proofs.Got.{test-fails, pass, step, step-refused, bind-got}
+use Rattle.xm.proofs.Got.{test-fails, pass, step, step-refused, accepted-got, got-accepted, bind-got}
 use Rattle.xm.proofs.Cell.{cell-read}
 use Rattle.xm.proofs.Lay.{head-at}
 use Rattle.xm.proofs.Stored.{stored-some}
-use Rattle.xm.proofs.Row.{accepted-got, got-accepted}
 
 -- A cell in front of what the rest is read as
 abbrev pub onto : (cell : List ℕ) (used : ℕ) → Got (List (List ℕ)) → Got (List (List ℕ))

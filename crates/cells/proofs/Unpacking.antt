@@ -15,9 +15,9 @@ use Rattle.xm.specs.Stored.{standardRows, Pattern, readRow, readCells, readStor
 use Rattle.xm.specs.Row.{cellsIn}
 use Rattle.xm.specs.PatternInFile.{dataMost}
 use Rattle.xm.specs.Packing.{argumentTests, cellBytes, rowsRead, unpacking, unpackAfter}
-use Rattle.xm.proofs.Got.{no-true, all-pass, all-hold, passed, bind-got, got-carry}
+use Rattle.xm.proofs.Got.{no-true, all-pass, all-hold, passed, bind-got, got-carry, got-accepted}
 use Rattle.xm.proofs.Stored.{stored-empty, stored-some, stored-rows}
-use Rattle.xm.proofs.Row.{got-accepted, row-read}
+use Rattle.xm.proofs.Row.{row-read}
 use Rattle.xm.proofs.Packing.{UnpackRange}
 use Rattle.refusal.specs.declared.Fault.{Fault}
 use Rattle.refusal.specs.declared.Step.{Step}

@@ -6,21 +6,12 @@ use native.Mathlib.Omega.{arith}
 use lib.ListN.{length, take, drop, replicate, length-append}
 use lib.Seq.{drop-drop}
 use borrow.Rule.Slice.PartMut.{putMid}
-use Rattle.xm.specs.Got.{Got, got, refused}
+use Rattle.xm.specs.Got.{Got, got, refused, listIn, Told}
 use Rattle.xm.specs.Format.{Format, each}
 use Rattle.xm.specs.Answer.{inFront}
 use Rattle.xm.proofs.Got.{bind-got, got-value, got-used, got-carry}
 use Rattle.xm.proofs.Lay.{Laid, laid-none, laid-part, laid-done, laid-long}
-use Rattle.shortest.specs.Found.{rewritten}
-use Rattle.writers.specs.Found.{Told, readAt, pressedAt, endOf}
-
--- A reading with a property was accepted
-pub told-got : {A R : Type 0} (P : A → Type 0) (g : Got A) → Told P g → ((a : A) (n : ℕ) → g ≡ got a n → P a → R) → R
-told-got P (got a n) t k = k a n refl t
-told-got P (refused r) t k = absurd t
-
-pub got-told : {A : Type 0} (P : A → Type 0) {g : Got A} {a : A} {n : ℕ} → g ≡ got a n → P a → Told P g
-got-told P e p = rw e p
+use Rattle.writers.specs.Found.{readAt, pressedAt, endOf}
 
 module _ {H I A : Type 0} (F : Format H I A) (h : H) (file lent goal : List ℕ) (end : ℕ) where
   -- The state of the loop: `left` parts are still to be read, from `place` on, up to `end`, and written, `rest` in all
@@ -62,7 +53,7 @@ module _ {H I A : Type 0} (F : Format H I A) (h : H) (file lent goal : List ℕ)
       each-first = first-left left place some (w .reads)
 
       pressed : pressedAt F h file place ≡ F .write (F .view (each-first .part))
-      pressed = ap (rewritten (λ (i : I). F .write (F .view i))) (each-first .read)
+      pressed = ap (listIn (λ (i : I). F .write (F .view i))) (each-first .read)
 
       split : each F .write (each F .view rest) ≡ pressedAt F h file place ++ each F .write (each F .view (each-first .later))
       split = ap (λ (is : List I). each F .write (each F .view is)) (each-first .first) ∙ ap (λ (l : List ℕ). l ++ each F .write (each F .view (each-first .later))) (sym pressed)
@@ -90,6 +81,6 @@ each-none F h file lent count at is used e room = record {
   reads = e;
   ends = sym (ap (endOf at) e);
   laid =
-      rw (← ap (rewritten (λ (is : List _). each F .write (each F .view is))) e)
+      rw (← ap (listIn (λ (is : List _). each F .write (each F .view is))) e)
       (laid-none lent (pressedAt (each F) (replicate count h) file at) room);
 }

@@ -5,27 +5,24 @@ use mathlib.Core.Path.{_≡_, refl, sym, ap, _∙_}
 use native.Mathlib.Omega.{arith}
 use lib.ListN.{length}
 use Rattle.xm.specs.Number.{Bytes}
-use Rattle.xm.specs.Got.{Got, got, refused, _at_}
+use Rattle.xm.specs.Got.{Got, got, refused, _at_, listIn, Told}
 use Rattle.xm.specs.Answer.{inFront}
 use Rattle.xm.specs.Module.{Found, moduleFormat, readFile}
 use Rattle.xm.specs.Press.{contentOf, pressed, pressingAs}
 use Rattle.xm.specs.Demands.{FileOf}
-use Rattle.xm.proofs.Got.{no-true, step-refused}
+use Rattle.xm.proofs.Got.{no-true, got-told, step-refused}
 use Rattle.xm.proofs.Answer.{answer-refuses}
 use Rattle.xm.proofs.Module.{module-back, module-keeps}
 use Rattle.xm.proofs.Press.{press-gives, press-narrow}
 use Rattle.refusal.specs.Fault.{faultOf, refusalIn}
 use Rattle.refusal.specs.declared.Fault.{Fault}
-use Rattle.shortest.specs.Found.{rewritten}
 use Rattle.steps.specs.Mark.{Marks}
 use Rattle.walk.specs.File.{walkStep, walkFault}
 use Rattle.walk.specs.declared.WalkStep.{WalkStep}
 use Rattle.walk.specs.declared.WalkStep.the-variants as walked
-use Rattle.writers.specs.Found.{Told}
 use Rattle.press.specs.Module.{pressedFile}
 use Rattle.press.specs.Promise.{Presses}
 use Rattle.press.specs.declared.Pressed.the-variants.{Length, Refused}
-use Rattle.press.proofs.EachLaws.{got-told}
 
 -- What the walk's answer says of the reading
 accepted-got : {R : Type 0} (g : Got Found) {size : ℕ} → walked.Accepted size ≡ walkStep g → ((found : Found) (end : ℕ) → g ≡ got found end → size ≡ length (pressed (contentOf found)) → R) → R
@@ -48,7 +45,7 @@ module _ (file lent : List ℕ) where
     accepted-told marks m = accepted-got (readFile file) e λ found end q z. got-told (λ (found : Found). Marks file (found .1 .0) marks) q (m found end q)
 
     pub accepted-size : size ≡ length (pressedFile file)
-    accepted-size = accepted-got (readFile file) e λ found end q z. z ∙ sym (ap (λ (g : Got Found). length (rewritten (λ (found : Found). pressed (contentOf found)) g)) q)
+    accepted-size = accepted-got (readFile file) e λ found end q z. z ∙ sym (ap (λ (g : Got Found). length (listIn (λ (found : Found). pressed (contentOf found)) g)) q)
 
     module _ (b : Bytes file) where
       file-of : (found : Found) (end : ℕ) → readFile file ≡ got found end → FileOf moduleFormat (contentOf found) file
@@ -63,4 +60,4 @@ module _ (file lent : List ℕ) where
       pub press-done : size ≤ length lent → {count : ℕ} {held : List ℕ} → count ≡ size → held ≡ inFront (pressedFile file) lent → Presses file lent (Length count) held
       press-done h n m = accepted-got (readFile file) e λ found end q z.
           rw (press-gives moduleFormat module-back module-keeps (file-of found end q) (length lent) (omega arith))
-          (ap Length (n ∙ z), m ∙ ap (λ (g : Got Found). inFront (rewritten (λ (found : Found). pressed (contentOf found)) g) lent) q)
+          (ap Length (n ∙ z), m ∙ ap (λ (g : Got Found). inFront (listIn (λ (found : Found). pressed (contentOf found)) g) lent) q)

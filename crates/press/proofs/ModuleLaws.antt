@@ -7,7 +7,7 @@ use native.Mathlib.Omega.{arith}
 use lib.ListN.{length, take, drop, replicate, length-append, length-drop}
 use lib.Seq.{drop-drop, length-take-le}
 use Rattle.xm.specs.Number.{wordAt, part}
-use Rattle.xm.specs.Got.{got, AllHold}
+use Rattle.xm.specs.Got.{got, AllHold, listIn, Told}
 use Rattle.xm.specs.Format.{each}
 use Rattle.xm.specs.Header.{Header, HeaderFound, headerEnd, sizeAt, songLengthAt, channelsAt, patternsAt, instrumentsAt, headerTests, headerOf, restartOf, readHeader, writeHeader}
 use Rattle.xm.specs.Stored.{channelsMost}
@@ -15,15 +15,13 @@ use Rattle.xm.specs.PatternInFile.{PatternFound, patternFormat}
 use Rattle.xm.specs.Instrument.{InstrumentFound, instrumentFormat}
 use Rattle.xm.specs.Module.{patternsFor, instrumentsFor, bodyFormat, Found, moduleFormat, fileMost, readFile}
 use Rattle.xm.specs.Press.{contentOf, pressed}
-use Rattle.xm.proofs.Got.{passed, bind-got, got-value, got-carry}
+use Rattle.xm.proofs.Got.{told-got, got-told, passed, bind-got, got-value, got-carry}
 use Rattle.xm.proofs.Module.{whole-read}
-use Rattle.shortest.specs.Found.{rewritten}
 use Rattle.steps.specs.Mark.{Marks}
-use Rattle.writers.specs.Found.{Told, readAt, pressedAt, endOf}
+use Rattle.writers.specs.Found.{readAt, pressedAt, endOf}
 use Rattle.writers.specs.Header.{headerWith}
 use Rattle.press.specs.Module.{reachedOf, pressedFile}
 use Rattle.writers.proofs.HeaderLaws.{header-size}
-use Rattle.press.proofs.EachLaws.{told-got, got-told}
 
 three-long : (a b c : List ℕ) → length (a ++ (b ++ c)) ≡ length a + (length b + length c)
 three-long a b c = simp length-append
@@ -69,7 +67,7 @@ module _ (file marks : List ℕ) where
             (rw (zero-add n, drop-drop u n file) at es);
         marked = subst (λ (body : List PatternFound × List InstrumentFound). Marks file (body .0) marks) (sym body-is) (subst (λ (f : Found). Marks file (f .1 .0) marks) (sym found-is) m);
         written =
-            ap (rewritten (λ (f : Found). pressed (contentOf f))) e
+            ap (listIn (λ (f : Found). pressed (contentOf f))) e
             ∙ ap (λ (f : Found). pressed (contentOf f)) (sym found-is)
             ∙ ap₂ (λ (x : HeaderFound) (body : List PatternFound × List InstrumentFound). pressed (contentOf (x, body))) (sym (got-value e₆)) (sym body-is);
       }
@@ -145,8 +143,8 @@ module _ (file marks : List ℕ) where
       is-written =
           w .written
           ∙ ap₂ (λ (x : Header) (l : List ℕ). writeHeader x ++ l) (sym (ap₂ (λ (n : ℕ) (o : List ℕ). headerWith n o file) p is-orders ∙ own-header))
-          (ap₂ (λ (x y : List ℕ). x ++ y) (sym (ap (rewritten (λ (is : List PatternFound). each patternFormat .write (each patternFormat .view is))) first-read))
-          (sym (ap (rewritten (λ (is : List InstrumentFound). each instrumentFormat .write (each instrumentFormat .view is))) last-read)))
+          (ap₂ (λ (x y : List ℕ). x ++ y) (sym (ap (listIn (λ (is : List PatternFound). each patternFormat .write (each patternFormat .view is))) first-read))
+          (sym (ap (listIn (λ (is : List InstrumentFound). each instrumentFormat .write (each instrumentFormat .view is))) last-read)))
 
       pub module-lies : ModuleLies
       module-lies =

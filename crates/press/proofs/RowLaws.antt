@@ -6,6 +6,7 @@ use native.Mathlib.Numerals.{add-one}
 use native.Mathlib.Omega.{arith}
 use lib.ListN.{length, take, drop, getD, replicate}
 use borrow.Rule.Slice.PartMut.{putMid}
+use Rattle.xm.specs.Got.{Told}
 use Rattle.xm.specs.Number.{wordAt, longAt}
 use Rattle.xm.specs.Format.{each}
 use Rattle.xm.specs.Answer.{inFront}
@@ -17,9 +18,10 @@ use Rattle.steps.specs.declared.instrument.InstrumentPart.{InstrumentPart}
 use Rattle.steps.specs.declared.instrument.InstrumentStep.{InstrumentStep}
 use Rattle.steps.specs.declared.instrument.InstrumentStep.the-variants.{Refused}
 use Rattle.refusal.specs.declared.Fault.{Fault}
-use Rattle.writers.specs.Found.{Told, readAt, pressedAt, endOf}
+use Rattle.xm.proofs.Got.{told-got, got-told}
+use Rattle.writers.specs.Found.{readAt, pressedAt, endOf}
 use Rattle.writers.specs.Instrument.{InstrumentIs}
-use Rattle.press.proofs.EachLaws.{told-got, got-told, EachLeft, each-none, each-first, each-room, each-more, each-done, each-end}
+use Rattle.press.proofs.EachLaws.{EachLeft, each-none, each-first, each-room, each-more, each-done, each-end}
 use Rattle.writers.proofs.PatternLaws.{pattern-used}
 use Rattle.writers.proofs.InstrumentLaws.{instrument-there, never-refused, is-next-of, is-long}
 

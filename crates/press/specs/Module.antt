@@ -2,11 +2,11 @@
 use Prim.Native.Nat.{ℕ}
 use mathlib.Core.List.{List}
 use lib.ListN.{length, replicate}
+use Rattle.xm.specs.Got.{listIn}
 use Rattle.xm.specs.Format.{each}
 use Rattle.xm.specs.PatternInFile.{patternFormat}
 use Rattle.xm.specs.Module.{Found, readFile}
 use Rattle.xm.specs.Press.{contentOf, pressed}
-use Rattle.shortest.specs.Found.{rewritten}
 use Rattle.writers.specs.Found.{readAt, pressedAt, endOf}
 use Rattle.press.specs.declared.module.Reached.{Reached}
 
@@ -19,4 +19,4 @@ reachedOf file place channels count = record {
 
 -- The pressed file of an accepted one.
 abbrev pub pressedFile : (file : List ℕ) → List ℕ
-pressedFile file = rewritten (λ (found : Found). pressed (contentOf found)) (readFile file)
+pressedFile file = listIn (λ (found : Found). pressed (contentOf found)) (readFile file)

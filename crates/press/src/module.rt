@@ -9,6 +9,7 @@ use writers::pattern::write_pattern;
 ghost use mathlib.Core.Path.{_≡_};
 ghost use Prim.Native.Nat.{_≤_};
 ghost use lib.ListN.{length, replicate};
+ghost use Rattle.xm.specs.Got.{Told};
 ghost use Rattle.xm.specs.Format.{each};
 ghost use Rattle.xm.specs.Answer.{inFront};
 ghost use Rattle.xm.specs.Stored.{channelsMost};
@@ -16,7 +17,7 @@ ghost use Rattle.xm.specs.PatternInFile.{patternFormat};
 ghost use Rattle.xm.specs.Instrument.{instrumentFormat};
 ghost use Rattle.xm.specs.Module.{fileMost, readFile};
 ghost use Rattle.steps.specs.Mark.{Marks};
-ghost use Rattle.writers.specs.Found.{Told, readAt, pressedAt};
+ghost use Rattle.writers.specs.Found.{readAt, pressedAt};
 ghost use Rattle.press.specs.Module.{reachedOf, pressedFile};
 
 // How far the patterns reach: in the file, and in what is written of them.

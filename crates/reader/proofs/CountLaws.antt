@@ -6,7 +6,7 @@ use mathlib.Core.Path.{_≡_, refl, sym, ap, _∙_}
 use native.Mathlib.Omega.{arith}
 use lib.ListN.{length, take, length-append}
 use Rattle.xm.specs.Number.{Bytes}
-use Rattle.xm.specs.Got.{Got, got, refused}
+use Rattle.xm.specs.Got.{Got, got, refused, listIn}
 use Rattle.xm.specs.Format.{Kind, Region, header, patternHeader, patternData, instrument, sampleHeader, sampleData, All}
 use Rattle.xm.specs.Answer.{Answer, gives, answered, result}
 use Rattle.xm.specs.Module.{Found, moduleFormat, readFile}
@@ -19,7 +19,6 @@ use Rattle.xm.proofs.Answer.{answer-gives, answer-refuses}
 use Rattle.xm.proofs.Format.{cons-path}
 use Rattle.xm.proofs.Region.{kind-append}
 use Rattle.xm.proofs.Structure.{hand-stays, readers-tell}
-use Rattle.tables.specs.Accepted.{listIn}
 use Rattle.structures.specs.Handing.{kindAt, standingIn, standingOf, aheadOf, aheadIn, reachedOf, reachedIn, handing}
 use Rattle.structures.specs.declared.Reached.{Reached}
 use Rattle.structures.specs.declared.Reached.the-variants as reached

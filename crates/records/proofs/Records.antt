@@ -5,7 +5,7 @@ use mathlib.Core.Path.{_≡_, refl, sym, ap, _∙_}
 use native.Mathlib.Omega.{arith}
 use lib.ListN.{length, getD, set, take, drop, length-map, length-append, length-take, length-drop, List·getD-map}
 use lib.Seq.{take-all}
-use Rattle.xm.specs.Got.{Got, _at_}
+use Rattle.xm.specs.Got.{Got, _at_, listIn}
 use Rattle.xm.specs.Answer.{Answer, gives, refuses, inFront}
 use Rattle.xm.specs.Module.{Found, readFile}
 use Rattle.xm.specs.Table.{Checked, sampleRows, checkingInto}
@@ -16,7 +16,6 @@ use Rattle.xm.proofs.Answer.{answer-gives, answer-refuses, tests-fail}
 use Rattle.refusal.specs.Fault.{faultOf}
 use Rattle.walk.specs.File.{verdictOf}
 use Rattle.walk.specs.declared.Verdict.{Verdict}
-use Rattle.tables.specs.Accepted.{listIn}
 use Rattle.tables.specs.Into.{roomFor, patternsAfter, instrumentsAfter}
 use Rattle.tables.specs.Place.{sampleRow}
 use Rattle.tables.specs.declared.sample.SampleRow.{SampleRow}

@@ -3,7 +3,7 @@ use Prim.Native.Nat.{ℕ, _+_}
 use mathlib.Core.List.{List, [], _∷_, map}
 use lib.IntN.{ℤ, pos}
 use lib.ListN.{length, getD}
-use Rattle.xm.specs.Got.{got, _>>_, checked, present, _at_}
+use Rattle.xm.specs.Got.{got, _>>_, checked, present, _at_, listIn}
 use Rattle.xm.specs.Answer.{Answer, gives, refuses, answered, numbers, after}
 use Rattle.xm.specs.Module.{readFile}
 use Rattle.xm.specs.Table.{Checked, sampleRows, sampleTunes, roomWith, checkingInto}
@@ -12,7 +12,6 @@ use Rattle.xm.specs.Asking.{noRow}
 use Rattle.refusal.specs.Fault.{faultOf}
 use Rattle.walk.specs.declared.Verdict.{Verdict}
 use Rattle.walk.specs.declared.Verdict.the-variants as verdict
-use Rattle.tables.specs.Accepted.{listIn}
 use Rattle.tables.specs.Place.{sampleRow, numbersOf, tunesOf}
 use Rattle.tables.specs.declared.sample.SampleRow.{SampleRow}
 use Rattle.records.specs.declared.row.RowAsked.{RowAsked}

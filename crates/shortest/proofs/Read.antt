@@ -6,24 +6,24 @@ use mathlib.Core.List.{List, [], _∷_}
 use native.Mathlib.Omega.{arith}
 use borrow.Rule.Slice.PartMut.{putMid}
 use lib.ListN.{length, getD, take, drop, set, length-drop}
-use Rattle.xm.specs.Got.{accepted}
+use Rattle.xm.specs.Got.{accepted, listIn}
 use Rattle.xm.specs.Format.{joined}
 use Rattle.xm.specs.Answer.{inFront}
 use Rattle.xm.specs.Cell.{lengthBy, cellAt, writeCell}
 use Rattle.xm.specs.Stored.{Pattern, standard, readRow, readCells, readStored, writeStored}
 use Rattle.xm.specs.Row.{cellsIn}
-use Rattle.xm.proofs.Got.{passed, bind-got, got-value}
+use Rattle.xm.proofs.Got.{accepted-got, got-accepted, passed, bind-got, got-value}
 use Rattle.xm.proofs.Format.{cons-path}
 use Rattle.xm.proofs.Cell.{length-some}
 use Rattle.xm.proofs.Lay.{Laid, laid-none, laid-done, laid-long}
 use Rattle.xm.proofs.Stored.{standard-none, write-none}
-use Rattle.xm.proofs.Row.{accepted-got, got-accepted, row-read, in-length, in-fives, cells-least, stored-cells}
+use Rattle.xm.proofs.Row.{row-read, in-length, in-fives, cells-least, stored-cells}
 use Rattle.cell.specs.Over.{overMost, Over}
 use Rattle.cell.proofs.ReadLaws.{empty-length, empty-cell}
 use Rattle.cell.proofs.ReadRows.{First, row-first, cells-first}
 use Rattle.cell.proofs.WriteLaws.{empty-written}
 use Rattle.cell.proofs.WriteRows.{writing-room, writing-part, writing-over, writing-empty}
-use Rattle.shortest.specs.Found.{rewritten, storedPressed}
+use Rattle.shortest.specs.Found.{storedPressed}
 
 -- The state of the loop: `left` cells are still to be written again, from `place` on
 pub record Rewriting (stored lent goal out : List ℕ) (place to left : ℕ) : Type 0 where
@@ -106,7 +106,7 @@ unfolding readStored readCells
 stored-pressed rows channels [] g h = absurd (omega (arith, ap length (write-none (standard channels) (standard-none channels))))
 stored-pressed rows channels (b ∷ d) g h =
     accepted-got (readStored channels rows 0 (b ∷ d)) g λ p n e. bind-got (readRow (rows * channels) 0 (b ∷ d)) _ e λ cells m ec e′. passed _ _ e′ λ t e′.
-    let w = ap (rewritten writeStored) e in
+    let w = ap (listIn writeStored) e in
     record {
       fine = got-accepted ec;
       same =

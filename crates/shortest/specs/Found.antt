@@ -4,17 +4,12 @@ use mathlib.Core.Bool.{Bool, true, false}
 use mathlib.Core.List.{List, []}
 use mathlib.Core.Path.{_≡_}
 use lib.ListN.{length}
-use Rattle.xm.specs.Got.{Got, got, refused, accepted}
+use Rattle.xm.specs.Got.{accepted, listIn}
 use Rattle.xm.specs.Stored.{readStored, writeStored}
-
--- The bytes that `write` gives of what was found; none, if the reading was refused.
-abbrev pub rewritten : {A : Type 0} → (A → List ℕ) → Got A → List ℕ
-rewritten write (got a n) = write a
-rewritten write (refused r) = []
 
 -- A stored form in its shortest form.
 abbrev pub storedPressed : (rows channels : ℕ) (stored : List ℕ) → List ℕ
-storedPressed rows channels stored = rewritten writeStored (readStored channels rows 0 stored)
+storedPressed rows channels stored = listIn writeStored (readStored channels rows 0 stored)
 
 -- What is known of a stored form before it is written again: that it was accepted, whether its shortest form has no bytes, and, if
 -- `same`, that it stands there in that form already.

@@ -1,6 +1,6 @@
 -- What is handed over, by the tests that were made. Assumes nothing.
 use Prim.Native.Nat.{ℕ, _+_, _-_, _≤_, _<_, _^_}
-use mathlib.Core.Bool.{cond}
+use mathlib.Core.Bool.{cond, true}
 use mathlib.Core.List.{List}
 use mathlib.Core.Path.{_≡_, refl, sym, ap, _∙_}
 use native.Mathlib.Omega.{arith}
@@ -8,7 +8,7 @@ use lib.Dec.{leb}
 use borrow.Author.Tests.{le-leb, lt-leb, lt-ltb, le-ltb}
 use lib.ListN.{length, drop, length-drop}
 use Rattle.xm.specs.Number.{Bytes}
-use Rattle.xm.specs.Got.{Got, got, refused}
+use Rattle.xm.specs.Got.{Got, got, refused, accepted}
 use Rattle.xm.specs.PatternInFile.{leastPattern}
 use Rattle.xm.specs.Instrument.{InstrumentFound, readInstrument}
 use Rattle.xm.specs.Module.{Found, fileMost, readFile}
@@ -27,7 +27,6 @@ use Rattle.steps.specs.declared.instrument.InstrumentStep.the-variants as step
 use Rattle.walk.specs.File.{verdictOf}
 use Rattle.walk.specs.declared.Module.{Module}
 use Rattle.walk.specs.declared.Verdict.the-variants as verdict
-use Rattle.tables.specs.Accepted.{Accepted}
 use Rattle.steps.specs.Step.{headerPart}
 use Rattle.tables.specs.Place.{patternAt}
 use Rattle.steps.specs.declared.header.HeaderPart.{HeaderPart}
@@ -154,8 +153,8 @@ module _ (file : List ℕ) where
   start-refused e = verdict-refused file e refl λ r q same. ap reached.Refused (cc) ∙ sym (ap reachedOf (answer-refuses (λ (found : Found) end. aheadAtFirst file) q))
 
   module _ {x : Module} (e : verdict.Accepted x ≡ verdictOf (checking file)) where
-    pub start-accepted : Accepted (readFile file)
-    start-accepted = verdict-got file e λ found end q v. rw q tt
+    pub start-accepted : accepted (readFile file) ≡ true
+    start-accepted = verdict-got file e λ found end q v. rw q refl
 
     pub start-reached : {c : HeaderPart} → c ≡ headerPart file
         → reached.Within (record { patterns = c .patterns; instruments = c .instruments; place = c .start; heads = 0; head = 0; «head_size» = 0 }) ≡ reachedOf (started file)

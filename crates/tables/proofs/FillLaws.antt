@@ -1,5 +1,6 @@
 -- The loops that fill the tables: the numbers of the rows that are left are still to be laid. Assumes nothing.
 use Prim.Native.Nat.{ℕ, _+_, _-_, _*_, _≤_, _<_}
+use mathlib.Core.Bool.{true}
 use mathlib.Core.List.{List, [], _∷_, _++_, map}
 use mathlib.Core.Path.{_≡_, refl, sym, ap, ap₂, _∙_}
 use native.Mathlib.Numerals.{add-one}
@@ -8,7 +9,7 @@ use lib.IntN.{ℤ}
 use lib.ListN.{length, getD, take, drop, length-append, drop-of-length-le}
 use lib.Seq.{drop-drop, drop-cons}
 use Rattle.xm.specs.Number.{Bytes}
-use Rattle.xm.specs.Got.{Got, got, refused, AllHold}
+use Rattle.xm.specs.Got.{Got, got, refused, AllHold, listIn, accepted}
 use Rattle.xm.specs.Format.{joined}
 use Rattle.xm.specs.Answer.{inFront}
 use Rattle.xm.specs.Lay.{lay}
@@ -19,7 +20,7 @@ use Rattle.xm.specs.Module.{Found, fileMost, readFile}
 use Rattle.xm.specs.Table.{SampleRow, patternRow, patternRows, sampleCount, instrumentRowsFrom, instrumentRows, patternNumbers, instrumentNumbers, sampleNumbers, sampleTunes, sampleStride, tuneStride}
 use Rattle.xm.specs.Asking.{noRow}
 use Rattle.xm.proofs.Lay.{Laid, laid-none, laid-more, laid-done}
-use Rattle.tables.specs.Accepted.{Accepted, listIn, ReadsFrom, InstrumentsFrom}
+use Rattle.tables.specs.Accepted.{ReadsFrom, InstrumentsFrom}
 use Rattle.steps.specs.Step.{instrumentHead}
 use Rattle.tables.specs.Place.{patternAt, dataEnd, Stands}
 use Rattle.tables.specs.declared.place.PatternAt.{PatternAt}
@@ -52,7 +53,7 @@ pub record FillingPatterns (file lent out : List ℕ) (left place to : ℕ) : Ty
   pub laid : Laid lent (patternGoal file) out to (joined patternNumbers (map patternRow parts))
 
 module _ (file lent : List ℕ) where
-  pub patterns-start : Accepted (readFile file) → length (patternGoal file) ≤ length lent → FillingPatterns file lent lent (patternsAt file) (headerEnd file) 0
+  pub patterns-start : accepted (readFile file) ≡ true → length (patternGoal file) ≤ length lent → FillingPatterns file lent lent (patternsAt file) (headerEnd file) 0
   patterns-start h room = record {
     parts = listIn (λ (found : Found). found .1 .0) (readFile file);
     skipping = skipping-start file h;
@@ -96,7 +97,7 @@ pub record FillingInstruments (file lent out : List ℕ) (left place first to : 
   pub laid : Laid lent (instrumentGoal file) out to (joined instrumentNumbers (instrumentRowsFrom first parts))
 
 module _ (file lent : List ℕ) where
-  pub instruments-start : Accepted (readFile file) → {place : ℕ} → InstrumentsFrom file place → length (instrumentGoal file) ≤ length lent
+  pub instruments-start : accepted (readFile file) ≡ true → {place : ℕ} → InstrumentsFrom file place → length (instrumentGoal file) ≤ length lent
       → FillingInstruments file lent lent (instrumentsAt file) place 0 0
   instruments-start h from room = record {
     small = accepted-small file h;

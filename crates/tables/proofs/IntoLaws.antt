@@ -7,7 +7,7 @@ use native.Mathlib.Nat.{min-le-left, min-le-right}
 use native.Mathlib.Omega.{arith}
 use lib.IntN.{ℤ}
 use lib.ListN.{length, length-map, length-replicate, replicate, drop}
-use Rattle.xm.specs.Got.{Refusal, got, _at_}
+use Rattle.xm.specs.Got.{Refusal, got, _at_, listIn, accepted}
 use Rattle.xm.specs.Format.{joined}
 use Rattle.xm.specs.Answer.{Answer, gives, refuses, inFront}
 use Rattle.xm.specs.Header.{Header, channelsAt, patternsAt, instrumentsAt, headerEnd}
@@ -28,7 +28,6 @@ use Rattle.walk.specs.declared.Verdict.{Verdict}
 use Rattle.walk.specs.declared.Verdict.the-variants as verdict
 use Rattle.xm.proofs.Got.{all-hold}
 use Rattle.steps.proofs.Tests.{not-all-hold}
-use Rattle.tables.specs.Accepted.{Accepted, listIn}
 use Rattle.tables.specs.Into.{lent, roomFor, roomTestsOf, patternsAfter, instrumentsAfter}
 use Rattle.tables.proofs.Reading.{file-reads}
 use Rattle.tables.proofs.VerdictLaws.{never, verdict-got, verdict-refused}
@@ -97,14 +96,14 @@ module _ (file patterns instruments : List ℕ) (rows : ℕ) where
   beside-refused e told = verdict-refused file e told λ r q same. rw same (told-refused (tables-tell file _ .own-first r q))
 
   module _ {x : Module} (e : verdict.Accepted x ≡ verdictOf (checking file)) where
-    accepted : {R : Type 0} → ((found : Found) (end : ℕ) → readFile file ≡ got found end → verdict.Accepted x ≡ verdictOf (gives (checkedAs found end)) → Counted found x → R) → R
-    accepted k = verdict-got file e λ found end q v. k found end q v (rows-counted file found end q v)
+    told-found : {R : Type 0} → ((found : Found) (end : ℕ) → readFile file ≡ got found end → verdict.Accepted x ≡ verdictOf (gives (checkedAs found end)) → Counted found x → R) → R
+    told-found k = verdict-got file e λ found end q v. k found end q v (rows-counted file found end q v)
 
     abbrev fits : Bool
     fits = allPass (roomTestsOf (roomFor (length patterns) (length instruments) rows) x)
 
     pub beside-cramped : fits ≡ false → Told (verdict.Refused (faultOf (14 at 0))) patterns instruments
-    beside-cramped f = accepted λ found end q v c.
+    beside-cramped f = told-found λ found end q v c.
         told-refused (tables-tell file _ .no-room-exactly found end q .1
         (λ h. not-all-hold _ f (omega (arith, h .0, c .patterns), (omega (arith, h .1, c .instruments), (omega (arith, h .2, c .samples), tt)))))
 
@@ -113,15 +112,15 @@ module _ (file patterns instruments : List ℕ) (rows : ℕ) where
 
     -- there is room for every number, so that the tables can be filled
     pub record Roomy : Type 0 where
-      pub accepts : Accepted (readFile file)
+      pub accepts : accepted (readFile file) ≡ true
       pub for-patterns : length (joined patternNumbers (listIn patternRows (readFile file))) ≤ length patterns
       pub for-instruments : length (joined instrumentNumbers (listIn instrumentRows (readFile file))) ≤ length instruments
 
     pub beside-roomy : fits ≡ true → Roomy
-    beside-roomy f = accepted λ found end q v c.
+    beside-roomy f = told-found λ found end q v c.
         let h = room-for f found c in
         record {
-          accepts = rw q tt;
+          accepts = rw q refl;
           for-patterns = rw q (omega (arith, h .0, joined-length patternStride patternNumbers (λ row. refl) (patternRows found)));
           for-instruments = rw q (omega (arith, h .1, joined-length instrumentStride instrumentNumbers (λ row. refl) (instrumentRows found)));
         }
@@ -130,7 +129,7 @@ module _ (file patterns instruments : List ℕ) (rows : ℕ) where
         → patterns′ ≡ inFront (joined patternNumbers (listIn patternRows (readFile file))) patterns
         → instruments′ ≡ inFront (joined instrumentNumbers (listIn instrumentRows (readFile file))) instruments
         → Told (verdict.Accepted x) patterns′ instruments′
-    beside-filled f p i = accepted λ found end q v c.
+    beside-filled f p i = told-found λ found end q v c.
         let a : into ≡ gives (checkedAs found end) = tables-tell file _ .filled-else found end q (room-for f found c) in
         record {
           answers = v ∙ sym (ap verdictOf a);

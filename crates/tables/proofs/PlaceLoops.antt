@@ -1,24 +1,27 @@
 -- The loops that step over patterns and over sample data. Assumes nothing.
 use Prim.Native.Nat.{ℕ, zero, suc, _+_, _-_, _*_, _≤_, _<_}
+use mathlib.Core.Bool.{true}
 use mathlib.Core.List.{List, [], _∷_}
 use mathlib.Core.Path.{_≡_, refl, sym, ap, _∙_}
 use native.Mathlib.Nat.{suc-mul}
 use native.Mathlib.Omega.{arith}
 use lib.ListN.{length, drop}
 use lib.Seq.{drop-drop}
+use Rattle.xm.specs.Got.{listIn, accepted}
 use Rattle.xm.specs.Stored.{rowsMost}
 use Rattle.xm.specs.Header.{channelsAt, patternsAt, headerEnd}
 use Rattle.xm.specs.PatternInFile.{leastPattern, PatternFound, patternFormat}
 use Rattle.xm.specs.Sample.{headBytes, dataSize}
 use Rattle.xm.specs.Module.{Found, fileMost, readFile}
 use Rattle.xm.specs.Table.{patternRow, patternNumbers}
-use Rattle.tables.specs.Accepted.{Accepted, listIn, ReadsFrom, InstrumentsFrom}
+use Rattle.tables.specs.Accepted.{ReadsFrom, InstrumentsFrom}
 use Rattle.tables.specs.Place.{patternAt, dataBefore, dataStart, dataEnd, Stands}
 use Rattle.tables.specs.Sought.{Left}
 use Rattle.steps.specs.declared.header.HeaderPart.{HeaderPart}
 use Rattle.tables.specs.declared.place.PatternAt.{PatternAt}
 use Rattle.steps.specs.declared.instrument.InstrumentHead.{InstrumentHead}
-use Rattle.tables.proofs.Reading.{accepted-got, reads-none, reads-next, file-reads}
+use Rattle.xm.proofs.Got.{accepted-got}
+use Rattle.tables.proofs.Reading.{reads-none, reads-next, file-reads}
 use Rattle.tables.proofs.PatternLaws.{pattern-stands}
 
 -- What is read at a place, by its fields
@@ -38,7 +41,7 @@ pub record PatternFits (file : List ℕ) (x : PatternAt) : Type 0 where
   pub few : x .rows ≤ rowsMost
 
 module _ (file : List ℕ) where
-  pub skipping-start : Accepted (readFile file) → Skipping file (patternsAt file) (headerEnd file) (listIn (λ (found : Found). found .1 .0) (readFile file))
+  pub skipping-start : accepted (readFile file) ≡ true → Skipping file (patternsAt file) (headerEnd file) (listIn (λ (found : Found). found .1 .0) (readFile file))
   skipping-start h = accepted-got (readFile file) h λ found end e.
       let w = file-reads file found end e in
       record { small = w .small; from = w .from; reads = rw e (w .patterns); after = record { end = w .end; reads = rw e (w .instruments) } }

@@ -1,28 +1,25 @@
 -- A second pass over an accepted file: what is left of an accepted reading is accepted, part by part. Assumes nothing.
 use Prim.Native.Nat.{ℕ, zero, suc, _+_, _-_, _≤_, _<_}
+use mathlib.Core.Bool.{true}
 use mathlib.Core.List.{List, [], _∷_}
 use mathlib.Core.Path.{_≡_, refl, sym, ap}
 use native.Mathlib.Nat.{zero-add}
 use native.Mathlib.Omega.{arith}
 use lib.ListN.{length, drop, replicate}
 use lib.Seq.{drop-drop}
-use Rattle.xm.specs.Got.{Got, got, refused, AllHold}
+use Rattle.xm.specs.Got.{Got, got, refused, AllHold, listIn, accepted}
 use Rattle.xm.specs.Format.{Format, each, eachRead}
 use Rattle.xm.specs.Header.{headerOf, HeaderFound, headerTests, channelsAt, patternsAt, instrumentsAt, headerEnd, readHeader}
 use Rattle.xm.specs.PatternInFile.{PatternFound, patternFormat}
 use Rattle.xm.specs.Instrument.{InstrumentFound, instrumentFormat}
 use Rattle.xm.specs.Module.{Found, patternsFor, instrumentsFor, moduleFormat, fileMost, readFile}
-use Rattle.xm.proofs.Got.{passed, bind-got, got-value, got-used, got-carry}
+use Rattle.xm.proofs.Got.{accepted-got, passed, bind-got, got-value, got-used, got-carry}
 use Rattle.xm.proofs.Module.{whole-read}
-use Rattle.tables.specs.Accepted.{Accepted, listIn, ReadsFrom}
+use Rattle.tables.specs.Accepted.{ReadsFrom}
 
--- An accepted reading, and a list that is not empty is of one
-pub accepted-got : {A R : Type 0} (g : Got A) → Accepted g → ((a : A) (n : ℕ) → g ≡ got a n → R) → R
-accepted-got (got a n) h k = k a n refl
-accepted-got (refused r) h k = absurd h
-
-pub some-accepted : {A B : Type 0} (rows : A → List B) (g : Got A) {number : ℕ} → number < length (listIn rows g) → Accepted g
-some-accepted rows (got a n) h = tt
+-- A list that is not empty is of an accepted reading
+pub some-accepted : {A B : Type 0} (rows : A → List B) (g : Got A) {number : ℕ} → number < length (listIn rows g) → accepted g ≡ true
+some-accepted rows (got a n) h = refl
 some-accepted rows (refused r) h = absurd (omega arith)
 
 -- Parts that are read one after the other: none, and the first of them
@@ -72,7 +69,7 @@ file-reads file found end e =
     }))
 
 -- and of one that was accepted
-module _ (file : List ℕ) (h : Accepted (readFile file)) where
+module _ (file : List ℕ) (h : accepted (readFile file) ≡ true) where
   pub accepted-small : length file ≤ fileMost
   accepted-small = accepted-got (readFile file) h λ found end e. file-reads file found end e .small
 

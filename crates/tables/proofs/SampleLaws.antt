@@ -8,7 +8,7 @@ use lib.IntN.{ℤ}
 use lib.ListN.{length, getD, drop, length-drop}
 use lib.Seq.{drop-cons, drop-drop}
 use Rattle.xm.specs.Number.{Bytes}
-use Rattle.xm.specs.Got.{Got, got, refused, AllHold}
+use Rattle.xm.specs.Got.{Got, got, refused, AllHold, listIn}
 use Rattle.xm.specs.Format.{joined}
 use Rattle.xm.specs.Sample.{leastHead, headBytes, dataSize}
 use Rattle.xm.specs.Instrument.{InstrumentFound, instrumentFormat, instrumentTests}
@@ -16,7 +16,7 @@ use Rattle.xm.specs.Module.{Found, fileMost, readFile}
 use Rattle.xm.specs.Table as row
 use Rattle.xm.specs.Table.{sampleRowsIn, sampleRows}
 use Rattle.xm.specs.Asking.{noRow}
-use Rattle.tables.specs.Accepted.{listIn, ReadsFrom, InstrumentsFrom}
+use Rattle.tables.specs.Accepted.{ReadsFrom, InstrumentsFrom}
 use Rattle.steps.specs.Step.{instrumentHead}
 use Rattle.tables.specs.Place.{dataBefore, dataStart, Stands, rowOf, rowsFrom}
 use Rattle.tables.specs.Sought.{Seeks, soughtFrom}

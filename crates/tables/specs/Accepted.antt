@@ -1,21 +1,13 @@
--- Of a file that was accepted: what stands where. A file that was refused has no rows.
+-- Of a file that was accepted: what stands where.
 use Prim.Native.Nat.{ℕ, _+_}
-use mathlib.Core.List.{List, []}
+use mathlib.Core.List.{List}
 use mathlib.Core.Path.{_≡_}
 use lib.ListN.{drop, replicate}
-use Rattle.xm.specs.Got.{Got, got, refused}
+use Rattle.xm.specs.Got.{got, listIn}
 use Rattle.xm.specs.Format.{Format, each}
 use Rattle.xm.specs.Header.{instrumentsAt}
 use Rattle.xm.specs.Instrument.{instrumentFormat}
 use Rattle.xm.specs.Module.{Found, readFile}
-
-abbrev pub Accepted : {A : Type 0} → Got A → Type 0
-Accepted (got a used) = Unit {0}
-Accepted (refused r) = ⊥
-
-abbrev pub listIn : {A R : Type 0} → (A → List R) → Got A → List R
-listIn rows (got a used) = rows a
-listIn rows (refused r) = []
 
 -- From a place to an end so many parts are read, all of one kind.
 pub record ReadsFrom {H I A : Type 0} (F : Format H I A) (h : H) (file : List ℕ) (count place : ℕ) (parts : List I) (end : ℕ) : Type 0 where

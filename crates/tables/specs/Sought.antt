@@ -3,12 +3,13 @@ use Prim.Native.Nat.{ℕ, _+_, _*_, _≤_, _<_}
 use mathlib.Core.List.{List, _++_}
 use mathlib.Core.Path.{_≡_}
 use lib.ListN.{length, drop}
+use Rattle.xm.specs.Got.{listIn}
 use Rattle.xm.specs.Format.{joined}
 use Rattle.xm.specs.Sample.{leastHead}
 use Rattle.xm.specs.Instrument.{InstrumentFound, instrumentFormat}
 use Rattle.xm.specs.Module.{readFile}
 use Rattle.xm.specs.Table.{sampleRowsIn, sampleRows}
-use Rattle.tables.specs.Accepted.{listIn, ReadsFrom}
+use Rattle.tables.specs.Accepted.{ReadsFrom}
 use Rattle.tables.specs.Place.{dataBefore, rowsFrom}
 use Rattle.tables.specs.declared.sample.Sought.{Sought}
 

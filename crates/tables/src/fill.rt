@@ -7,16 +7,17 @@ use crate::sample::put_sample;
 use crate::sample::row_step;
 use steps::header::header_part;
 use steps::instrument::instrument_head;
+ghost use mathlib.Core.Bool.{true};
 ghost use mathlib.Core.Path.{_≡_};
 ghost use Prim.Native.Nat.{_+_, _≤_};
 ghost use mathlib.Core.List.{[], _∷_};
 ghost use lib.ListN.{length};
+ghost use Rattle.xm.specs.Got.{listIn, accepted};
 ghost use Rattle.xm.specs.Format.{joined};
 ghost use Rattle.xm.specs.Answer.{inFront};
 ghost use Rattle.xm.specs.Lay.{lay};
 ghost use Rattle.xm.specs.Module.{readFile};
 ghost use Rattle.xm.specs.Table.{patternRows, instrumentRows, sampleRows, patternNumbers, instrumentNumbers, sampleNumbers, sampleTunes};
-ghost use Rattle.tables.specs.Accepted.{Accepted, listIn};
 
 // Numbers to a row.
 pub const PATTERN_STRIDE: usize = 3;
@@ -35,7 +36,7 @@ fn put_three(table: &mut [u32], to: usize, first: u32, second: u32, third: u32)
 
 // Patterns: data place, S, rows it reads as.
 pub fn fill_patterns(file: &[u8], table: &mut [u32])
-    requires { ⌜ Accepted (readFile (now file)) ⌝ }
+    requires { ⌜ accepted (readFile (now file)) ≡ true ⌝ }
     requires { ⌜ length (joined patternNumbers (listIn patternRows (readFile (now file)))) ≤ length (now table) ⌝ }
     ensures { λ _. ⌜ now (table .exit) ≡ inFront (joined patternNumbers (listIn patternRows (readFile (now (file .entry))))) (now (table .entry)) ⌝ }
 {
@@ -60,7 +61,7 @@ pub fn fill_patterns(file: &[u8], table: &mut [u32])
 
 // Instruments: place, k, number of its first sample, or of the next sample if k = 0.
 pub fn fill_instruments(file: &[u8], table: &mut [u32])
-    requires { ⌜ Accepted (readFile (now file)) ⌝ }
+    requires { ⌜ accepted (readFile (now file)) ≡ true ⌝ }
     requires { ⌜ length (joined instrumentNumbers (listIn instrumentRows (readFile (now file)))) ≤ length (now table) ⌝ }
     ensures { λ _. ⌜ now (table .exit) ≡ inFront (joined instrumentNumbers (listIn instrumentRows (readFile (now (file .entry))))) (now (table .entry)) ⌝ }
 {

@@ -4,12 +4,14 @@ use steps::instrument::InstrumentHead;
 use steps::pattern::pattern_head;
 use steps::pattern::rows_read;
 use steps::sample::sample_head;
+ghost use mathlib.Core.Bool.{true};
 ghost use mathlib.Core.Path.{_≡_};
 ghost use Prim.Native.Nat.{_+_, _≤_};
 ghost use lib.ListN.{length, drop};
+ghost use Rattle.xm.specs.Got.{accepted};
 ghost use Rattle.xm.specs.PatternInFile.{leastPattern};
 ghost use Rattle.xm.specs.Module.{readFile};
-ghost use Rattle.tables.specs.Accepted.{Accepted, InstrumentsFrom};
+ghost use Rattle.tables.specs.Accepted.{InstrumentsFrom};
 ghost use Rattle.tables.specs.Place.{patternAt, dataEnd, Stands};
 
 // A pattern's data place and S, and the rows it reads as.
@@ -33,7 +35,7 @@ pub fn pattern_at(file: &[u8], at: usize) -> PatternAt
 
 // Where the first instrument stands: patterns are stepped over by L + S.
 pub fn first_instrument(file: &[u8]) -> usize
-    requires { ⌜ Accepted (readFile (now file)) ⌝ }
+    requires { ⌜ accepted (readFile (now file)) ≡ true ⌝ }
     ensures { λ r. ⌜ InstrumentsFrom (now (file .entry)) r ⌝ }
 {
     let counts = header_part(file);

@@ -8,12 +8,12 @@ ghost use Prim.Native.Nat.{_+_, _*_, _<_, _≤_, _/_, _%_, _^_};
 ghost use mathlib.Core.Bool.{cond};
 ghost use lib.Dec.{eqb};
 ghost use lib.ListN.{length, getD, drop};
+ghost use Rattle.xm.specs.Got.{listIn};
 ghost use Rattle.xm.specs.Sample.{leastHead, headBytes};
 ghost use Rattle.xm.specs.Module.{fileMost, readFile};
 ghost use Rattle.xm.specs.Lay.{lay};
 ghost use Rattle.xm.specs.Table.{sampleRows, sampleStride, tuneStride};
 ghost use Rattle.xm.specs.Asking.{noRow};
-ghost use Rattle.tables.specs.Accepted.{listIn};
 ghost use Rattle.tables.specs.Place.{rowOf, sampleRow, numbersOf, tunesOf};
 ghost use Rattle.tables.specs.Sought.{soughtFrom, Seeks};
 

@@ -8,7 +8,7 @@ use lib.ListN.{length, take, drop, replicate, length-append, length-drop, length
 use lib.Seq.{take-add, drop-drop, length-take-le}
 use borrow.Rule.Slice.PartMut.{putMid}
 use Rattle.xm.specs.Number.{Bytes, byteAt, wordAt, longAt, part, byte, word, long}
-use Rattle.xm.specs.Got.{Got, got, refused, _>>=_, AllHold}
+use Rattle.xm.specs.Got.{Got, got, refused, _>>=_, AllHold, listIn}
 use Rattle.xm.specs.Format.{each, flat}
 use Rattle.xm.specs.Sample.{leastHead, Stretch, readData, headFormat, dataFormat, SamplesFound, samplesFormat, sizeOfFirst}
 use Rattle.xm.specs.Instrument.{leastInstrument, samplesMost, voiceFrom, voiceSize, instrumentTests, InstrumentFound, voiceOf, readInstrument, writeVoice, instrumentView, writeInstrument, instrumentFormat}
@@ -19,7 +19,6 @@ use Rattle.xm.proofs.Sample.{samples-keeps}
 use Rattle.xm.proofs.Instrument.{heads-used}
 use Rattle.xm.specs.Answer.{inFront}
 use Rattle.xm.proofs.Lay.{Laid, laid-none, laid-part, laid-done}
-use Rattle.shortest.specs.Found.{rewritten}
 use Rattle.steps.specs.Sample.{headsFrom}
 use Rattle.steps.specs.Step.{instrumentStep}
 use Rattle.steps.specs.declared.instrument.InstrumentPart.{InstrumentPart}
@@ -164,7 +163,7 @@ module _ (file : List ℕ) (place : ℕ) where
             tests = h;
             reads = ev;
             same = same-read (is ∙ ap (instrumentStep place) (sym e₂));
-            written = ap (rewritten (λ (i : InstrumentFound). writeInstrument (instrumentView i))) (e ∙ sym e₂);
+            written = ap (listIn (λ (i : InstrumentFound). writeInstrument (instrumentView i))) (e ∙ sym e₂);
           }
       go (refused r) e is = never-read is
 

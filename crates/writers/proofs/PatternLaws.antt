@@ -11,20 +11,20 @@ use lib.Seq.{drop-drop, length-take-le}
 use borrow.Rule.Slice.PartMut.{putMid}
 use borrow.Author.Tests.{eqb-true, eqb-false}
 use Rattle.xm.specs.Number.{Bytes, wordAt, longAt, part}
-use Rattle.xm.specs.Got.{Got, got, refused, AllHold}
+use Rattle.xm.specs.Got.{Got, got, refused, AllHold, listIn, Told}
 use Rattle.xm.specs.Answer.{inFront}
 use Rattle.xm.specs.Stored.{channelsMost, rowsMost, Pattern, readStored, writeStored}
 use Rattle.xm.specs.PatternInFile.{dataMost, patternTests, PatternFound, readPattern, writePattern, patternFormat}
 use Rattle.xm.proofs.Number.{bytes-drop, bytes-take, word-small, part-drop}
-use Rattle.xm.proofs.Got.{passed, bind-got, got-value, got-used}
+use Rattle.xm.proofs.Got.{passed, bind-got, got-value, got-used, got-accepted}
 use Rattle.xm.proofs.Stored.{stored-keeps}
-use Rattle.xm.proofs.Row.{got-accepted, stored-anywhere, stored-nothing}
-use Rattle.shortest.specs.Found.{rewritten, storedPressed, Known}
+use Rattle.xm.proofs.Row.{stored-anywhere, stored-nothing}
+use Rattle.shortest.specs.Found.{storedPressed, Known}
 use Rattle.steps.specs.Mark.{copied, nothing, Marked}
 use Rattle.steps.specs.Step.{rowsReadAs}
 use Rattle.steps.proofs.PatternLaws.{rows-stored}
 use Rattle.steps.proofs.MarkLaws.{marked-nothing, marked-copied}
-use Rattle.writers.specs.Found.{Told, readAt, pressedAt}
+use Rattle.writers.specs.Found.{readAt, pressedAt}
 use Rattle.writers.specs.Pattern.{patternHead}
 use Rattle.writers.proofs.Writing.{first-last}
 
@@ -72,7 +72,7 @@ module _ (file : List ℕ) (place channels mark : ℕ) where
             reads = ep;
             none = marked-nothing marked;
             already = λ t. part-drop place L S file ∙ marked-copied marked t;
-            written = ap (rewritten (λ (i : PatternFound). writePattern (i .content))) (e ∙ sym e₂);
+            written = ap (listIn (λ (i : PatternFound). writePattern (i .content))) (e ∙ sym e₂);
           }
       go (refused r) e m = absurd m
 
@@ -113,7 +113,7 @@ module _ (file : List ℕ) (place channels mark : ℕ) where
       is-pressed : storedPressed row channels cut ≡ writeStored (w .pattern)
       is-pressed =
           ap₂ (λ (n : ℕ) (s : List ℕ). storedPressed n channels s) q same-cut
-          ∙ ap (rewritten writeStored) (stored-anywhere channels (wordAt 5 from) (place + L) 0 d (w .pattern) (w .used) (w .reads))
+          ∙ ap (listIn writeStored) (stored-anywhere channels (wordAt 5 from) (place + L) 0 d (w .pattern) (w .used) (w .reads))
 
       is-written : pressedAt patternFormat channels file place ≡ patternHead (rowsReadAs row size) (length (storedPressed row channels cut)) ++ storedPressed row channels cut
       unfolding writePattern

@@ -11,11 +11,12 @@ use steps::pattern::rows_read;
 ghost use mathlib.Core.Path.{_≡_};
 ghost use Prim.Native.Nat.{_≤_};
 ghost use lib.ListN.{length};
+ghost use Rattle.xm.specs.Got.{Told};
 ghost use Rattle.xm.specs.Answer.{inFront};
 ghost use Rattle.xm.specs.Stored.{channelsMost, rowsMost};
 ghost use Rattle.xm.specs.PatternInFile.{dataMost, patternFormat};
 ghost use Rattle.steps.specs.Mark.{Marked};
-ghost use Rattle.writers.specs.Found.{Told, readAt, pressedAt};
+ghost use Rattle.writers.specs.Found.{readAt, pressedAt};
 ghost use Rattle.writers.specs.Pattern.{patternHead};
 
 // L, packing type, rows and S: 9 bytes.

@@ -7,7 +7,7 @@ use native.Mathlib.Omega.{arith}
 use lib.Dec.{leb, eqb}
 use borrow.Author.Tests.{leb-true, le-leb, eqb-true, eq-eqb, eqb-false, ne-eqb}
 use Rattle.xm.specs.Format.{All}
-use Rattle.xm.specs.Got.{Refusal, Got, got, refused, _>>=_, _>>_, Test, present, atLeast, atMost, within, exactly, unlike, even, holds, when, passes, allPass, refusalOf, Holds, AllHold, ensure, checked}
+use Rattle.xm.specs.Got.{Refusal, Got, got, refused, accepted, Told, _>>=_, _>>_, Test, present, atLeast, atMost, within, exactly, unlike, even, holds, when, passes, allPass, refusalOf, Holds, AllHold, ensure, checked}
 
 pub not-both : {A : Type 0} {x : A} {n : ℕ} {r : Refusal} → _≡_ {A = Got A} (refused r) (got x n) → ⊥
 not-both e = let z : _≡_ {A = ℕ} 0 1 = cc in omega arith
@@ -87,6 +87,21 @@ step k h e = rw h e
 pub step-refused : {A B : Type 0} (k : A × ℕ → Got B) {g : Got A} {r : Refusal} → g ≡ refused r → (g >>= k) ≡ refused r
 unfolding _>>=_
 step-refused k h = rw h
+
+-- An accepted reading found something; so did one of which a property is told
+pub accepted-got : {A R : Type 0} (g : Got A) → accepted g ≡ true → ((a : A) (n : ℕ) → g ≡ got a n → R) → R
+accepted-got (got a n) e k = k a n refl
+accepted-got (refused r) e k = absurd (no-true e)
+
+pub got-accepted : {A : Type 0} {g : Got A} {a : A} {n : ℕ} → g ≡ got a n → accepted g ≡ true
+got-accepted e = rw e
+
+pub told-got : {A R : Type 0} (P : A → Type 0) (g : Got A) → Told P g → ((a : A) (n : ℕ) → g ≡ got a n → P a → R) → R
+told-got P (got a n) t k = k a n refl t
+told-got P (refused r) t k = absurd t
+
+pub got-told : {A : Type 0} (P : A → Type 0) {g : Got A} {a : A} {n : ℕ} → g ≡ got a n → P a → Told P g
+got-told P e p = rw e p
 
 -- A hypothesis that a reading was accepted: its tests hold, and the step was accepted. What is found is handed on as variables
 passed-one : {A R : Type 0} (b : Bool) (r : Refusal) (ts : List Test) (g : Got A) {x : A} {n : ℕ} → (ensure b r >> checked ts >> g) ≡ got x n → (b ≡ true → (checked ts >> g) ≡ got x n → R) → R

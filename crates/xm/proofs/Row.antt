@@ -14,18 +14,10 @@ use Rattle.xm.specs.Format.{joined, flat}
 use Rattle.xm.specs.Cell.{noteMost, needed, cellAt, readCell, bit, kepts, marked, goesPlain, writeCell}
 use Rattle.xm.specs.Stored.{Pattern, readRow, readCells, readStored, allZero, needsNoData, writeStored}
 use Rattle.xm.specs.Row.{cellsIn, noDataBy, sizeBy}
-use Rattle.xm.proofs.Got.{not-both, no-true, bind-got, got-value, got-used}
+use Rattle.xm.proofs.Got.{not-both, accepted-got, got-accepted, bind-got, got-value, got-used}
 use Rattle.xm.proofs.Format.{cons-path}
 use Rattle.xm.proofs.Cell.{bit-none, bit-some, kept-length, marked-length, length-some, cell-length, cell-read, write-plain, write-marked, write-some, write-short, plain-many}
 use Rattle.xm.proofs.Stored.{Fives, zero-append, write-none, write-cells, stored-rows}
-
--- An accepted reading found something
-pub accepted-got : {A R : Type 0} (g : Got A) → accepted g ≡ true → ((a : A) (n : ℕ) → g ≡ got a n → R) → R
-accepted-got (got a n) e k = k a n refl
-accepted-got (refused r) e k = absurd (no-true e)
-
-pub got-accepted : {A : Type 0} {g : Got A} {a : A} {n : ℕ} → g ≡ got a n → accepted g ≡ true
-got-accepted e = rw e
 
 -- What an accepted row says: which cells it has, that each takes a byte or more, and that they are written in no more bytes
 pub record RowRead (count : ℕ) (s : List ℕ) (cells : List (List ℕ)) (used : ℕ) : Type 0 where

@@ -21,9 +21,19 @@ pub data Got (A : Type 0) : Type 0 where
   got : A → ℕ → Got A
   refused : Refusal → Got A
 
+-- Of a reading: whether it was accepted; that it was, and that a property holds of what was found; and a list made of what was found,
+-- which is empty where it was refused.
 abbrev pub accepted : {A : Type 0} → Got A → Bool
 accepted (got a n) = true
 accepted (refused r) = false
+
+abbrev pub Told : {A : Type 0} → (A → Type 0) → Got A → Type 0
+Told P (got a n) = P a
+Told P (refused r) = ⊥
+
+abbrev pub listIn : {A B : Type 0} → (A → List B) → Got A → List B
+listIn f (got a n) = f a
+listIn f (refused r) = []
 
 -- A reading of the bytes that are left; the place where they begin is carried along, for refusals and tables.
 abbrev pub Reader : Type 0 → Type 0

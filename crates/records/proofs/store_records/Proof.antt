@@ -50,11 +50,11 @@ use denote.Triple.Spec.{Meets, tripleOf}
 use denote.Triple.Table.{entered, cited}
 use denote.Triple.Walked.{says, needs, Stays, stay-slice, stay-none, stay-none-slice, walkOf, goes-slice, goes-none, goes-none-slice, Walks, ends-at, walked, walk-meets}
 use denote.Exit.{yes as kept}
+use Rattle.xm.specs.Got.{listIn}
 use Rattle.xm.specs.Module.{readFile}
 use Rattle.xm.specs.Answer.{inFront}
 use Rattle.xm.specs.Table.{sampleRows}
 use Rattle.xm.specs.Asking.{noRow}
-use Rattle.tables.specs.Accepted.{listIn}
 use Rattle.tables.specs.Place.{sampleRow}
 use Rattle.records.specs.Records.{noRecord, recordsIn}
 use Rattle.tables.specs.Sought.{Seeks}

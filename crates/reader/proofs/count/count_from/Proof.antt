@@ -47,10 +47,10 @@ use denote.Triple.Spec.{Meets, tripleOf}
 use denote.Triple.Table.{entered, cited}
 use denote.Triple.Walked.{says, needs, Stays, stay-none, stay-none-slice, walkOf, goes-none, goes-none-slice, Walks, ends-at, walked, walk-meets}
 use denote.Exit.{yes}
+use Rattle.xm.specs.Got.{listIn}
 use Rattle.xm.specs.Format.{Region}
 use Rattle.xm.specs.Module.{readFile}
 use Rattle.xm.specs.Structure.{structures, started}
-use Rattle.tables.specs.Accepted.{listIn}
 use Rattle.structures.specs.Handing.{reachedOf}
 use Rattle.structures.specs.declared.Reached.{Reached}
 use Rattle.structures.specs.declared.Standing.{Standing}

@@ -3,10 +3,10 @@
 use Prim.Native.Nat.{_-_, _*_, _<_}
 use mathlib.Core.Path.{ap, _∙_}
 use native.Mathlib.Omega.{arith}
+use Rattle.xm.specs.Got.{listIn}
 use Rattle.xm.specs.Lay.{lay}
 use Rattle.xm.specs.Module.{readFile}
 use Rattle.xm.specs.Table.{sampleRows, sampleStride, tuneStride}
-use Rattle.tables.specs.Accepted.{listIn}
 use Rattle.tables.specs.Place.{numbersOf, tunesOf}
 use Rattle.tables.specs.Sought.{Seeks}
 use Rattle.tables.specs.declared.sample.SampleRow.{SampleRow}
