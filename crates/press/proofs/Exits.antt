@@ -16,7 +16,7 @@ use Rattle.xm.proofs.Module.{module-back, module-keeps}
 use Rattle.xm.proofs.Press.{press-gives, press-narrow}
 use Rattle.refusal.specs.Fault.{faultOf, refusalIn}
 use Rattle.refusal.specs.declared.Fault.{Fault}
-use Rattle.steps.specs.Mark.{Marks}
+use Rattle.mark.specs.Mark.{Marks}
 use Rattle.walk.specs.File.{walkStep, walkFault}
 use Rattle.walk.specs.declared.WalkStep.{WalkStep}
 use Rattle.walk.specs.declared.WalkStep.the-variants as walked
@@ -40,9 +40,9 @@ module _ (file lent : List ℕ) where
   press-refused e told passed = rw (answer-refuses (λ bytes used. bytes) (step-refused _ (walk-refused (readFile file) e told passed))) (refl, refl)
 
   module _ {size : ℕ} (e : walked.Accepted size ≡ walkStep (readFile file)) where
-    pub accepted-told : (marks : List ℕ) → ((found : Found) (end : ℕ) → readFile file ≡ got found end → Marks file (found .1 .0) marks)
-        → Told (λ (found : Found). Marks file (found .1 .0) marks) (readFile file)
-    accepted-told marks m = accepted-got (readFile file) e λ found end q z. got-told (λ (found : Found). Marks file (found .1 .0) marks) q (m found end q)
+    pub accepted-told : (marks : List ℕ) → ((found : Found) (end : ℕ) → readFile file ≡ got found end → Marks file 0 (found .1 .0) marks)
+        → Told (λ (found : Found). Marks file 0 (found .1 .0) marks) (readFile file)
+    accepted-told marks m = accepted-got (readFile file) e λ found end q z. got-told (λ (found : Found). Marks file 0 (found .1 .0) marks) q (m found end q)
 
     pub accepted-size : size ≡ length (pressedFile file)
     accepted-size = accepted-got (readFile file) e λ found end q z. z ∙ sym (ap (λ (g : Got Found). length (listIn (λ (found : Found). pressed (contentOf found)) g)) q)

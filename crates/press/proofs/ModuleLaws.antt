@@ -17,7 +17,7 @@ use Rattle.xm.specs.Module.{patternsFor, instrumentsFor, bodyFormat, Found, mod
 use Rattle.xm.specs.Press.{contentOf, pressed}
 use Rattle.xm.proofs.Got.{told-got, got-told, passed, bind-got, got-value, got-carry}
 use Rattle.xm.proofs.Module.{whole-read}
-use Rattle.steps.specs.Mark.{Marks}
+use Rattle.mark.specs.Mark.{Marks}
 use Rattle.writers.specs.Found.{readAt, pressedAt, endOf}
 use Rattle.writers.specs.Header.{headerWith}
 use Rattle.press.specs.Module.{reachedOf, pressedFile}
@@ -37,14 +37,14 @@ module _ (file marks : List ℕ) where
     instruments : List InstrumentFound
     others : ℕ
     reads-last : readAt (each instrumentFormat) (replicate (instrumentsAt file) tt) file (headerEnd file + used) ≡ got instruments others
-    marked : Marks file patterns marks
+    marked : Marks file 0 patterns marks
     written : pressedFile file
         ≡ writeHeader (headerOf file) ++ (each patternFormat .write (each patternFormat .view patterns) ++ each instrumentFormat .write (each instrumentFormat .view instruments))
 
-  as-read : Told (λ (found : Found). Marks file (found .1 .0) marks) (readFile file) → AsRead
+  as-read : Told (λ (found : Found). Marks file 0 (found .1 .0) marks) (readFile file) → AsRead
   unfolding readHeader
   as-read told =
-      told-got (λ (found : Found). Marks file (found .1 .0) marks) (readFile file) told λ found end e m.
+      told-got (λ (found : Found). Marks file 0 (found .1 .0) marks) (readFile file) told λ found end e m.
       whole-read moduleFormat file found end e λ small e₁.
       bind-got (readHeader 0 file) _ e₁ λ i n ei e₂.
       bind-got (bodyFormat .read (i .content) (0 + n) (drop n file)) _ e₂ λ v k ev e₃.
@@ -65,14 +65,14 @@ module _ (file marks : List ℕ) where
         reads-last =
             got-carry (λ (i : HeaderFound) (n : ℕ). each instrumentFormat .read (replicate (i .content .instruments) tt) (n + u) (drop (n + u) file) ≡ got is r) (sym e₆)
             (rw (zero-add n, drop-drop u n file) at es);
-        marked = subst (λ (body : List PatternFound × List InstrumentFound). Marks file (body .0) marks) (sym body-is) (subst (λ (f : Found). Marks file (f .1 .0) marks) (sym found-is) m);
+        marked = subst (λ (body : List PatternFound × List InstrumentFound). Marks file 0 (body .0) marks) (sym body-is) (subst (λ (f : Found). Marks file 0 (f .1 .0) marks) (sym found-is) m);
         written =
             ap (listIn (λ (f : Found). pressed (contentOf f))) e
             ∙ ap (λ (f : Found). pressed (contentOf f)) (sym found-is)
             ∙ ap₂ (λ (x : HeaderFound) (body : List PatternFound × List InstrumentFound). pressed (contentOf (x, body))) (sym (got-value e₆)) (sym body-is);
       }
 
-  module _ (told : Told (λ (found : Found). Marks file (found .1 .0) marks) (readFile file)) where
+  module _ (told : Told (λ (found : Found). Marks file 0 (found .1 .0) marks) (readFile file)) where
     abbrev w : AsRead
     w = as-read told
 
@@ -117,7 +117,7 @@ module _ (file marks : List ℕ) where
         pub some : 1 ≤ channels
         pub high : channels ≤ channelsMost
         pub many : patterns ≤ 256
-        pub told-first : Told (λ is. Marks file is marks) (readAt (each patternFormat) (replicate patterns channels) file start)
+        pub told-first : Told (λ is. Marks file 0 is marks) (readAt (each patternFormat) (replicate patterns channels) file start)
         pub told-last : Told (λ is. Unit {0}) (readAt (each instrumentFormat) (replicate instruments tt) file last)
         pub header-long : length (writeHeader (headerWith patterns orders file)) ≡ 336
         pub long : length (pressedFile file) ≡ 336 + (length (pressedAt (each patternFormat) (replicate patterns channels) file start) + length (pressedAt (each instrumentFormat) (replicate instruments tt) file last))
@@ -157,7 +157,7 @@ module _ (file marks : List ℕ) where
             some = omega (arith, c, h .1 .1 .1 .1 .1 .1 .0);
             high = omega (arith, c, h .1 .1 .1 .1 .1 .1 .0);
             many = omega (arith, p, h .1 .1 .1 .1 .1 .0);
-            told-first = got-told (λ is. Marks file is marks) first-read (w .marked);
+            told-first = got-told (λ is. Marks file 0 is marks) first-read (w .marked);
             told-last = got-told (λ is. Unit {0}) last-read tt;
             header-long = header-size patterns orders file numbers-inside few;
             long = ap length is-written ∙ three-long (writeHeader (headerWith patterns orders file)) (pressedAt (each patternFormat) (replicate patterns channels) file start) _ ∙ omega (arith, header-size patterns orders file numbers-inside few);

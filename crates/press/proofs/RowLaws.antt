@@ -1,10 +1,10 @@
 -- The loops over patterns and instruments. Assumes nothing.
-use Prim.Native.Nat.{ℕ, zero, suc, _+_, _-_, _≤_, _<_}
-use mathlib.Core.List.{List, [], _∷_}
+use Prim.Native.Nat.{ℕ, suc, _+_, _-_, _≤_, _<_}
+use mathlib.Core.List.{List}
 use mathlib.Core.Path.{_≡_, sym, ap, _∙_}
 use native.Mathlib.Numerals.{add-one}
 use native.Mathlib.Omega.{arith}
-use lib.ListN.{length, take, drop, getD, replicate}
+use lib.ListN.{length, take, drop, replicate}
 use borrow.Rule.Slice.PartMut.{putMid}
 use Rattle.xm.specs.Got.{Told}
 use Rattle.xm.specs.Number.{wordAt, longAt}
@@ -12,7 +12,7 @@ use Rattle.xm.specs.Format.{each}
 use Rattle.xm.specs.Answer.{inFront}
 use Rattle.xm.specs.PatternInFile.{PatternFound, patternFormat}
 use Rattle.xm.specs.Instrument.{InstrumentFound, instrumentFormat}
-use Rattle.steps.specs.Mark.{Marked, Marks}
+use Rattle.mark.specs.Mark.{Marked, markAt, Marks}
 use Rattle.steps.specs.Step.{instrumentStep}
 use Rattle.steps.specs.declared.instrument.InstrumentPart.{InstrumentPart}
 use Rattle.steps.specs.declared.instrument.InstrumentStep.{InstrumentStep}
@@ -24,14 +24,6 @@ use Rattle.writers.specs.Instrument.{InstrumentIs}
 use Rattle.press.proofs.EachLaws.{EachLeft, each-none, each-first, each-room, each-more, each-done, each-end}
 use Rattle.writers.proofs.PatternLaws.{pattern-used}
 use Rattle.writers.proofs.InstrumentLaws.{instrument-there, never-refused, is-next-of, is-long}
-
--- The first of the marks that are left
-marks-first : (file : List ℕ) (i : PatternFound) (is : List PatternFound) (marks : List ℕ) (done : ℕ) → Marks file (i ∷ is) (drop done marks)
-    → Marked file i (getD marks done 0) × Marks file is (drop (suc done) marks)
-marks-first file i is [] zero m = absurd m
-marks-first file i is [] (suc done) m = absurd m
-marks-first file i is (mark ∷ marks) zero m = m
-marks-first file i is (mark ∷ marks) (suc done) m = marks-first file i is marks done m
 
 module _ (file lent : List ℕ) (at channels count : ℕ) (marks : List ℕ) where
   abbrev goal : List ℕ
@@ -46,10 +38,10 @@ module _ (file lent : List ℕ) (at channels count : ℕ) (marks : List ℕ) whe
     pub sum : left + done ≡ count
     pub rest : List PatternFound
     pub writes : EachLeft patternFormat channels file lent goal end left place out to rest
-    pub marked : Marks file rest (drop done marks)
+    pub marked : Marks file done rest marks
 
-  pub patterns-none : Told (λ is. Marks file is marks) (readAt (each patternFormat) (replicate count channels) file at) → length goal ≤ length lent → PatternsLeft 0 at lent 0
-  patterns-none t room = told-got (λ is. Marks file is marks) _ t λ is n e m. record {
+  pub patterns-none : Told (λ is. Marks file 0 is marks) (readAt (each patternFormat) (replicate count channels) file at) → length goal ≤ length lent → PatternsLeft 0 at lent 0
+  patterns-none t room = told-got (λ is. Marks file 0 is marks) _ t λ is n e m. record {
     left = count;
     sum = omega arith;
     rest = is;
@@ -68,12 +60,12 @@ module _ (file lent : List ℕ) (at channels count : ℕ) (marks : List ℕ) whe
       some : 0 < w .left
       some = omega (arith, w .sum)
 
-      first-marked : Marked file (each-first patternFormat channels file lent goal end (w .writes) some .part) (getD marks done 0)
-          × Marks file (each-first patternFormat channels file lent goal end (w .writes) some .later) (drop (suc done) marks)
-      first-marked = let f = each-first patternFormat channels file lent goal end (w .writes) some in marks-first file (f .part) (f .later) marks done (rw (f .first) at (w .marked))
+      first-marked : Marked file (each-first patternFormat channels file lent goal end (w .writes) some .part) (markAt marks done)
+          × Marks file (suc done) (each-first patternFormat channels file lent goal end (w .writes) some .later) marks
+      first-marked = rw (each-first patternFormat channels file lent goal end (w .writes) some .first) at (w .marked)
 
-      pub pattern-told : Told (λ i. Marked file i (getD marks done 0)) (readAt patternFormat channels file place)
-      pattern-told = got-told (λ i. Marked file i (getD marks done 0)) (each-first patternFormat channels file lent goal end (w .writes) some .read) (first-marked .0)
+      pub pattern-told : Told (λ i. Marked file i (markAt marks done)) (readAt patternFormat channels file place)
+      pattern-told = got-told (λ i. Marked file i (markAt marks done)) (each-first patternFormat channels file lent goal end (w .writes) some .read) (first-marked .0)
 
       pub pattern-room : to + length (pressedAt patternFormat channels file place) ≤ length out
       pattern-room = each-room patternFormat channels file lent goal end (w .writes) some

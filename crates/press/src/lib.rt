@@ -22,7 +22,7 @@ pub fn press(file: &[u8], out: &mut [u8]) -> Pressed
     ensures answer { λ r. ⌜ r ≡ pressedOf (pressing (now (file .entry)) (length (now (out .entry)))) ⌝ }
     ensures memory { λ _. ⌜ now (out .exit) ≡ pressAfter (now (file .entry)) (now (out .entry)) ⌝ }
 {
-    let mut marks: [u8; 256] = [0; 256];
+    let mut marks: [u64; 8] = [0; 8];
     let step = walk::walk(file, &mut marks);
     let WalkStep::Accepted(size) = step else {
         return Pressed::Refused(fault_of_walk(step));

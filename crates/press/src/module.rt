@@ -1,4 +1,5 @@
 // The whole of a pressed file: the header, then each pattern and each instrument into what remains of the output.
+use mark::mark_at;
 use slices::read::long;
 use slices::read::word;
 use steps::instrument::InstrumentStep;
@@ -16,7 +17,7 @@ ghost use Rattle.xm.specs.Stored.{channelsMost};
 ghost use Rattle.xm.specs.PatternInFile.{patternFormat};
 ghost use Rattle.xm.specs.Instrument.{instrumentFormat};
 ghost use Rattle.xm.specs.Module.{fileMost, readFile};
-ghost use Rattle.steps.specs.Mark.{Marks};
+ghost use Rattle.mark.specs.Mark.{Marks};
 ghost use Rattle.writers.specs.Found.{readAt, pressedAt};
 ghost use Rattle.press.specs.Module.{reachedOf, pressedFile};
 
@@ -32,12 +33,12 @@ fn write_patterns(
     at: usize,
     channels: usize,
     count: usize,
-    marks: &[u8; 256],
+    marks: &[u64; 8],
     out: &mut [u8],
 ) -> Reached
     requires { ⌜ (1 ≤ channels) × (channels ≤ channelsMost) ⌝ }
     requires { ⌜ count ≤ 256 ⌝ }
-    requires { ⌜ Told (λ is. Marks (now file) is (now marks)) (readAt (each patternFormat) (replicate count channels) (now file) at) ⌝ }
+    requires { ⌜ Told (λ is. Marks (now file) 0 is (now marks)) (readAt (each patternFormat) (replicate count channels) (now file) at) ⌝ }
     requires { ⌜ length (pressedAt (each patternFormat) (replicate count channels) (now file) at) ≤ length (now out) ⌝ }
     ensures { λ r. ⌜ r ≡ reachedOf (now (file .entry)) at channels count ⌝ }
     ensures { λ _. ⌜ now (out .exit) ≡ inFront (pressedAt (each patternFormat) (replicate count channels) (now (file .entry)) at) (now (out .entry)) ⌝ }
@@ -46,7 +47,7 @@ fn write_patterns(
     let mut to: usize = 0;
     let mut done: usize = 0;
     while done < count {
-        to += write_pattern(file, place, channels, marks[done], &mut out[to..]);
+        to += write_pattern(file, place, channels, mark_at(marks, done), &mut out[to..]);
         place += long(file, place, 0) + word(file, place, 7);
         done += 1;
     }
@@ -79,8 +80,8 @@ fn write_instruments(file: &[u8], at: usize, count: usize, out: &mut [u8])
 }
 
 // An accepted file, pressed, at the front of out.
-pub fn write_module(file: &[u8], marks: &[u8; 256], out: &mut [u8])
-    requires { ⌜ Told (λ found. Marks (now file) (found .1 .0) (now marks)) (readFile (now file)) ⌝ }
+pub fn write_module(file: &[u8], marks: &[u64; 8], out: &mut [u8])
+    requires { ⌜ Told (λ found. Marks (now file) 0 (found .1 .0) (now marks)) (readFile (now file)) ⌝ }
     requires { ⌜ length (pressedFile (now file)) ≤ length (now out) ⌝ }
     ensures { λ _. ⌜ now (out .exit) ≡ inFront (pressedFile (now (file .entry))) (now (out .entry)) ⌝ }
 {

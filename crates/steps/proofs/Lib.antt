@@ -1,7 +1,6 @@
 pub mod Tests
 pub mod HeaderLaws
 pub mod Walking
-pub mod MarkLaws
 pub mod PatternLaws
 pub mod SampleLaws
 pub mod InstrumentLaws

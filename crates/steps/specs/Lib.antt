@@ -1,4 +1,3 @@
 pub mod Test
 pub mod Sample
 pub mod Step
-pub mod Mark

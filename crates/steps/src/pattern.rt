@@ -12,16 +12,8 @@ ghost use lib.ListN.{length, drop};
 ghost use Rattle.xm.specs.PatternInFile.{leastPattern, patternTests, readPattern, dataMost};
 ghost use Rattle.xm.specs.Module.{fileMost};
 ghost use Rattle.refusal.specs.Fault.{placeStep};
-ghost use Rattle.steps.specs.Mark.{markBy};
 ghost use Rattle.steps.specs.Test.{firstFault};
 ghost use Rattle.steps.specs.Step.{patternHead, patternStep, patternFault, storedFault, faultFrom, rowsReadAs};
-
-// A second pass writes the cells again, copies them as they stand, or writes nothing.
-pub const AGAIN: u8 = 0;
-
-pub const COPIED: u8 = 1;
-
-pub const NOTHING: u8 = 2;
 
 // The bytes of a pattern's shortest stored form and whether it stands in that form already, and where the next structure starts.
 pub struct PatternPart {
@@ -166,17 +158,4 @@ pub fn rows_read(row: usize, size: usize) -> usize
     ensures { λ r. ⌜ r ≡ rowsReadAs row size ⌝ }
 {
     if size == 0 { 64 } else { row }
-}
-
-// What a second pass does with a pattern.
-pub fn mark_of(shortest: usize, same: bool) -> u8
-    ensures { λ r. ⌜ r ≡ markBy shortest same ⌝ }
-{
-    if shortest == 0 {
-        return NOTHING;
-    }
-    if same {
-        return COPIED;
-    }
-    AGAIN
 }

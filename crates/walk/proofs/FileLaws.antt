@@ -25,7 +25,7 @@ use Rattle.refusal.specs.Fault.{refusalIn, placeStep}
 use Rattle.refusal.specs.declared.Fault.{Fault}
 use Rattle.refusal.specs.declared.Step.the-variants.{Next}
 use Rattle.refusal.proofs.Steps.{next-got}
-use Rattle.steps.specs.Mark.{Marks}
+use Rattle.mark.specs.Mark.{Marks}
 use Rattle.steps.specs.Step.{headerStep}
 use Rattle.steps.specs.declared.header.HeaderPart.{HeaderPart}
 use Rattle.steps.specs.declared.header.HeaderStep.the-variants as header
@@ -49,7 +49,7 @@ run-refused F samples place (refused q) e told passed = cc
 
 -- A refusal is the answer, and leaves nothing to mark
 pub walk-refuses : (file marks : List ℕ) {r : Fault} → readFile file ≡ refused (refusalIn r)
-    → (walked.Refused r ≡ walkStep (readFile file)) × ((found : Found) (end : ℕ) → readFile file ≡ got found end → Marks file (found .1 .0) marks)
+    → (walked.Refused r ≡ walkStep (readFile file)) × ((found : Found) (end : ℕ) → readFile file ≡ got found end → Marks file 0 (found .1 .0) marks)
 walk-refuses file marks e = (sym (ap walkStep e), λ found end q. absurd (no-true (cc)))
 
 pub check-refuses : (file : List ℕ) {r : Fault} → readFile file ≡ refused (refusalIn r) → verdict.Refused r ≡ verdictOf (checking file)
@@ -191,10 +191,10 @@ module _ (file : List ℕ) where
             ap walked.Accepted (sym (simp length-append (omega (arith, front, w .pressed)))) ∙ sym (ap walkStep (w .reads))
 
         -- and the marks of its patterns are those that their loop left
-        pub walk-marked : (marks : List ℕ) → ((ps : List PatternFound) (n : ℕ) → patterns ≡ got ps n → Marks file ps marks)
-            → (found : Found) (end : ℕ) → readFile file ≡ got found end → Marks file (found .1 .0) marks
+        pub walk-marked : (marks : List ℕ) → ((ps : List PatternFound) (n : ℕ) → patterns ≡ got ps n → Marks file 0 ps marks)
+            → (found : Found) (end : ℕ) → readFile file ≡ got found end → Marks file 0 (found .1 .0) marks
         walk-marked marks told found end f =
-            got-carry (λ (r : Found) (u : ℕ). Marks file (r .1 .0) marks) (sym (all-read .reads) ∙ f) (told (ps .parts) (ps .used) (ps .reads))
+            got-carry (λ (r : Found) (u : ℕ). Marks file 0 (r .1 .0) marks) (sym (all-read .reads) ∙ f) (told (ps .parts) (ps .used) (ps .reads))
 
         pub check-accepted : {end channels patterns instruments samples : ℕ} → end ≡ last .next → channels ≡ part .channels → patterns ≡ part .patterns → instruments ≡ part .instruments → samples ≡ last .samples
             → verdict.Accepted (record { end = end; channels = channels; patterns = patterns; instruments = instruments; samples = samples }) ≡ verdictOf (checking file)

@@ -1,9 +1,9 @@
 -- Laws of the loops over patterns and instruments. Assumes nothing.
 use Prim.Native.Nat.{ℕ, _+_, _-_, _*_, _≤_, _<_}
 use mathlib.Core.List.{List, [], _∷_, _++_}
-use mathlib.Core.Path.{_≡_, refl, sym, ap, _∙_, subst}
+use mathlib.Core.Path.{_≡_, refl, sym, ap, _∙_}
 use native.Mathlib.Omega.{arith}
-use lib.ListN.{length, drop, set, replicate, length-append, length-drop, length-map, length-replicate, getD-replicate}
+use lib.ListN.{length, drop, replicate, length-append, length-drop, length-map, length-replicate, getD-replicate}
 use Rattle.xm.specs.Number.{Bytes, part}
 use Rattle.xm.specs.Got.{Got, got, refused}
 use Rattle.xm.specs.Format.{Format, each, joined}
@@ -24,7 +24,7 @@ use Rattle.refusal.specs.declared.Step.{Step}
 use Rattle.refusal.specs.declared.Step.the-variants.{Next, Refused}
 use Rattle.refusal.proofs.Steps.{next-got}
 use Rattle.measure.specs.Measure.{sameBytes}
-use Rattle.steps.specs.Mark.{markBy, Marks}
+use Rattle.mark.specs.Mark.{markBy, Put, Marks}
 use Rattle.steps.specs.Step.{patternStep, patternFault, instrumentStep, instrumentFault}
 use Rattle.steps.specs.declared.pattern.PatternPart.{PatternPart}
 use Rattle.steps.specs.declared.pattern.PatternStep.{PatternStep}
@@ -36,7 +36,7 @@ use Rattle.walk.specs.File.{patternsStep, instrumentsStep}
 use Rattle.walk.specs.declared.RunStep.the-variants as run
 use Rattle.steps.proofs.PatternLaws.{pattern-refused}
 use Rattle.steps.proofs.InstrumentLaws.{instrument-refused}
-use Rattle.steps.proofs.MarkLaws.{mark-told, marks-more}
+use Rattle.mark.proofs.MarkLaws.{mark-told, marks-more}
 use Rattle.steps.proofs.Walking.{refused-on, Reached, reached-start, reached-on, reached-out, reached-end, reached-place}
 
 -- One more is written behind what is written
@@ -60,7 +60,7 @@ instrument-got place (refused r) e k = absurd (no-true (cc))
 -- The loop over the patterns: what is told of those read is the length of their pressed forms, and their marks
 pub record PatternsTold (file : List ℕ) (pressed : ℕ) (marks : List ℕ) (done : List PatternFound) : Type 0 where
   pub written : pressed ≡ length (each patternFormat .write (each patternFormat .view done))
-  pub marked : Marks file done marks
+  pub marked : Marks file 0 done marks
 
 pub record PatternsRead (file : List ℕ) (start channels count j place pressed : ℕ) (marks : List ℕ) : Type 0 where
   pub reached : Reached patternFormat (replicate count channels) file start (PatternsTold file pressed marks) j place
@@ -80,25 +80,25 @@ module _ (file : List ℕ) (start channels count : ℕ) where
 
   module _ {j place pressed : ℕ} {marks : List ℕ} (w : PatternsRead file start channels count j place pressed marks) where
     pub patterns-end : count ≤ j → (run.Read (record { next = place; samples = 0; pressed = pressed }) ≡ patternsStep start patterns)
-        × ((is : List PatternFound) (n : ℕ) → patterns ≡ got is n → Marks file is marks)
+        × ((is : List PatternFound) (n : ℕ) → patterns ≡ got is n → Marks file 0 is marks)
     patterns-end h =
         let e = reached-end patternFormat _ file start (w .reached) (rw length-replicate h) in
         let on : place ≡ start + (place - start) = omega (arith, w .reached .left .from) in
-        (cc (e, w .reached .told .written), λ is n q. got-carry (λ (r : List PatternFound) (u : ℕ). Marks file r marks) (sym e ∙ q) (w .reached .told .marked))
+        (cc (e, w .reached .told .written), λ is n q. got-carry (λ (r : List PatternFound) (u : ℕ). Marks file 0 r marks) (sym e ∙ q) (w .reached .told .marked))
 
     module _ (h : j < count) where
       -- A refusal leaves nothing to mark
       pub patterns-out : {step : PatternStep} {f r : Fault} → step ≡ patternStep file place (readPattern channels place (drop place file)) → step ≡ pattern.Refused f → r ≡ patternFault step
-          → (run.Refused r ≡ patternsStep start patterns) × ((is : List PatternFound) (n : ℕ) → patterns ≡ got is n → Marks file is marks)
+          → (run.Refused r ≡ patternsStep start patterns) × ((is : List PatternFound) (n : ℕ) → patterns ≡ got is n → Marks file 0 is marks)
       patterns-out e told passed =
           let out =
           reached-out patternFormat _ file start (w .reached) channels (rw length-replicate h) (getD-replicate count j channels channels h) (pattern-refused file place _ e told passed) in
           (sym (ap (patternsStep start) out), λ is n q. absurd (no-true (cc)))
 
       module _ (b : Bytes file) (c : 1 ≤ channels) {part : PatternPart} (e : pattern.Read part ≡ patternStep file place (readPattern channels place (drop place file))) where
-        pub patterns-on : {mark : ℕ} → mark ≡ markBy (part .shortest) (part .same) → j < length marks
-            → PatternsRead file start channels count (j + 1) (part .next) (pressed + (9 + part .shortest)) (set marks j mark)
-        patterns-on {mark} by l = pattern-got file place _ e λ i n ei q z m.
+        pub patterns-on : {mark : ℕ} {after : List ℕ} → mark ≡ markBy (part .shortest) (part .same) → Put marks j mark after
+            → PatternsRead file start channels count (j + 1) (part .next) (pressed + (9 + part .shortest)) after
+        patterns-on by put = pattern-got file place _ e λ i n ei q z m.
             let k = pattern-keeps channels c .keeps place (drop place file) i n (bytes-drop place b) ei in
             let size = pattern-size channels (i .content) (k .good) in
             let done = w .reached .done in
@@ -108,9 +108,7 @@ module _ (file : List ℕ) (start channels count : ℕ) where
                   reached-on patternFormat _ file start (w .reached) channels (rw length-replicate h) (getD-replicate _ j channels channels h) (PatternsTold file _ _) ei q
                   (λ t. record {
                     written = omega (arith, t .written, size, written-more patternFormat done i);
-                    marked =
-                        subst (λ (at : ℕ). Marks file (done ++ (i ∷ [])) (set marks at mark)) count
-                        (marks-more file done marks i mark (omega arith) (t .marked) (mark-told file i z m by));
+                    marked = marks-more file 0 done (omega (arith, count)) put (t .marked) (mark-told file i z m by);
                   });
               inside = omega (arith, w .inside, k .inside, length-drop place file);
               short = omega (arith, w .short, k .short, size);

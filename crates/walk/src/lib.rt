@@ -1,4 +1,6 @@
 // The walk over a file: header, patterns and instruments, one step after the other; and the check.
+use mark::mark_of;
+use mark::put_mark;
 use refusal::Fault;
 use refusal::Step;
 use refusal::fault_of;
@@ -11,7 +13,6 @@ use steps::instrument::fault_of_instrument;
 use steps::instrument::read_instrument;
 use steps::pattern::PatternStep;
 use steps::pattern::fault_of_pattern;
-use steps::pattern::mark_of;
 use steps::pattern::read_pattern;
 use steps::pattern::scan_pattern;
 ghost use mathlib.Core.Path.{_≡_};
@@ -26,7 +27,7 @@ ghost use Rattle.xm.specs.Instrument.{instrumentFormat};
 ghost use Rattle.xm.specs.Module.{Found, fileMost, readWhole, readFile};
 ghost use Rattle.xm.specs.Table.{checking};
 ghost use Rattle.refusal.specs.Fault.{placeStep};
-ghost use Rattle.steps.specs.Mark.{Marks};
+ghost use Rattle.mark.specs.Mark.{Marks};
 ghost use Rattle.steps.specs.Step.{headerStep};
 ghost use Rattle.walk.specs.File.{patternsStep, instrumentsStep, runFault, walkStep, walkFault, verdictOf};
 
@@ -91,15 +92,15 @@ fn read_patterns(
     at: usize,
     channels: usize,
     count: usize,
-    marks: &mut [u8; 256],
+    marks: &mut [u64; 8],
 ) -> RunStep
     requires { ⌜ at ≤ length (now file) ⌝ }
     requires { ⌜ length (now file) ≤ fileMost ⌝ }
     requires { ⌜ (1 ≤ channels) × (channels ≤ 64) ⌝ }
     requires { ⌜ count ≤ 256 ⌝ }
-    requires { ⌜ length (now marks) ≡ 256 ⌝ }
+    requires { ⌜ length (now marks) ≡ 8 ⌝ }
     ensures answer { λ r. ⌜ r ≡ patternsStep at (each patternFormat .read (replicate count channels) at (drop at (now (file .entry)))) ⌝ }
-    ensures marked { λ _. ⌜ ((is : List PatternFound) (used : ℕ) → each patternFormat .read (replicate count channels) at (drop at (now (file .entry))) ≡ got is used → Marks (now (file .entry)) is (now (marks .exit))) ⌝ }
+    ensures marked { λ _. ⌜ ((is : List PatternFound) (used : ℕ) → each patternFormat .read (replicate count channels) at (drop at (now (file .entry))) ≡ got is used → Marks (now (file .entry)) 0 is (now (marks .exit))) ⌝ }
 {
     let mut place = at;
     let mut pressed: usize = 0;
@@ -109,7 +110,7 @@ fn read_patterns(
         let PatternStep::Read(part) = step else {
             return RunStep::Refused(fault_of_pattern(step));
         };
-        marks[done] = mark_of(part.shortest, part.same);
+        put_mark(marks, done, mark_of(part.shortest, part.same));
         place = part.next;
         pressed += 9 + part.shortest;
         done += 1;
@@ -183,10 +184,10 @@ fn begin(file: &[u8]) -> HeaderStep
 }
 
 // The whole file, in one pass: its first fault, or the length of its pressed form, and then with a mark for each pattern.
-pub fn walk(file: &[u8], marks: &mut [u8; 256]) -> WalkStep
-    requires { ⌜ length (now marks) ≡ 256 ⌝ }
+pub fn walk(file: &[u8], marks: &mut [u64; 8]) -> WalkStep
+    requires { ⌜ length (now marks) ≡ 8 ⌝ }
     ensures answer { λ r. ⌜ r ≡ walkStep (readFile (now (file .entry))) ⌝ }
-    ensures marked { λ _. ⌜ ((found : Found) (end : ℕ) → readFile (now (file .entry)) ≡ got found end → Marks (now (file .entry)) (found .1 .0) (now (marks .exit))) ⌝ }
+    ensures marked { λ _. ⌜ ((found : Found) (end : ℕ) → readFile (now (file .entry)) ≡ got found end → Marks (now (file .entry)) 0 (found .1 .0) (now (marks .exit))) ⌝ }
 {
     let step = begin(file);
     let HeaderStep::Read(header) = step else {

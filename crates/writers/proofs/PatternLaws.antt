@@ -20,10 +20,10 @@ use Rattle.xm.proofs.Got.{passed, bind-got, got-value, got-used, got-accepted}
 use Rattle.xm.proofs.Stored.{stored-keeps}
 use Rattle.xm.proofs.Row.{stored-anywhere, stored-nothing}
 use Rattle.shortest.specs.Found.{storedPressed, Known}
-use Rattle.steps.specs.Mark.{copied, nothing, Marked}
+use Rattle.mark.specs.Mark.{copied, nothing, Marked}
 use Rattle.steps.specs.Step.{rowsReadAs}
 use Rattle.steps.proofs.PatternLaws.{rows-stored}
-use Rattle.steps.proofs.MarkLaws.{marked-nothing, marked-copied}
+use Rattle.mark.proofs.MarkLaws.{marked-nothing, marked-copied}
 use Rattle.writers.specs.Found.{readAt, pressedAt}
 use Rattle.writers.specs.Pattern.{patternHead}
 use Rattle.writers.proofs.Writing.{first-last}

@@ -1,12 +1,12 @@
 // A pattern of a pressed file.
+use mark::COPIED;
+use mark::NOTHING;
 use shortest::stored::write_stored;
 use slices::read::long;
 use slices::read::word;
 use slices::write::put_byte;
 use slices::write::put_long;
 use slices::write::put_word;
-use steps::pattern::COPIED;
-use steps::pattern::NOTHING;
 use steps::pattern::rows_read;
 ghost use mathlib.Core.Path.{_≡_};
 ghost use Prim.Native.Nat.{_≤_};
@@ -15,7 +15,7 @@ ghost use Rattle.xm.specs.Got.{Told};
 ghost use Rattle.xm.specs.Answer.{inFront};
 ghost use Rattle.xm.specs.Stored.{channelsMost, rowsMost};
 ghost use Rattle.xm.specs.PatternInFile.{dataMost, patternFormat};
-ghost use Rattle.steps.specs.Mark.{Marked};
+ghost use Rattle.mark.specs.Mark.{Marked};
 ghost use Rattle.writers.specs.Found.{readAt, pressedAt};
 ghost use Rattle.writers.specs.Pattern.{patternHead};
 
@@ -33,7 +33,7 @@ fn write_head(rows: usize, size: usize, out: &mut [u8])
 }
 
 // The pattern at a place of an accepted file, in its shortest form at the front of out; its length there.
-pub fn write_pattern(file: &[u8], at: usize, channels: usize, mark: u8, out: &mut [u8]) -> usize
+pub fn write_pattern(file: &[u8], at: usize, channels: usize, mark: u64, out: &mut [u8]) -> usize
     requires { ⌜ (1 ≤ channels) × (channels ≤ channelsMost) ⌝ }
     requires { ⌜ Told (λ i. Marked (now file) i mark) (readAt patternFormat channels (now file) at) ⌝ }
     requires { ⌜ length (pressedAt patternFormat channels (now file) at) ≤ length (now out) ⌝ }

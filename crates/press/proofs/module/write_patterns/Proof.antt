@@ -19,8 +19,8 @@ abbrev μ-loop : tie.MeasureT-loop
 loop-holds : tie.Need-loop-holds Inv-loop μ-loop
 loop-holds c = patterns-none _ _ _ _ _ _ (c .before .before .pre .1 .1 .0) (c .before .before .pre .1 .1 .1)
 
-element-copy-out-write-pattern : tie.Need-element-copy-out-write-pattern Inv-loop μ-loop
-element-copy-out-write-pattern c = omega (arith, c .before .before .before .before .pre)
+mark-at-requires : tie.Need-mark-at-requires Inv-loop μ-loop
+mark-at-requires c κs = omega (arith, c .before .before .before .before .pre)
 
 sub-write-pattern : tie.Need-sub-write-pattern Inv-loop μ-loop
 sub-write-pattern c = omega (arith, c .before .before .loop .inv .writes .laid .room)
@@ -35,7 +35,7 @@ write-pattern-requires : tie.Need-write-pattern-requires Inv-loop μ-loop
 write-pattern-requires c κs =
     let l = c .before .before .before .loop in
     let room = pattern-room _ _ _ _ _ _ (l .inv) (c .before .before .loop-test .taken) in
-    (c .before .before .before .before .before .before .pre .0, (pattern-told _ _ _ _ _ _ (l .inv) (c .before .before .loop-test .taken), rw (part-all, length-drop) (omega arith)))
+    (c .before .before .before .before .before .before .pre .0, (rw (c .before .mark-at .ensures) (pattern-told _ _ _ _ _ _ (l .inv) (c .before .before .loop-test .taken)), rw (part-all, length-drop) (omega arith)))
 
 add-to : tie.Need-add-to Inv-loop μ-loop
 add-to c = omega (arith, pattern-room _ _ _ _ _ _ (c .before .before .before .before .before .before .loop .inv) (c .before .before .before .before .before .loop-test .taken), c .before .before .write-pattern .ensures .0, c .before .before .before .before .before .before .loop .inv .writes .laid .kept, c .before .before .before .before .before .before .before .before .before .good)
@@ -80,7 +80,7 @@ write-patterns-spec =
     Inv-loop
     μ-loop
     loop-holds
-    element-copy-out-write-pattern
+    mark-at-requires
     sub-write-pattern
     part-write-pattern-start
     part-write-pattern-end

@@ -1,7 +1,7 @@
--- `steps::pattern::mark_of` meets its contract. Assumes nothing.
+-- `mark::mark_of` meets its contract. Assumes nothing.
 use borrow.Author.Tests.{eq-eqb, ne-eqb}
-use Rattle.steps.proofs.pattern.mark_of.Statement.{statement}
-use Rattle.steps.proofs.pattern.mark_of.Tie as tie
+use Rattle.mark.proofs.mark_of.Statement.{statement}
+use Rattle.mark.proofs.mark_of.Tie as tie
 
 pub mark-of-spec : {M : Type 1} → statement M
 mark-of-spec =
