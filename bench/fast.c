@@ -13,7 +13,6 @@
 #define ONES 0x0101010101010101u
 #define NOTE_MOST 97u
 #define CELL 5u
-#define EMPTY_ROWS 64u
 
 static inline uint64_t refuse(uint64_t number, uint64_t place)
 {
@@ -302,7 +301,6 @@ uint64_t fast_unpack(size_t rows, size_t channels, const uint8_t *data, size_t d
 {
     if (!rows_and_channels_fit(rows, channels) || data_len > 65535)
         return refuse(16, 0);
-    rows = data_len == 0 ? EMPTY_ROWS : rows;
     size_t count = rows * channels;
     uint64_t refusal = data_len == 0 ? 0 : scan_cells(data, data_len, count, false).refusal;
     if (refusal != 0)
@@ -379,7 +377,7 @@ uint64_t fast_pack(size_t rows, size_t channels, const uint8_t *cells, size_t ce
     struct scan scan = measure_cells(cells, count);
     if (scan.refusal != 0)
         return scan.refusal;
-    size_t length = rows == EMPTY_ROWS && scan.shortest == count ? 0 : scan.shortest;
+    size_t length = scan.shortest == count ? 0 : scan.shortest;
     if (length > 65535)
         return refuse(15, 0);
     if (length > out_len)
@@ -436,12 +434,12 @@ static inline uint64_t try_pattern(const uint8_t *file, size_t file_len, size_t 
         return refuse(6, at);
     if ((uint64_t)length + size > file_len - at)
         return refuse(1, at);
-    *pattern = (struct pattern){(uint32_t)at, (uint32_t)at + length, size, size == 0 ? EMPTY_ROWS : rows, 0, true};
+    *pattern = (struct pattern){(uint32_t)at, (uint32_t)at + length, size, rows, 0, true};
     if (size == 0)
         return 0;
     size_t count = (size_t)rows * channels;
     struct scan scan = scan_cells(file + pattern->data, size, count, measured);
-    pattern->stored = rows == EMPTY_ROWS && scan.shortest == count ? 0 : (uint32_t)scan.shortest;
+    pattern->stored = scan.shortest == count ? 0 : (uint32_t)scan.shortest;
     pattern->same = scan.same;
     return scan.refusal == 0 ? 0 : scan.refusal + pattern->data;
 }

@@ -79,10 +79,10 @@
 extern "C" {
 #endif
 
-#define FIDDLEMARSH_VERSION_MAJOR 1
+#define FIDDLEMARSH_VERSION_MAJOR 2
 #define FIDDLEMARSH_VERSION_MINOR 0
 #define FIDDLEMARSH_VERSION_PATCH 0
-#define FIDDLEMARSH_VERSION "1.0.0"
+#define FIDDLEMARSH_VERSION "2.0.0"
 
 /* The refusal numbers, and the place that comes with each. */
 enum fiddlemarsh_number {
@@ -142,8 +142,8 @@ enum fiddlemarsh_number {
    Rows have the order of the file, and are counted from 0. */
 #define FIDDLEMARSH_PATTERN_NUMBERS 3
 #define FIDDLEMARSH_PATTERN_DATA_PLACE 0 /* where its stored cells begin */
-#define FIDDLEMARSH_PATTERN_DATA_SIZE 1  /* their bytes */
-#define FIDDLEMARSH_PATTERN_ROWS 2       /* the rows it reads as */
+#define FIDDLEMARSH_PATTERN_DATA_SIZE 1  /* their bytes; 0 if every cell is empty and none is stored */
+#define FIDDLEMARSH_PATTERN_ROWS 2
 #define FIDDLEMARSH_PATTERN_TABLE_MOST 768
 
 #define FIDDLEMARSH_INSTRUMENT_NUMBERS 3
@@ -173,15 +173,15 @@ uint64_t fiddlemarsh_check(const uint8_t *file, size_t file_len);
 
 /* Unpacks one pattern's stored data, as it stands in a module, into cells.
    rows 1..256 and channels 1..64 come from the pattern's header and the module's; data_len is at most 65,535.
-   Returns the rows, and has filled FIDDLEMARSH_CELLS_SIZE(rows, channels) bytes of cells. With data_len 0 the pattern is the
-   standard empty one: the answer is 64 rows, whatever rows says, and FIDDLEMARSH_CELLS_SIZE(64, channels) bytes are filled with 0.
+   Returns the rows, and has filled FIDDLEMARSH_CELLS_SIZE(rows, channels) bytes of cells. With data_len 0 every cell is empty,
+   and they are filled with 0.
    Room of FIDDLEMARSH_CELLS_MOST bytes is enough for every pattern.
    Refusals, in this order: 16 (rows, channels or data_len), then 7, 9 and 8 over the data, then 14. */
 uint64_t fiddlemarsh_unpack(size_t rows, size_t channels, const uint8_t *data, size_t data_len, uint8_t *cells, size_t cells_len);
 
 /* Packs cells, laid out as unpacking gives them, into the shortest stored data.
    rows 1..256, channels 1..64, and cells_len is exactly FIDDLEMARSH_CELLS_SIZE(rows, channels).
-   Returns length + 65,536 x rows, and has filled length bytes of out. 64 rows of empty cells have length 0.
+   Returns length + 65,536 x rows, and has filled length bytes of out. Where every cell is empty the length is 0.
    Room of FIDDLEMARSH_DATA_MOST bytes is enough for every pattern.
    Refusals, in this order: 16 (rows, channels or cells_len), 9 over all cells, 15, 14. */
 uint64_t fiddlemarsh_pack(size_t rows, size_t channels, const uint8_t *cells, size_t cells_len, uint8_t *out, size_t out_len);
@@ -277,7 +277,7 @@ static inline uint32_t fiddlemarsh_unpacked_rows(uint64_t answer)
     return fiddlemarsh_refused(answer) ? 0 : (uint32_t)answer;
 }
 
-/* The length that packing reports; 0 of a refusal, and of 64 empty rows. */
+/* The length that packing reports; 0 of a refusal, and of empty cells alone. */
 static inline uint32_t fiddlemarsh_packed_length(uint64_t answer)
 {
     return fiddlemarsh_refused(answer) ? 0 : (uint32_t)answer & 0xFFFF;

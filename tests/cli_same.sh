@@ -40,6 +40,13 @@ write('sample.xm', put(example, len(example) - 1, [example[-1] ^ 1]))
 write('Aa.xm', put(example, 17, b'Aa'))
 write('BB.xm', put(example, 17, b'BB'))
 write('BB2.xm', put(pressed, 17, b'BB') + noise)
+# The last pattern is silent: 32 rows of it, without data, in marked cells and in plain ones; the example has 64
+silent = 336
+for _ in range(2):
+    silent += 9 + int.from_bytes(pressed[silent + 7:silent + 9], 'little')
+for name, data in ('silent.xm', b''), ('marked.xm', b'\x80' * 32 * 4), ('zeros.xm', bytes(32 * 4 * 5)):
+    numbers = (32).to_bytes(2, 'little') + len(data).to_bytes(2, 'little')
+    write(name, pressed[:silent + 5] + numbers + data + pressed[silent + 9:])
 END
 with_byte badnote.xm 345 142 # the first cell's note: 98
 head -c 400 example.xm >cut.xm
@@ -47,7 +54,7 @@ head -c 400 example.xm >cut.xm
 # Usage
 fiddlemarsh --help
 ok "--help has same" says '^       fiddlemarsh same \[--quiet\] \[--tsv\] FILE\.\.\.$'
-ok "--help says that the name is content" says "name is content, so a module under another name (in it, not the file's) is\$"
+ok "--help says that the name is content" says "The module's name is content, so a module under another\$"
 for usage in 'same' 'same --into . example.xm' 'same -' 'same example.xm -'; do
     # shellcheck disable=SC2086  # words
     fiddlemarsh $usage
@@ -91,6 +98,16 @@ fiddlemarsh same BB.xm Aa.xm BB2.xm Aa.xm
 ok "and so are more of them" says_only 'BB.xm: one song with BB2.xm
 Aa.xm: one song with Aa.xm
 4 files: 4 accepted as 2 songs, 0 refused, 0 troubles'
+
+# 32 silent rows are one song, stored or left out, and 64 are another
+fiddlemarsh same silent.xm pressed.xm marked.xm zeros.xm
+ok "silence without data and in cells" says_only 'silent.xm: one song with marked.xm, zeros.xm
+pressed.xm: alone
+4 files: 4 accepted as 2 songs, 0 refused, 0 troubles'
+for name in silent marked zeros; do
+    fiddlemarsh press $name.xm again.xm
+    ok "$name.xm keeps its 32 rows, and no data" is_same again.xm silent.xm
+done
 
 # Groups, those that are alone, and refused ones
 fiddlemarsh same tempo.xm badnote.xm renamed.xm example.xm sample.xm behind.xm cut.xm header.xm renamed.xm

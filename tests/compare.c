@@ -117,14 +117,9 @@ static void try_file_rooms(const uint8_t *file, size_t length, size_t step)
         press(file, length, room);
 }
 
-static size_t needed_cells(size_t rows, size_t channels, size_t length)
-{
-    return (length == 0 ? 64 : rows) * channels * 5;
-}
-
 static void try_unpack(size_t rows, size_t channels, const uint8_t *data, size_t length)
 {
-    size_t needed = needed_cells(rows, channels, length);
+    size_t needed = rows * channels * 5;
     if (needed <= SMALL_RESULT) {
         for (size_t room = 0; room <= needed + 1; room++)
             unpack(rows, channels, data, length, room);
@@ -168,7 +163,8 @@ static const struct piece pieces[] = {
     {CALL_PACK, "010100051F", PACKED(5, 1), "9B0101051F"},
     {CALL_UNPACK, "80", 1, "0000000000"},
     {CALL_UNPACK, "E0", 1, "0000000000"},
-    {CALL_PACK, "0000000000", PACKED(1, 1), "80"},
+    {CALL_UNPACK, "", 1, "0000000000"},
+    {CALL_PACK, "0000000000", PACKED(0, 1), ""},
     {CALL_UNPACK, "3102400F06", 1, "3102400F06"},
     {CALL_PACK, "3102400F06", PACKED(5, 1), "3102400F06"},
     {CALL_UNPACK, "0001400A0F", 1, "0001400A0F"},
@@ -277,6 +273,7 @@ static void group_pieces(void)
     try_bench_file(276, 0, REFUSED(6, 336));
     try_bench_file(276, 257, REFUSED(6, 336));
     try_bench_file(276, 1, 345);
+    try_bench_file(276, 32, 345);
     try_bench_file(276, 256, 345);
 }
 
@@ -357,10 +354,9 @@ static void damage_data(const struct module *data, size_t rows, size_t channels)
 {
     uint8_t bytes[512];
     const uint8_t values[] = {0, 1, 97, 98, 127, 128, 129, 159, 160, 191, 224, 255};
-    size_t needed = needed_cells(rows, channels, 1);
-    size_t enough = needed_cells(rows > 64 ? rows : 64, channels, 1); /* for no data, too */
+    size_t needed = rows * channels * 5;
     for (size_t length = 0; length <= data->length; length++)
-        unpack(rows, channels, data->bytes, length, enough);
+        unpack(rows, channels, data->bytes, length, needed);
     for (size_t at = 0; at < data->length; at++)
         for (size_t i = 0; i < COUNT(values); i++) {
             memcpy(bytes, data->bytes, data->length);
@@ -461,11 +457,12 @@ static void group_pack_empty(void)
     static uint8_t cells[256 * 64 * 5];
     static const size_t rows[] = {1, 31, 32, 63, 64, 65, 128, 256};
     for (size_t i = 0; i < COUNT(rows); i++)
-        for (size_t channels = 1; channels <= 64; channels += rows[i] == 64 ? 1 : 7)
+        for (size_t channels = 1; channels <= 64; channels += rows[i] == 32 ? 1 : 7)
             try_pack(rows[i], channels, cells);
-    for (size_t byte = 0; byte < 64 * 2 * 5; byte++) { /* 64 rows that are empty but for one byte */
+    for (size_t byte = 0; byte < 64 * 2 * 5; byte++) { /* 64 rows, and 32, that are empty but for one byte */
         cells[byte] = 1;
         try_pack(64, 2, cells);
+        try_pack(32, 4, cells);
         cells[byte] = 0;
     }
 }
@@ -835,6 +832,48 @@ static void group_changes(void)
     }
 }
 
+/* The form of an empty cell, as often as there are cells, behind a bench file's header; returns the file's length. */
+static size_t silence_file(uint8_t *file, uint32_t rows, uint32_t channels, const char *form)
+{
+    uint8_t cell[6];
+    size_t length = from_hex(form, cell), cells = length > 0 ? (size_t)rows * channels : 0;
+    bench_file(file, 276, rows);
+    file[68] = (uint8_t)channels;
+    field_put(file, (struct field){343, 2}, (uint32_t)(cells * length));
+    for (size_t i = 0; i < cells; i++)
+        memcpy(file + 345 + i * length, cell, length);
+    return 345 + cells * length;
+}
+
+/* Silence of so many rows is one song, stored in no data or in cells of any form; it presses to its rows and S = 0. */
+static void try_silence(uint32_t rows, uint32_t channels)
+{
+    static const char *const forms[] = {"", "80", "A0", "C0", "E0", "0000000000", "9F0000000000", "FF0000000000", "9000"};
+    static uint8_t file[345 + 6 * 256 * 64];
+    uint8_t song[345], pressed[345];
+    for (size_t i = 0; i < COUNT(forms); i++) {
+        size_t length = silence_file(file, rows, channels, forms[i]);
+        if (length > 345 + DATA_MOST)
+            continue;
+        struct call call = {.name = CALL_PRESS, .input = file, .input_len = length, .room = sizeof pressed};
+        uint64_t answer = fiddlemarsh_press(file, length, pressed, sizeof pressed);
+        silence_file(song, rows, channels, "");
+        memcpy(song, "Extended module: ", 17);
+        if (answer != sizeof song || memcmp(pressed, song, sizeof song) != 0)
+            lent_unexpected(&call, "silence does not press to its rows without data", answer);
+        try_file(file, length);
+        try_unpack(rows, channels, file + 345, length - 345);
+    }
+}
+
+static void group_silence(void)
+{
+    static const uint32_t rows[] = {1, 2, 31, 32, 33, 63, 64, 65, 255, 256}, channels[] = {1, 2, 4, 64};
+    for (size_t i = 0; i < COUNT(rows); i++)
+        for (size_t j = 0; j < COUNT(channels); j++)
+            try_silence(rows[i], channels[j]);
+}
+
 /* Patterns of one form throughout: what the press makes of them, at 32, 63, 64 and 65 rows too. */
 static void try_pattern_forms(uint32_t channels)
 {
@@ -1160,6 +1199,7 @@ static const struct group groups[] = {
     {"modules: every byte at every value", group_every_byte},
     {"modules: the size limit", group_size_limit},
     {"modules: every pattern form", group_pattern_forms},
+    {"modules: silence in every form", group_silence},
     {"unpack: one stored cell, every lead byte", group_one_stored_cell},
     {"unpack: cut, changed and overlong data", group_unpack_damaged},
     {"unpack: arguments at their limits", group_unpack_arguments},

@@ -36,7 +36,7 @@ struct module {
 enum cells {
     CELLS_EVERY_FORM, /* each cell in any form that reads as it: plain, marked, marked with fields that are 0, bits 5 and 6 */
     CELLS_EMPTY,      /* every cell empty, in any form */
-    CELLS_NONE,       /* no data: the standard empty pattern */
+    CELLS_NONE,       /* no data: every cell empty */
     CELLS_DENSE,      /* as a tracker writes them: a note or effect in nearly every cell, each in its shortest form */
     CELLS_SPARSE      /* the same, with four cells in five empty, in runs */
 };

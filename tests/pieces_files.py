@@ -33,7 +33,7 @@ class Maker:
         return front + rest + b''.join(heads) + data
 
     def small(self, **changes):
-        """A header with changes, and the standard empty pattern."""
+        """A header with changes, and 64 empty rows."""
         return self.header(**changes) + self.pattern(64)
 
     def voices(self, *heads, data=b'', **changes):

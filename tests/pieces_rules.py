@@ -104,10 +104,10 @@ def read_cells(data, count, base):
 
 
 def read_stored(rows, channels, data, base):
-    """Rows and cells of a stored form."""
+    """The cells of a stored form."""
     if not data:
-        return 64, bytes(64 * channels * 5)
-    return rows, read_cells(data, rows * channels, base)
+        return bytes(rows * channels * 5)
+    return read_cells(data, rows * channels, base)
 
 
 def shortest_cell(fields):
@@ -117,16 +117,16 @@ def shortest_cell(fields):
     return bytes([128 + sum(1 << bit for bit in range(5) if fields[bit])]) + kept
 
 
-def shortest(rows, cells):
+def shortest(cells):
     """The data of a pattern's shortest stored form."""
-    if rows == 64 and not any(cells):
+    if not any(cells):
         return b''
     return b''.join(shortest_cell(cells[at:at + 5]) for at in range(0, len(cells), 5))
 
 
 def unpack(rows, channels, data, room):
     need(1 <= rows <= 256 and 1 <= channels <= 64 and len(data) <= 65535, 16, 0)
-    rows, cells = read_stored(rows, channels, data, 0)
+    cells = read_stored(rows, channels, data, 0)
     need(len(cells) <= room, 14, 0)
     return rows, cells
 
@@ -154,7 +154,7 @@ def read_pattern(file, place, channels):
     need(place + length + size <= len(file), 1, place)
     data_place = place + length
     stored = file[data_place:data_place + size]
-    return Pattern(place, data_place, stored, *read_stored(rows, channels, stored, data_place))
+    return Pattern(place, data_place, stored, rows, read_stored(rows, channels, stored, data_place))
 
 
 def width_of(head):
@@ -285,7 +285,7 @@ def pressed_header(module):
 
 
 def pressed_pattern(pattern):
-    data = shortest(pattern.rows, pattern.cells)
+    data = shortest(pattern.cells)
     return number(9, 4) + b'\0' + number(pattern.rows, 2) + number(len(data), 2) + data
 
 

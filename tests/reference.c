@@ -15,7 +15,6 @@ enum {
     ORDER_TABLE = 256,
     PATTERN_HEADER = 9,
     PATTERNS_MOST = 256,
-    EMPTY_ROWS = 64,        /* of the standard empty pattern */
     ROWS_MOST = 256,
     CHANNELS_MOST = 64,
     DATA_MOST = 65535,
@@ -209,7 +208,7 @@ struct header {
 struct pattern {
     size_t data;
     uint32_t size;
-    uint32_t rows;   /* that it reads as */
+    uint32_t rows;
     uint32_t stored; /* bytes in its shortest stored form, if measured */
 };
 
@@ -267,16 +266,15 @@ static struct reference_refusal try_header(const uint8_t *file, size_t file_len,
 /* A pattern of an accepted file, or of one known so far to be whole up to this pattern's end. */
 static inline struct pattern pattern_fields(const uint8_t *file, size_t at)
 {
-    uint32_t size = number16(file + at + 7);
     return (struct pattern){.data = at + number32(file + at),
-                            .size = size,
-                            .rows = size == 0 ? EMPTY_ROWS : number16(file + at + 5)};
+                            .size = number16(file + at + 7),
+                            .rows = number16(file + at + 5)};
 }
 
-/* 64 empty rows are stored in no bytes; a cell takes one byte exactly when it is empty. */
-static uint32_t pattern_stored(uint32_t rows, size_t cells, size_t shortest)
+/* A pattern of empty cells alone is stored in no bytes; a cell takes one byte exactly when it is empty. */
+static uint32_t pattern_stored(size_t cells, size_t shortest)
 {
-    return rows == EMPTY_ROWS && shortest == cells ? 0 : (uint32_t)shortest;
+    return shortest == cells ? 0 : (uint32_t)shortest;
 }
 
 static inline struct reference_refusal try_pattern(const uint8_t *file, size_t file_len, size_t at, uint32_t channels,
@@ -297,7 +295,7 @@ static inline struct reference_refusal try_pattern(const uint8_t *file, size_t f
     struct scan scan = scan_cells(file + pattern->data, pattern->size, cells, measure);
     if (scan.refusal.number != 0)
         return refuse(scan.refusal.number, pattern->data + scan.refusal.place);
-    pattern->stored = pattern_stored(pattern->rows, cells, scan.shortest);
+    pattern->stored = pattern_stored(cells, scan.shortest);
     return accepted;
 }
 
@@ -584,8 +582,6 @@ REFERENCE_CALL struct reference_count reference_unpack(size_t rows, size_t chann
 {
     if (!rows_and_channels_fit(rows, channels) || data_len > DATA_MOST)
         return (struct reference_count){refuse(16, 0), 0};
-    if (data_len == 0)
-        rows = EMPTY_ROWS;
     size_t count = rows * channels;
     if (data_len > 0) {
         struct scan scan = scan_cells(data, data_len, count, false);
@@ -631,7 +627,7 @@ REFERENCE_CALL struct reference_packed reference_pack(size_t rows, size_t channe
     struct scan scan = measure_cells(cells, count);
     if (scan.refusal.number != 0)
         return (struct reference_packed){.refusal = scan.refusal};
-    uint32_t length = pattern_stored((uint32_t)rows, count, scan.shortest);
+    uint32_t length = pattern_stored(count, scan.shortest);
     if (length > DATA_MOST)
         return (struct reference_packed){.refusal = refuse(15, 0)};
     if (length > out_len)
@@ -689,7 +685,7 @@ static uint8_t *press_pattern(const uint8_t *file, const struct pattern *pattern
     const uint8_t *data = file + pattern->data;
     size_t cells = pattern->rows * channels;
     uint8_t *to = out + PATTERN_HEADER;
-    bool stores_none = pattern->size == 0 || (pattern->rows == EMPTY_ROWS && cells_all_empty(data, cells));
+    bool stores_none = pattern->size == 0 || cells_all_empty(data, cells);
     uint8_t *end = stores_none ? to : press_cells(data, cells, to);
     put32(out, PATTERN_HEADER);
     out[4] = 0;

@@ -33,7 +33,7 @@ struct reference_checked {
 struct reference_pattern_row {
     uint32_t data_place;
     uint32_t data_size;
-    uint32_t rows; /* that it reads as: 64 where data_size is 0 */
+    uint32_t rows;
 };
 
 struct reference_instrument_row {

@@ -1,5 +1,5 @@
-/* reference_test.c: the reference's tables, structures, deltas and stretches, held against numbers worked out by hand from the
-   rules paper; and laws between them over generated modules. */
+/* reference_test.c: the reference's patterns, tables, structures, deltas and stretches, held against numbers worked out by hand from
+   the rules paper; and laws between them over generated modules. */
 
 #include "modules.h"
 #include "reference.h"
@@ -78,6 +78,51 @@ static void deltas_come_back(void)
     }
 }
 
+/* Patterns */
+
+static bool all_zeros(const uint8_t *bytes, size_t count)
+{
+    for (size_t i = 0; i < count; i++)
+        if (bytes[i] != 0)
+            return false;
+    return true;
+}
+
+/* No data give the rows asked for, and fill room for them alone. */
+static void no_data_keep_their_rows(void)
+{
+    static uint8_t cells[256 * 64 * 5];
+    for (size_t rows = 1; rows <= 256; rows++)
+        for (size_t channels = 1; channels <= 64; channels += 21) {
+            size_t room = rows * channels * 5;
+            memset(cells, 7, sizeof cells);
+            must(reference_unpack(rows, channels, NULL, 0, cells, room - 1).refusal.number == 14 && cells[0] == 7);
+            struct reference_count unpacked = reference_unpack(rows, channels, NULL, 0, cells, room);
+            must(unpacked.refusal.number == 0 && unpacked.count == rows && all_zeros(cells, room));
+            must(room == sizeof cells || cells[room] == 7);
+        }
+    must(reference_unpack(0, 1, NULL, 0, cells, sizeof cells).refusal.number == 16);
+    must(reference_unpack(257, 1, NULL, 0, cells, sizeof cells).refusal.number == 16);
+}
+
+/* Empty cells alone take no bytes, whatever the rows; one cell that isn't empty, and the others take a byte each. */
+static void silence_packs_to_nothing(void)
+{
+    static uint8_t cells[256 * 64 * 5];
+    uint8_t out[128];
+    for (size_t rows = 1; rows <= 256; rows++) {
+        struct reference_packed packed = reference_pack(rows, 64, cells, rows * 64 * 5, NULL, 0);
+        must(packed.refusal.number == 0 && packed.length == 0 && packed.rows == rows);
+    }
+    cells[1] = 9; /* the first cell's instrument, then 63 empty cells and 31 */
+    const uint8_t first[3] = {0x82, 9, 0x80};
+    struct reference_packed longer = reference_pack(32, 2, cells, 320, out, sizeof out);
+    must(longer.length == 65 && longer.rows == 32 && memcmp(out, first, 3) == 0 && out[64] == 0x80);
+    must(reference_pack(32, 1, cells, 160, out, 33).length == 33);
+    must(reference_pack(32, 1, cells, 160, out, 32).refusal.number == 14);
+    cells[1] = 0;
+}
+
 /* A module laid out by hand */
 
 #define PUT(place, width, number) field_put(file, (struct field){place, width}, number)
@@ -119,7 +164,7 @@ static void tables_of_the_hand_module(void)
     must(checked.refusal.number == 0 && checked.refusal.place == 0 && checked.end == 771);
     must(checked.channels == 2 && checked.patterns == 2 && checked.instruments == 3 && checked.samples == 2);
     must(patterns[0].data_place == 348 && patterns[0].data_size == 2 && patterns[0].rows == 1);
-    must(patterns[1].data_place == 359 && patterns[1].data_size == 0 && patterns[1].rows == 64);
+    must(patterns[1].data_place == 359 && patterns[1].data_size == 0 && patterns[1].rows == 7);
     must(instruments[0].place == 359 && instruments[0].samples == 0 && instruments[0].first_sample == 0);
     must(instruments[1].place == 388 && instruments[1].samples == 2 && instruments[1].first_sample == 0);
     must(instruments[2].place == 741 && instruments[2].samples == 0 && instruments[2].first_sample == 2);
@@ -133,7 +178,7 @@ static void tables_of_the_hand_module(void)
 /* The loader's form of the same: flat numbers, and numbers behind the last row stay. */
 static void flat_tables_of_the_hand_module(void)
 {
-    const uint32_t want_patterns[] = {348, 2, 1, 359, 0, 64}, want_instruments[] = {359, 0, 0, 388, 2, 0, 741, 0, 2, 7, 7};
+    const uint32_t want_patterns[] = {348, 2, 1, 359, 0, 7}, want_instruments[] = {359, 0, 0, 388, 2, 0, 741, 0, 2, 7, 7};
     const uint32_t want_samples[] = {652, 734, 3, 8, 693, 737, 4, 16, 7, 7, 7};
     const int8_t want_tunes[] = {-128, 127, -1, -128, 7};
     uint8_t file[HAND_LENGTH];
@@ -183,6 +228,24 @@ static void a_short_table_leaves_all_alone(void)
         must(checked.refusal.number == 14 && checked.refusal.place == 0 && checked.end == 0 && checked.samples == 0);
         must(patterns[0].data_place == 1 && instruments[0].place == 1 && samples[0].header_place == 1);
     }
+}
+
+/* Both patterns are silent: they keep their rows, 1 and 7, and have no data. 336 + 9 + 9 + 29 + (263 + 2 x 40 + 7) + 29 = 762. */
+static void press_of_the_hand_module(void)
+{
+    const uint8_t want[] = {9, 0, 0, 0, 0, 1, 0, 0, 0, 9, 0, 0, 0, 0, 7, 0, 0, 0, 29, 0, 0, 0};
+    uint8_t file[HAND_LENGTH], pressed[762], again[762];
+    hand_module(file);
+    must(reference_press(file, sizeof file, pressed, 761).refusal.number == 14);
+    must(reference_press(file, sizeof file, pressed, 762).count == 762);
+    must(memcmp(pressed, "Extended module: ", 17) == 0 && memcmp(pressed + 336, want, sizeof want) == 0);
+    must(reference_press(pressed, 762, again, 762).count == 762 && memcmp(pressed, again, 762) == 0);
+    PUT(343, 2, 0); /* rows of 0, and of 257, are refused with data and without */
+    must(reference_check(file, sizeof file).refusal.number == 6 && reference_check(file, sizeof file).refusal.place == 338);
+    PUT(343, 2, 1), PUT(355, 2, 0);
+    must(reference_check(file, sizeof file).refusal.number == 6 && reference_check(file, sizeof file).refusal.place == 350);
+    PUT(355, 2, 257);
+    must(reference_check(file, sizeof file).refusal.number == 6 && reference_check(file, sizeof file).refusal.place == 350);
 }
 
 static void structures_of_the_hand_module(void)
@@ -275,9 +338,12 @@ int main(void)
     deltas_refuse_in_order();
     deltas_come_back();
     deltas_have_a_limit();
+    no_data_keep_their_rows();
+    silence_packs_to_nothing();
     tables_of_the_hand_module();
     flat_tables_of_the_hand_module();
     a_short_table_leaves_all_alone();
+    press_of_the_hand_module();
     structures_of_the_hand_module();
     stretches();
     generated_modules();

@@ -11,14 +11,9 @@ pub fn in_range(rows: usize, channels: usize) -> bool
     1 <= rows && (rows <= 256 && (1 <= channels && channels <= 64))
 }
 
-// The bytes of a pattern's stored form, whose cells take `shortest`: none for 64 rows of empty cells, which take a byte each.
-pub fn stored_size(rows: usize, count: usize, shortest: usize) -> usize
-    ensures { λ r. ⌜ r ≡ sizeBy rows count shortest ⌝ }
+// The bytes of a pattern's stored form, whose cells take `shortest`: none if all are empty, which take a byte each.
+pub fn stored_size(count: usize, shortest: usize) -> usize
+    ensures { λ r. ⌜ r ≡ sizeBy count shortest ⌝ }
 {
-    if rows == 64 {
-        if shortest == count {
-            return 0;
-        }
-    }
-    shortest
+    if shortest == count { 0 } else { shortest }
 }

@@ -1,22 +1,20 @@
 -- Laws of unpacking: what its tests and its reading say, and its answers and its memory at each exit; that both are fixed.
 -- Assumes nothing.
-use Prim.Native.Nat.{ℕ, zero, suc, _+_, _*_, _≤_}
-use mathlib.Core.Bool.{true, false, cond}
-use mathlib.Core.List.{List, [], _∷_, _++_}
+use Prim.Native.Nat.{ℕ, zero, suc, _*_, _≤_}
+use mathlib.Core.Bool.{true, false}
+use mathlib.Core.List.{List, [], _∷_}
 use mathlib.Core.Path.{_≡_, refl, sym, ap, _∙_}
 use native.Mathlib.Omega.{arith}
-use borrow.Author.Tests.{ne-eqb}
-use lib.Dec.{eqb}
-use lib.ListN.{length, replicate, length-replicate, replicate-append-replicate}
+use lib.ListN.{length, replicate, length-replicate}
 use Rattle.xm.specs.Got.{Refusal, got, accepted, allPass}
 use Rattle.xm.specs.Format.{flat}
 use Rattle.xm.specs.Answer.{Answer, gives, refuses, numbers, inFront, after}
-use Rattle.xm.specs.Stored.{standardRows, Pattern, readRow, readCells, readStored}
+use Rattle.xm.specs.Stored.{Pattern, readRow, readCells, readStored}
 use Rattle.xm.specs.Row.{cellsIn}
 use Rattle.xm.specs.PatternInFile.{dataMost}
 use Rattle.xm.specs.Packing.{argumentTests, cellBytes, rowsRead, unpacking, unpackAfter}
 use Rattle.xm.proofs.Got.{no-true, all-pass, all-hold, passed, bind-got, got-carry, got-accepted}
-use Rattle.xm.proofs.Stored.{stored-empty, stored-some, stored-rows}
+use Rattle.xm.proofs.Stored.{empty-flat, stored-empty, stored-some, stored-rows}
 use Rattle.xm.proofs.Row.{row-read}
 use Rattle.xm.proofs.Packing.{UnpackRange}
 use Rattle.refusal.specs.declared.Fault.{Fault}
@@ -37,32 +35,17 @@ module _ (rows channels : ℕ) (stored : List ℕ) where
   pub range-fails : allPass (argumentTests rows channels) ≡ false → UnpackRange rows channels stored → ⊥
   range-fails e h = no-true (sym e ∙ all-pass (argumentTests rows channels) (h .0, (h .1 .0, tt)))
 
--- Empty cells, end to end
-pub flat-zeros : (n : ℕ) → flat {A = ℕ} (replicate n (replicate 5 0)) ≡ replicate (n * 5) 0
-flat-zeros zero = refl
-flat-zeros (suc n) =
-    let e : 5 + n * 5 ≡ suc n * 5 = omega arith in
-    ap (λ (l : List ℕ). replicate 5 0 ++ l) (flat-zeros n) ∙ replicate-append-replicate 5 (n * 5) 0 ∙ ap (λ (k : ℕ). replicate k 0) e
-
 -- What reading a stored pattern found
-pub record Found (channels rows : ℕ) (d : List ℕ) (reported : ℕ) : Type 0 where
+pub record Found (channels rows : ℕ) (d : List ℕ) : Type 0 where
   pub pattern : Pattern
   pub used : ℕ
   pub reads : readStored channels rows 0 d ≡ got pattern used
-  pub same : reported ≡ pattern .rows
 
-rows-as : (channels rows : ℕ) (d : List ℕ) (p : Pattern) (n : ℕ) → readStored channels rows 0 d ≡ got p n → cond (eqb (length d) 0) standardRows rows ≡ p .rows
-rows-as channels rows [] p n e = sym (ap (λ (p : Pattern). p .rows) (stored-empty channels rows 0 [] p n refl e))
-rows-as channels rows (x ∷ d) p n e = rw (ne-eqb (suc (length d)) 0 (λ z. omega arith)) (sym (stored-rows channels rows 0 (x ∷ d) p n (omega arith) e))
-
-pub found-of : (channels rows : ℕ) (d : List ℕ) {step : Step} {next reported : ℕ} → step ≡ placeStep 0 (readStored channels rows 0 d) → step ≡ Next next
-    → reported ≡ cond (eqb (length d) 0) standardRows rows → Found channels rows d reported
-found-of channels rows d e told r =
-    next-got 0 (readStored channels rows 0 d) (sym told ∙ e) λ p n q en. record { pattern = p; used = n; reads = q; same = r ∙ rows-as channels rows d p n q }
+pub found-of : (channels rows : ℕ) (d : List ℕ) {step : Step} {next : ℕ} → step ≡ placeStep 0 (readStored channels rows 0 d) → step ≡ Next next → Found channels rows d
+found-of channels rows d e told = next-got 0 (readStored channels rows 0 d) (sym told ∙ e) λ p n q en. record { pattern = p; used = n; reads = q }
 
 -- With some data, the cells of the pattern are those in a row, and they were accepted
 record FromCells (channels rows : ℕ) (d : List ℕ) (p : Pattern) : Type 0 where
-  pub rows-same : p .rows ≡ rows
   pub cells : p .cells ≡ cellsIn (rows * channels) d
   pub fine : accepted (readRow (rows * channels) 0 d) ≡ true
 
@@ -71,45 +54,34 @@ unfolding readCells
 from-cells channels rows d p n some e =
     bind-got _ _ (sym (stored-some channels rows 0 d some) ∙ e) λ cells m ec e. passed _ _ e λ h e.
     got-carry (λ (q : Pattern) (u : ℕ). FromCells channels rows d q) e
-    (record { rows-same = refl; cells = row-read (rows * channels) 0 d cells m ec .same; fine = got-accepted ec })
+    (record { cells = row-read (rows * channels) 0 d cells m ec .same; fine = got-accepted ec })
 
--- What is to be filled: zeros, or the cells in a row; five bytes a cell
-module _ {channels rows : ℕ} {d : List ℕ} {reported : ℕ} (f : Found channels rows d reported) where
-  pub bytes-none : length d ≡ 0 → cellBytes (f .pattern) ≡ replicate (reported * channels * 5) 0
-  bytes-none z =
-      let e = stored-empty channels rows 0 d (f .pattern) (f .used) z (f .reads) in
-      let r : 64 ≡ reported = sym (f .same ∙ ap (λ (p : Pattern). p .rows) e) in
-      ap cellBytes e ∙ flat-zeros (64 * channels) ∙ ap (λ (n : ℕ). replicate (n * channels * 5) 0) r
+-- Its rows, and what is to be filled: zeros, or the cells in a row; five bytes a cell
+module _ {channels rows : ℕ} {d : List ℕ} (f : Found channels rows d) where
+  pub rows-found : f .pattern .rows ≡ rows
+  rows-found = stored-rows channels rows 0 d (f .pattern) (f .used) (f .reads)
+
+  pub bytes-none : length d ≡ 0 → cellBytes (f .pattern) ≡ replicate (rows * channels * 5) 0
+  bytes-none z = ap cellBytes (stored-empty channels rows 0 d (f .pattern) (f .used) z (f .reads)) ∙ empty-flat (rows * channels)
 
   module _ (some : 1 ≤ length d) where
     from : FromCells channels rows d (f .pattern)
     from = from-cells channels rows d (f .pattern) (f .used) some (f .reads)
 
-    pub rows-some : reported ≡ rows
+    pub fine-some : accepted (readRow (rows * channels) 0 d) ≡ true
     unfolding from
-    rows-some = f .same ∙ from .rows-same
+    fine-some = from .fine
 
-    pub fine-some : accepted (readRow (reported * channels) 0 d) ≡ true
+    pub bytes-some : cellBytes (f .pattern) ≡ flat (cellsIn (rows * channels) d)
     unfolding from
-    fine-some = rw rows-some (from .fine)
+    bytes-some = ap flat (from .cells)
 
-    pub bytes-some : cellBytes (f .pattern) ≡ flat (cellsIn (reported * channels) d)
-    unfolding from
-    bytes-some = rw rows-some (ap flat (from .cells))
-
-  pub bytes-long : length (cellBytes (f .pattern)) ≡ reported * channels * 5
+  pub bytes-long : length (cellBytes (f .pattern)) ≡ rows * channels * 5
   bytes-long = go (length d) refl
     where
-      go : (n : ℕ) → length d ≡ n → length (cellBytes (f .pattern)) ≡ reported * channels * 5
-      go zero e = ap length (bytes-none e) ∙ length-replicate (reported * channels * 5) 0
-      go (suc n) e = ap length (bytes-some (omega arith)) ∙ cells-length (reported * channels) d
-
-  pub rows-most : rows ≤ 256 → reported ≤ 256
-  rows-most h = go (length d) refl
-    where
-      go : (n : ℕ) → length d ≡ n → reported ≤ 256
-      go zero e = let q = ap (λ (p : Pattern). p .rows) (stored-empty channels rows 0 d (f .pattern) (f .used) e (f .reads)) in omega (arith, f .same)
-      go (suc n) e = omega (arith, rows-some (omega arith))
+      go : (n : ℕ) → length d ≡ n → length (cellBytes (f .pattern)) ≡ rows * channels * 5
+      go zero e = ap length (bytes-none e) ∙ length-replicate (rows * channels * 5) 0
+      go (suc n) e = ap length (bytes-some (omega arith)) ∙ cells-length (rows * channels) d
 
 -- An answer and the memory, from what unpacking comes to
 module _ (rows channels : ℕ) (stored lent : List ℕ) where

@@ -8,12 +8,12 @@ use refusal::fault_of;
 use slices::write::clear;
 ghost use mathlib.Core.Path.{_≡_};
 ghost use Prim.Native.Nat.{_+_, _*_, _≤_};
-ghost use mathlib.Core.Bool.{true, cond};
+ghost use mathlib.Core.Bool.{true};
 ghost use lib.ListN.{length, drop};
 ghost use Rattle.xm.specs.Got.{accepted};
 ghost use Rattle.xm.specs.Format.{flat};
 ghost use Rattle.xm.specs.Answer.{inFront};
-ghost use Rattle.xm.specs.Stored.{standardRows, readRow};
+ghost use Rattle.xm.specs.Stored.{readRow};
 ghost use Rattle.xm.specs.Row.{cellsIn};
 ghost use Rattle.xm.specs.Packing.{unpacking, unpackAfter};
 ghost use Rattle.cells.specs.Unpacked.{firstFields, unpackedOf};
@@ -79,13 +79,6 @@ fn fill_cells(stored: &[u8], count: usize, out: &mut [u8])
     fill_each(stored, at, left, &mut out[to..]);
 }
 
-// "With S = 0 the pattern is the standard empty one .. whatever row number stands there."
-fn rows_read(none: bool, rows: usize) -> usize
-    ensures { λ r. ⌜ r ≡ cond none standardRows rows ⌝ }
-{
-    if none { 64 } else { rows }
-}
-
 // A stored pattern's cells, five bytes each. A first pass decides every refusal, a second fills.
 pub fn unpack(rows: usize, channels: usize, stored: &[u8], cells: &mut [u8]) -> Unpacked
     ensures { λ r. ⌜ r ≡ unpackedOf (unpacking rows channels (now (stored .entry)) (length (now (cells .entry)))) ⌝ }
@@ -108,18 +101,18 @@ pub fn unpack(rows: usize, channels: usize, stored: &[u8], cells: &mut [u8]) -> 
     let Step::Next(_) = step else {
         return Unpacked::Refused(fault_of(step));
     };
-    let reads = rows_read(stored.len() == 0, rows);
-    let count = reads * channels;
+    let count = rows * channels;
     if cells.len() < count * 5 {
         return Unpacked::Refused(Fault {
             number: 14,
             place: 0,
         });
     }
+    // "S = 0 means empty cells for the row number in the header."
     if stored.len() == 0 {
         clear(count * 5, cells);
     } else {
         fill_cells(stored, count, cells);
     }
-    Unpacked::Rows(reads)
+    Unpacked::Rows(rows)
 }

@@ -9,7 +9,7 @@ use lib.ListN.{length, getD, drop, length-drop, length-take}
 use Rattle.xm.specs.Number.{Bytes, part}
 use Rattle.xm.specs.Format.{joined}
 use Rattle.xm.specs.Answer.{Answer, gives, inFront, after, loaderNumber}
-use Rattle.xm.specs.Stored.{Pattern, standard}
+use Rattle.xm.specs.Stored.{Pattern, emptyRows}
 use Rattle.xm.specs.Packing.{cellBytes, rowsRead}
 use Rattle.xm.specs.Module.{moduleFormat, fileMost}
 use Rattle.xm.specs.Delta.{countWritten, decoding, decodingLimited}
@@ -43,7 +43,7 @@ module _ (file : List ℕ) (plain : Bytes file) (lent : Tables) (c : Checked) (a
     channels = c .found .0 .content .channels
 
     abbrev pub patternIn : ℕ → Pattern
-    patternIn k = getD (contentOf (c .found) .1 .0) k (standard channels)
+    patternIn k = getD (contentOf (c .found) .1 .0) k (emptyRows channels 0)
 
     -- of a pattern's row: data place, size, rows
     abbrev pub patternNumber : (k column : ℕ) → ℕ

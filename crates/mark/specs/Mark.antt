@@ -10,8 +10,8 @@ use Rattle.xm.specs.Stored.{writeStored}
 use Rattle.xm.specs.PatternInFile.{PatternFound}
 use Rattle.measure.specs.Measure.{sameBytes}
 
--- The three marks: the cells are written again; they stand in their shortest form already and are copied; of 64 empty rows nothing
--- is written.
+-- The three marks: the cells are written again; they stand in their shortest form already and are copied; all are empty, and nothing is
+-- written.
 abbrev pub again : ℕ
 again = 0
 

@@ -9,10 +9,10 @@ use lib.Seq.{take-all}
 use Rattle.xm.specs.Got.{Got, got, refused}
 use Rattle.xm.specs.Format.{joined}
 use Rattle.xm.specs.Cell.{writeCell}
-use Rattle.xm.specs.Stored.{Pattern, standard, readRow, readStored, writeStored}
+use Rattle.xm.specs.Stored.{Pattern, emptyRows, readRow, readStored, writeStored}
 use Rattle.xm.specs.Row.{sizeBy}
 use Rattle.xm.proofs.Got.{no-true}
-use Rattle.xm.proofs.Stored.{Fives, stored-none, standard-none, write-none}
+use Rattle.xm.proofs.Stored.{Fives, rows-none, write-none, stored-none}
 use Rattle.xm.proofs.Row.{row-read, in-length, in-fives, stored-nothing, stored-cells, size-by}
 use Rattle.refusal.specs.declared.Fault.{Fault}
 use Rattle.cell.proofs.ReadRows.{stored-refused, stored-left, stored-whole}
@@ -21,12 +21,12 @@ use Rattle.measure.specs.declared.StoredStep.{StoredStep}
 use Rattle.measure.specs.declared.StoredStep.the-variants.{Read, Refused}
 use Rattle.measure.specs.Measure.{sameBytes, measuredOn, storedOf}
 
--- No data: the standard empty pattern
+-- No data: empty cells, which are written as no bytes
 pub measured-none : (channels rows : ℕ) (d : List ℕ) → length d ≡ 0 → Read (record { used = 0; shortest = 0; same = true }) ≡ storedOf d (readStored channels rows 0 d)
 unfolding sameBytes
 measured-none channels rows [] h =
     sym (ap (storedOf []) (stored-none channels rows 0 [] refl)
-    ∙ ap (λ (w : List ℕ). Read (record { used = 0; shortest = length w; same = sameBytes [] w })) (write-none (standard channels) (standard-none channels)))
+    ∙ ap (λ (w : List ℕ). Read (record { used = 0; shortest = length w; same = sameBytes [] w })) (write-none (emptyRows channels rows) (rows-none channels rows)))
 measured-none channels rows (x ∷ d) h = absurd (omega arith)
 
 same-nothing : (d : List ℕ) → 1 ≤ length d → false ≡ sameBytes d []
@@ -60,7 +60,7 @@ module _ (channels rows : ℕ) (d : List ℕ) (some : 1 ≤ length d) {step : St
     pub measured-left : size .used < length d → Refused (record { number = 8; place = size .used }) ≡ storedOf d (readStored channels rows 0 d)
     measured-left h = found λ cells reads l b. sym (ap (storedOf d) (stored-left channels rows d some reads h))
 
-    module _ (all : length d ≤ size .used) {shortest : ℕ} (long : shortest ≡ sizeBy rows (rows * channels) (size .shortest)) where
+    module _ (all : length d ≤ size .used) {shortest : ℕ} (long : shortest ≡ sizeBy (rows * channels) (size .shortest)) where
       whole : {R : Type 0} → ((p : Pattern) → readStored channels rows 0 d ≡ got p (size .used) → shortest ≡ length (writeStored p) → size .shortest ≡ length (joined writeCell (p .cells))
           → size .same ≡ sameBytes d (joined writeCell (p .cells)) → R) → R
       whole k = found λ cells reads l b.
@@ -68,7 +68,7 @@ module _ (channels rows : ℕ) (d : List ℕ) (some : 1 ≤ length d) {step : St
           let same = row-read (rows * channels) 0 d cells (size .used) reads .same in
           let fives : Fives cells = rw same (in-fives (rows * channels) d) in
           let count : rows * channels ≡ length cells = sym (ap length same ∙ in-length (rows * channels) d) in
-          k p (stored-whole channels rows d some reads all) (long ∙ ap₂ (sizeBy rows) count l ∙ size-by p fives) l
+          k p (stored-whole channels rows d some reads all) (long ∙ ap₂ sizeBy count l ∙ size-by p fives) l
           (b ∙ ap (λ (x : List ℕ). sameBytes x (joined writeCell cells)) (take-all (size .used) d all))
 
       pub measured-nothing : shortest ≡ 0 → Read (record { used = size .used; shortest = 0; same = false }) ≡ storedOf d (readStored channels rows 0 d)

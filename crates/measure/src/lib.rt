@@ -167,7 +167,7 @@ pub fn read_stored(stored: &[u8], rows: usize, channels: usize) -> StoredStep
             place: used,
         });
     }
-    let shortest = pattern::stored_size(rows, count, size.shortest);
+    let shortest = pattern::stored_size(count, size.shortest);
     if shortest == 0 {
         return StoredStep::Read(StoredSize {
             used: used,

@@ -35,12 +35,12 @@ pub record Sized (rows channels : ℕ) (cells : List ℕ) (size : ℕ) : Type 0 
 
 pub sized : (rows channels : ℕ) (cells : List ℕ) → PackRange rows channels cells → (shortest size : ℕ)
     → Shortest shortest ≡ measuredOf (checked (noteTests (rows * channels) 0 cells)) (length (joined writeCell (cellsOf (rows * channels) cells)))
-    → size ≡ sizeBy rows (rows * channels) shortest → Sized rows channels cells size
+    → size ≡ sizeBy (rows * channels) shortest → Sized rows channels cells size
 sized rows channels cells range shortest size e l =
     measured-shortest (checked (noteTests (rows * channels) 0 cells)) _ shortest e λ n c k. record {
       range = range;
       notes = checked-holds (noteTests (rows * channels) 0 cells) c;
-      long = l ∙ ap₂ (sizeBy rows) (sym (cells-length (rows * channels) cells)) k ∙ size-by (patternOf rows channels cells) (cells-fives (rows * channels) cells);
+      long = l ∙ ap₂ sizeBy (sym (cells-length (rows * channels) cells)) k ∙ size-by (patternOf rows channels cells) (cells-fives (rows * channels) cells);
     }
 
 pub sized-cells : {rows channels : ℕ} {cells : List ℕ} {size : ℕ} → Sized rows channels cells size → 0 < size → size ≡ length (joined writeCell (cellsOf (rows * channels) cells))

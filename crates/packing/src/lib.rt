@@ -157,7 +157,7 @@ pub fn pack(rows: usize, channels: usize, cells: &[u8], out: &mut [u8]) -> Packe
     match measured {
         Measured::Faulty(fault) => Packed::Refused(fault),
         Measured::Shortest(shortest) => {
-            let size = stored_size(rows, count, shortest);
+            let size = stored_size(count, shortest);
             if 65535 < size {
                 return refused(15);
             }

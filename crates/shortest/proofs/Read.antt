@@ -10,13 +10,13 @@ use Rattle.xm.specs.Got.{accepted, listIn}
 use Rattle.xm.specs.Format.{joined}
 use Rattle.xm.specs.Answer.{inFront}
 use Rattle.xm.specs.Cell.{lengthBy, cellAt, writeCell}
-use Rattle.xm.specs.Stored.{Pattern, standard, readRow, readCells, readStored, writeStored}
+use Rattle.xm.specs.Stored.{Pattern, emptyRows, readRow, readCells, readStored, writeStored}
 use Rattle.xm.specs.Row.{cellsIn}
 use Rattle.xm.proofs.Got.{accepted-got, got-accepted, passed, bind-got, got-value}
 use Rattle.xm.proofs.Format.{cons-path}
 use Rattle.xm.proofs.Cell.{length-some}
 use Rattle.xm.proofs.Lay.{Laid, laid-none, laid-done, laid-long}
-use Rattle.xm.proofs.Stored.{standard-none, write-none}
+use Rattle.xm.proofs.Stored.{rows-none, write-none}
 use Rattle.xm.proofs.Row.{row-read, in-length, in-fives, cells-least, stored-cells}
 use Rattle.cell.specs.Over.{overMost, Over}
 use Rattle.cell.proofs.ReadLaws.{empty-length, empty-cell}
@@ -103,7 +103,7 @@ pub record CellsOf (rows channels : ℕ) (stored : List ℕ) : Type 0 where
 pub stored-pressed : (rows channels : ℕ) (stored : List ℕ) → accepted (readStored channels rows 0 stored) ≡ true → 0 < length (storedPressed rows channels stored)
     → CellsOf rows channels stored
 unfolding readStored readCells
-stored-pressed rows channels [] g h = absurd (omega (arith, ap length (write-none (standard channels) (standard-none channels))))
+stored-pressed rows channels [] g h = absurd (omega (arith, ap length (write-none (emptyRows channels rows) (rows-none channels rows))))
 stored-pressed rows channels (b ∷ d) g h =
     accepted-got (readStored channels rows 0 (b ∷ d)) g λ p n e. bind-got (readRow (rows * channels) 0 (b ∷ d)) _ e λ cells m ec e′. passed _ _ e′ λ t e′.
     let w = ap (listIn writeStored) e in

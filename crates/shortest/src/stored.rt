@@ -64,7 +64,7 @@ fn press_cells(stored: &[u8], count: usize, out: &mut [u8]) -> usize
     to + press_each(stored, place, left, &mut out[to..])
 }
 
-// An accepted stored form of a pattern in its shortest form at the front of out; its length there. Of 64 empty rows, as `none` tells,
+// An accepted stored form of a pattern in its shortest form at the front of out; its length there. Of empty cells alone, as `none` tells,
 // nothing is written; bytes that are the shortest form already, as `same` tells, are copied.
 pub fn write_stored(
     stored: &[u8],

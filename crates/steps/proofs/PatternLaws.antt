@@ -1,18 +1,17 @@
 -- Laws of the pattern step. Assumes nothing.
-use Prim.Native.Nat.{ℕ, suc, _+_, _-_, _≤_, _<_}
-use mathlib.Core.List.{List, [], _∷_}
-use mathlib.Core.Path.{_≡_, refl, sym, ap, _∙_}
+use Prim.Native.Nat.{ℕ, _+_, _-_, _≤_, _<_}
+use mathlib.Core.List.{List}
+use mathlib.Core.Path.{_≡_, refl, ap, _∙_}
 use native.Mathlib.Nat.{add-sub-cancel-left}
 use native.Mathlib.Omega.{arith}
 use lib.ListN.{length, take, drop, length-take, length-drop}
 use lib.Seq.{drop-drop}
-use borrow.Author.Tests.{ne-eqb}
 use Rattle.xm.specs.Number.{Bytes, part}
 use Rattle.xm.specs.Got.{Got, got, refused, AllHold, _at_}
-use Rattle.xm.specs.Stored.{Pattern, readCells, readStored}
+use Rattle.xm.specs.Stored.{Pattern, readStored}
 use Rattle.xm.specs.PatternInFile.{headSizeAt, rowsAt, dataSizeAt, patternTests, PatternFound, readPattern, dataMost}
 use Rattle.xm.proofs.Number.{bytes-drop, bytes-take, word-small, long-small}
-use Rattle.xm.proofs.Got.{pass, passed, step, step-refused, bind-got, got-value}
+use Rattle.xm.proofs.Got.{pass, step, step-refused}
 use Rattle.xm.proofs.Fault.{stored-faults}
 use Rattle.xm.proofs.Row.{shifted, stored-shifted}
 use Rattle.refusal.specs.Fault.{refusalIn, placeStep}
@@ -23,23 +22,18 @@ use Rattle.measure.specs.declared.StoredSize.{StoredSize}
 use Rattle.measure.specs.declared.StoredStep.{StoredStep}
 use Rattle.measure.specs.declared.StoredStep.the-variants as stored
 use Rattle.steps.specs.Test.{firstFault}
-use Rattle.steps.specs.Step.{patternHead, patternStep, patternFault, storedFault, faultFrom, rowsReadAs}
+use Rattle.steps.specs.Step.{patternHead, patternStep, patternFault, storedFault, faultFrom}
 use Rattle.steps.specs.declared.pattern.PatternHead.{PatternHead}
 use Rattle.steps.specs.declared.pattern.PatternStep.{PatternStep}
 use Rattle.steps.specs.declared.pattern.PatternStep.the-variants.{Read, Refused}
 use Rattle.steps.proofs.Tests.{fault-holds, fault-refuses}
 
--- The rows that a pattern reads as
-rows-some : (rows : ℕ) (b : ℕ) (d : List ℕ) → rowsReadAs rows (length (b ∷ d)) ≡ rows
-rows-some rows b d = rw (ne-eqb (suc (length d)) 0 (λ e. omega arith))
+-- What its header tells, by its fields
+pub head-path : {place place′ size size′ rows rows′ : ℕ} → place ≡ place′ → size ≡ size′ → rows ≡ rows′
+    → _≡_ {A = PatternHead} (record { place = place; size = size; rows = rows }) (record { place = place′; size = size′; rows = rows′ })
+head-path p q r = cc
 
-pub rows-stored : (channels rows place : ℕ) (d : List ℕ) (p : Pattern) (m : ℕ) → readStored channels rows place d ≡ got p m → p .rows ≡ rowsReadAs rows (length d)
-unfolding readStored readCells
-rows-stored channels rows place [] p m e = ap Pattern.rows (sym (got-value e))
-rows-stored channels rows place (b ∷ d) p m e =
-    bind-got _ _ e λ cells used ec e. passed _ _ e λ h e. ap Pattern.rows (sym (got-value e)) ∙ sym (rows-some rows b d)
-
--- What its header tells, one by one, and the bytes from its place on
+-- one by one, and the bytes from its place on
 pub record HeadOf (from : ℕ) (file : List ℕ) (head : PatternHead) : Type 0 where
   pub place : head .place ≡ from + headSizeAt (drop from file)
   pub size : head .size ≡ dataSizeAt (drop from file)

@@ -1,13 +1,11 @@
 -- What stands in front of each structure, and what its step answers: of a reading that was accepted, what the walk needs of it; of one that
 -- was refused, the refusal.
 use Prim.Native.Nat.{ℕ, zero, suc, _+_}
-use mathlib.Core.Bool.{cond}
 use mathlib.Core.List.{List}
-use lib.Dec.{eqb}
 use lib.ListN.{length}
 use Rattle.xm.specs.Number.{part}
 use Rattle.xm.specs.Got.{Got, got, refused}
-use Rattle.xm.specs.Stored.{standardRows, writeStored}
+use Rattle.xm.specs.Stored.{writeStored}
 use Rattle.xm.specs.Header.{channelsAt, patternsAt, instrumentsAt, headerEnd, HeaderFound}
 use Rattle.xm.specs.PatternInFile.{headSizeAt, rowsAt, dataSizeAt, PatternFound}
 use Rattle.xm.specs.Sample.{sizeOfFirst}
@@ -60,10 +58,6 @@ patternStep file place (refused r) = pattern.Refused (faultOf r)
 abbrev pub patternFault : PatternStep → Fault
 patternFault (pattern.Read part) = noFault
 patternFault (pattern.Refused fault) = fault
-
--- "With S = 0 the pattern is the standard empty one .. whatever row number stands there."
-abbrev pub rowsReadAs : (row size : ℕ) → ℕ
-rowsReadAs row size = cond (eqb size 0) standardRows row
 
 -- A fault of its stored cells; in a file its place is that of the cells and the place in them.
 abbrev pub storedFault : StoredStep → Fault

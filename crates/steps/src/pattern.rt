@@ -13,7 +13,7 @@ ghost use Rattle.xm.specs.PatternInFile.{leastPattern, patternTests, readPatter
 ghost use Rattle.xm.specs.Module.{fileMost};
 ghost use Rattle.refusal.specs.Fault.{placeStep};
 ghost use Rattle.steps.specs.Test.{firstFault};
-ghost use Rattle.steps.specs.Step.{patternHead, patternStep, patternFault, storedFault, faultFrom, rowsReadAs};
+ghost use Rattle.steps.specs.Step.{patternHead, patternStep, patternFault, storedFault, faultFrom};
 
 // The bytes of a pattern's shortest stored form and whether it stands in that form already, and where the next structure starts.
 pub struct PatternPart {
@@ -27,7 +27,7 @@ pub enum PatternStep {
     Refused(Fault),
 }
 
-// What its header tells: where its data stand, how many bytes, and the row number.
+// What its header tells: where its data stand, how many bytes, and its rows.
 pub struct PatternHead {
     pub place: usize,
     pub size: usize,
@@ -151,11 +151,4 @@ pub fn scan_pattern(file: &[u8], at: usize, channels: usize) -> Step
         return Step::Refused(fault_from(place, fault_of(step)));
     };
     Step::Next(next)
-}
-
-// The rows that a pattern reads as, by the row number in its header and S.
-pub fn rows_read(row: usize, size: usize) -> usize
-    ensures { λ r. ⌜ r ≡ rowsReadAs row size ⌝ }
-{
-    if size == 0 { 64 } else { row }
 }

@@ -27,10 +27,9 @@ use Rattle.steps.specs.declared.instrument.InstrumentStep.the-variants as step
 use Rattle.walk.specs.File.{verdictOf}
 use Rattle.walk.specs.declared.Module.{Module}
 use Rattle.walk.specs.declared.Verdict.the-variants as verdict
-use Rattle.steps.specs.Step.{headerPart}
-use Rattle.tables.specs.Place.{patternAt}
+use Rattle.steps.specs.Step.{headerPart, patternHead}
 use Rattle.steps.specs.declared.header.HeaderPart.{HeaderPart}
-use Rattle.tables.specs.declared.place.PatternAt.{PatternAt}
+use Rattle.steps.specs.declared.pattern.PatternHead.{PatternHead}
 use Rattle.tables.proofs.VerdictLaws.{verdict-got, verdict-refused}
 use Rattle.structures.specs.declared.Standing.{Standing}
 use Rattle.structures.specs.declared.Standing.the-variants as standing
@@ -68,16 +67,16 @@ pub head-handed : (ahead : Ahead) {x : Ahead} {r : Handed} → r ≡ handedWith 
 head-handed ahead made reads = handed-by made reads
 
 -- A pattern, by what was read at its place
-abbrev patternNext : Ahead → PatternAt → Ahead
+abbrev patternNext : Ahead → PatternHead → Ahead
 patternNext ahead at = record { patterns = ahead .patterns - 1; instruments = ahead .instruments; place = at .place + at .size; heads = 0; head = 0; «head_size» = 0 }
 
-pub pattern-handed : (s : List ℕ) (ahead : Ahead) {at : PatternAt} {x : Ahead} {r : Handed} → at ≡ patternAt (ahead .place) s → r ≡ handedWith (standing.Pattern (ahead .place)) x → Reads x (patternNext ahead at)
+pub pattern-handed : (s : List ℕ) (ahead : Ahead) {at : PatternHead} {x : Ahead} {r : Handed} → at ≡ patternHead (ahead .place) s → r ≡ handedWith (standing.Pattern (ahead .place)) x → Reads x (patternNext ahead at)
     → r ≡ handedOf (handPattern s (aheadIn ahead))
-pattern-handed s ahead e made reads = handed-by made reads ∙ ap (λ (at : PatternAt). handedWith (standing.Pattern (ahead .place)) (patternNext ahead at)) e
+pattern-handed s ahead e made reads = handed-by made reads ∙ ap (λ (at : PatternHead). handedWith (standing.Pattern (ahead .place)) (patternNext ahead at)) e
 
-pub pattern-fits : (file : List ℕ) (place : ℕ) → Bytes file → length file ≤ fileMost → place + leastPattern ≤ length file → {x : PatternAt} → x ≡ patternAt place (drop place file) → x .place + x .size < 2 ^ 64
+pub pattern-fits : (file : List ℕ) (place : ℕ) → Bytes file → length file ≤ fileMost → place + leastPattern ≤ length file → {x : PatternHead} → x ≡ patternHead place (drop place file) → x .place + x .size < 2 ^ 64
 pattern-fits file place bytes small there e =
-    omega (arith, ap PatternAt.place e, ap PatternAt.size e, long-small 0 (bytes-drop place bytes), word-small 7 (bytes-drop place bytes))
+    omega (arith, ap PatternHead.place e, ap PatternHead.size e, long-small 0 (bytes-drop place bytes), word-small 7 (bytes-drop place bytes))
 
 -- An instrument, by the step
 abbrev partIn : InstrumentPart → InstrumentStep → InstrumentPart

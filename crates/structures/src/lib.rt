@@ -4,7 +4,7 @@ use refusal::Fault;
 use steps::header::header_part;
 use steps::instrument::InstrumentStep;
 use steps::instrument::read_instrument;
-use tables::place::pattern_at;
+use steps::pattern::pattern_head;
 use walk::Verdict;
 use walk::check;
 ghost use mathlib.Core.Path.{_≡_};
@@ -98,7 +98,7 @@ fn hand_pattern(file: &[u8], ahead: Ahead) -> Handed
     if file.len() - 9 < place {
         return with_ahead(Standing::End, ahead);
     }
-    let pattern = pattern_at(file, place);
+    let pattern = pattern_head(file, place);
     let next = Ahead {
         patterns: ahead.patterns - 1,
         instruments: ahead.instruments,

@@ -8,7 +8,7 @@ use lib.ListN.{length, getD, drop}
 use Rattle.xm.specs.Number.{Bytes, part}
 use Rattle.xm.specs.Format.{joined}
 use Rattle.xm.specs.Answer.{Answer, gives, refuses}
-use Rattle.xm.specs.Stored.{Pattern, standard}
+use Rattle.xm.specs.Stored.{Pattern, emptyRows}
 use Rattle.xm.specs.Packing.{cellBytes, unpacking}
 use Rattle.xm.specs.Instrument.{Instrument}
 use Rattle.xm.specs.Delta.{decoding, valuesOf}
@@ -93,7 +93,7 @@ module _ (file : List ℕ) (plain : Bytes file) (lent : Tables) (c : Checked) (a
 
   -- and each pattern's data, by the numbers of its row, unpack to the content's rows and cells.
   abbrev patternAt : (number : ℕ) → Pattern
-  patternAt number = getD (contentOf (c .found) .1 .0) number (standard (c .found .0 .content .channels))
+  patternAt number = getD (contentOf (c .found) .1 .0) number (emptyRows (c .found .0 .content .channels) 0)
 
   abbrev pub rowNumber : (number k : ℕ) → ℕ
   rowNumber number k = getD (filled .patterns) (patternStride * number + k) 0
@@ -112,4 +112,4 @@ module _ (file : List ℕ) (plain : Bytes file) (lent : Tables) (c : Checked) (a
       → unpacking (rowNumber number 2) (c .found .0 .content .channels) (part (rowNumber number 0) (rowNumber number 1) file) room ≡ gives (patternAt number)
   filled-unpacks number room low enough =
       rw (number-in number 0 low (omega arith), number-in number 1 low (omega arith), number-in number 2 low (omega arith))
-      (unpacks-at file (c .found .0 .content .channels) (patternRows (c .found)) _ none (standard (c .found .0 .content .channels)) number low (found .rows-unpack) .1 room enough)
+      (unpacks-at file (c .found .0 .content .channels) (patternRows (c .found)) _ none (emptyRows (c .found .0 .content .channels) 0) number low (found .rows-unpack) .1 room enough)

@@ -21,9 +21,9 @@ use Rattle.xm.specs.Table.{SampleRow, patternRow, patternRows, sampleCount, ins
 use Rattle.xm.specs.Asking.{noRow}
 use Rattle.xm.proofs.Lay.{Laid, laid-none, laid-more, laid-done}
 use Rattle.tables.specs.Accepted.{ReadsFrom, InstrumentsFrom}
-use Rattle.steps.specs.Step.{instrumentHead}
-use Rattle.tables.specs.Place.{patternAt, dataEnd, Stands}
-use Rattle.tables.specs.declared.place.PatternAt.{PatternAt}
+use Rattle.steps.specs.Step.{patternHead, instrumentHead}
+use Rattle.tables.specs.Place.{dataEnd, Stands}
+use Rattle.steps.specs.declared.pattern.PatternHead.{PatternHead}
 use Rattle.steps.specs.declared.instrument.InstrumentHead.{InstrumentHead}
 use Rattle.tables.proofs.Reading.{accepted-small, accepted-header, reads-none}
 use Rattle.tables.proofs.InstrumentLaws.{InstrumentStands, instruments-next}
@@ -64,7 +64,7 @@ module _ (file lent : List ℕ) where
     pub patterns-done : left ≡ 0 → out ≡ inFront (patternGoal file) lent
     patterns-done z = laid-done (w .laid) (ap (λ (l : List PatternFound). joined patternNumbers (map patternRow l)) (skipping-end file (w .skipping) z .0))
 
-    module _ (l : 0 < left) {x : PatternAt} (e : x ≡ patternAt place (drop place file)) where
+    module _ (l : 0 < left) {x : PatternHead} (e : x ≡ patternHead place (drop place file)) where
       pub patterns-fit : PatternFits file x
       patterns-fit = skipping-on file (w .skipping) l e λ i more ep es en fits rest. fits
 

@@ -14,19 +14,15 @@ use Rattle.xm.specs.PatternInFile.{leastPattern, PatternFound, patternFormat}
 use Rattle.xm.specs.Sample.{headBytes, dataSize}
 use Rattle.xm.specs.Module.{Found, fileMost, readFile}
 use Rattle.xm.specs.Table.{patternRow, patternNumbers}
+use Rattle.steps.specs.Step.{patternHead}
 use Rattle.tables.specs.Accepted.{ReadsFrom, InstrumentsFrom}
-use Rattle.tables.specs.Place.{patternAt, dataBefore, dataStart, dataEnd, Stands}
+use Rattle.tables.specs.Place.{dataBefore, dataStart, dataEnd, Stands}
 use Rattle.tables.specs.Sought.{Left}
-use Rattle.steps.specs.declared.header.HeaderPart.{HeaderPart}
-use Rattle.tables.specs.declared.place.PatternAt.{PatternAt}
+use Rattle.steps.specs.declared.pattern.PatternHead.{PatternHead}
 use Rattle.steps.specs.declared.instrument.InstrumentHead.{InstrumentHead}
 use Rattle.xm.proofs.Got.{accepted-got}
 use Rattle.tables.proofs.Reading.{reads-none, reads-next, file-reads}
 use Rattle.tables.proofs.PatternLaws.{pattern-stands}
-
--- What is read at a place, by its fields
-pub pattern-path : {a b c d e f : ℕ} → a ≡ b → c ≡ d → e ≡ f → _≡_ {A = PatternAt} (record { place = a; size = c; rows = e }) (record { place = b; size = d; rows = f })
-pattern-path p q r = cc
 
 -- So many patterns are still to be stepped over, from a place on; behind them are the instruments
 pub record Skipping (file : List ℕ) (left place : ℕ) (parts : List PatternFound) : Type 0 where
@@ -36,7 +32,7 @@ pub record Skipping (file : List ℕ) (left place : ℕ) (parts : List PatternFo
   pub after : InstrumentsFrom file from
 
 -- A pattern's fields lie in the file
-pub record PatternFits (file : List ℕ) (x : PatternAt) : Type 0 where
+pub record PatternFits (file : List ℕ) (x : PatternHead) : Type 0 where
   pub inside : x .place + x .size ≤ length file
   pub few : x .rows ≤ rowsMost
 
@@ -57,14 +53,14 @@ module _ (file : List ℕ) where
       skipping-room = reads-next patternFormat (channelsAt file) file (w .reads) l λ i n more ei ep rest.
           let p = pattern-stands (channelsAt file) file place i n ei in omega (arith, p .used, p .least, p .inside)
 
-      pub skipping-on : {R : Type 0} {x : PatternAt} → x ≡ patternAt place (drop place file)
+      pub skipping-on : {R : Type 0} {x : PatternHead} → x ≡ patternHead place (drop place file)
           → ((i : PatternFound) (more : List PatternFound) → parts ≡ i ∷ more → i .place ≡ place → patternNumbers (patternRow i) ≡ x .place ∷ x .size ∷ x .rows ∷ [] → PatternFits file x
           → Skipping file (left - 1) (x .place + x .size) more → R) → R
       skipping-on {x = x} e k = reads-next patternFormat (channelsAt file) file (w .reads) l λ i n more ei ep rest.
           let p = pattern-stands (channelsAt file) file place i n ei in
-          let next : x .place + x .size ≡ place + n = omega (arith, ap PatternAt.place e, ap PatternAt.size e, p .used) in
-          k i more ep (p .starts) (p .numbers ∙ ap (λ (x : PatternAt). x .place ∷ x .size ∷ x .rows ∷ []) (sym e))
-          (record { inside = omega (arith, p .inside); few = omega (arith, p .few, ap PatternAt.rows e) })
+          let next : x .place + x .size ≡ place + n = omega (arith, ap PatternHead.place e, ap PatternHead.size e, p .used) in
+          k i more ep (p .starts) (p .numbers ∙ ap (λ (x : PatternHead). x .place ∷ x .size ∷ x .rows ∷ []) (sym e))
+          (record { inside = omega (arith, p .inside); few = omega (arith, p .few, ap PatternHead.rows e) })
           (record { small = w .small; from = w .from; reads = rw next rest; after = w .after })
 
 -- The data of one sample, and of more

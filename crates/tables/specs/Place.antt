@@ -3,18 +3,12 @@ use Prim.Native.Nat.{ℕ, zero, suc, _+_, _*_, _≤_, _<_}
 use mathlib.Core.List.{List, [], _∷_}
 use lib.IntN.{ℤ}
 use lib.ListN.{length, drop}
-use Rattle.xm.specs.PatternInFile.{headSizeAt, rowsAt, dataSizeAt}
 use Rattle.xm.specs.Sample.{leastHead, headBytes, dataSize, widthOf, finetune, relativeNote}
 use Rattle.xm.specs.Instrument.{samplesMost}
 use Rattle.xm.specs.Module.{fileMost}
 use Rattle.xm.specs.Table as row
-use Rattle.steps.specs.Step.{rowsReadAs}
-use Rattle.tables.specs.declared.place.PatternAt.{PatternAt}
 use Rattle.steps.specs.declared.instrument.InstrumentHead.{InstrumentHead}
 use Rattle.tables.specs.declared.sample.SampleRow.{SampleRow}
-
-abbrev pub patternAt : (place : ℕ) → List ℕ → PatternAt
-patternAt place s = record { place = place + headSizeAt s; size = dataSizeAt s; rows = rowsReadAs (rowsAt s) (dataSizeAt s) }
 
 -- The bytes of the data of the first samples, whose headers stand in front of `s`.
 unfoldable pub dataBefore : (number size : ℕ) → List ℕ → ℕ

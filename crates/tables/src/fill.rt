@@ -1,12 +1,12 @@
 // The three tables of an accepted file, each filled by a second pass, in a lent table that has the room.
 use crate::place::data_end;
 use crate::place::first_instrument;
-use crate::place::pattern_at;
 use crate::sample::first_sought;
 use crate::sample::put_sample;
 use crate::sample::row_step;
 use steps::header::header_part;
 use steps::instrument::instrument_head;
+use steps::pattern::pattern_head;
 ghost use mathlib.Core.Bool.{true};
 ghost use mathlib.Core.Path.{_≡_};
 ghost use Prim.Native.Nat.{_+_, _≤_};
@@ -45,7 +45,7 @@ pub fn fill_patterns(file: &[u8], table: &mut [u32])
     let mut left = counts.patterns;
     let mut to: usize = 0;
     while 0 < left {
-        let pattern = pattern_at(file, place);
+        let pattern = pattern_head(file, place);
         put_three(
             table,
             to,

@@ -2,36 +2,13 @@
 use steps::header::header_part;
 use steps::instrument::InstrumentHead;
 use steps::pattern::pattern_head;
-use steps::pattern::rows_read;
 use steps::sample::sample_head;
 ghost use mathlib.Core.Bool.{true};
 ghost use mathlib.Core.Path.{_≡_};
-ghost use Prim.Native.Nat.{_+_, _≤_};
-ghost use lib.ListN.{length, drop};
 ghost use Rattle.xm.specs.Got.{accepted};
-ghost use Rattle.xm.specs.PatternInFile.{leastPattern};
 ghost use Rattle.xm.specs.Module.{readFile};
 ghost use Rattle.tables.specs.Accepted.{InstrumentsFrom};
-ghost use Rattle.tables.specs.Place.{patternAt, dataEnd, Stands};
-
-// A pattern's data place and S, and the rows it reads as.
-pub struct PatternAt {
-    pub place: usize,
-    pub size: usize,
-    pub rows: usize,
-}
-
-pub fn pattern_at(file: &[u8], at: usize) -> PatternAt
-    requires { ⌜ at + leastPattern ≤ length (now file) ⌝ }
-    ensures { λ r. ⌜ r ≡ patternAt at (drop at (now (file .entry))) ⌝ }
-{
-    let head = pattern_head(file, at);
-    PatternAt {
-        place: head.place,
-        size: head.size,
-        rows: rows_read(head.rows, head.size),
-    }
-}
+ghost use Rattle.tables.specs.Place.{dataEnd, Stands};
 
 // Where the first instrument stands: patterns are stepped over by L + S.
 pub fn first_instrument(file: &[u8]) -> usize
@@ -42,7 +19,7 @@ pub fn first_instrument(file: &[u8]) -> usize
     let mut place = counts.start;
     let mut left = counts.patterns;
     while 0 < left {
-        let pattern = pattern_at(file, place);
+        let pattern = pattern_head(file, place);
         place = pattern.place + pattern.size;
         left -= 1;
     }

@@ -17,12 +17,10 @@ use Rattle.xm.specs.Stored.{channelsMost, rowsMost, Pattern, readStored, writeS
 use Rattle.xm.specs.PatternInFile.{dataMost, patternTests, PatternFound, readPattern, writePattern, patternFormat}
 use Rattle.xm.proofs.Number.{bytes-drop, bytes-take, word-small, part-drop}
 use Rattle.xm.proofs.Got.{passed, bind-got, got-value, got-used, got-accepted}
-use Rattle.xm.proofs.Stored.{stored-keeps}
+use Rattle.xm.proofs.Stored.{stored-keeps, stored-rows}
 use Rattle.xm.proofs.Row.{stored-anywhere, stored-nothing}
 use Rattle.shortest.specs.Found.{storedPressed, Known}
 use Rattle.mark.specs.Mark.{copied, nothing, Marked}
-use Rattle.steps.specs.Step.{rowsReadAs}
-use Rattle.steps.proofs.PatternLaws.{rows-stored}
 use Rattle.mark.proofs.MarkLaws.{marked-nothing, marked-copied}
 use Rattle.writers.specs.Found.{readAt, pressedAt}
 use Rattle.writers.specs.Pattern.{patternHead}
@@ -86,13 +84,13 @@ module _ (file : List ℕ) (place channels mark : ℕ) where
 
     pub record PatternLies : Type 0 where
       pub there : place + head + size ≤ length file
-      pub rows-high : rowsReadAs row size ≤ rowsMost
+      pub rows-high : row ≤ rowsMost
       pub size-high : length (storedPressed row channels cut) ≤ dataMost
       pub known : Known row channels cut (eqb mark nothing) (eqb mark copied)
       pub long : length (pressedAt patternFormat channels file place) ≡ 9 + length (storedPressed row channels cut)
-      pub written : {rows shortest : ℕ} → rows ≡ rowsReadAs row size → shortest ≡ length (storedPressed row channels cut)
+      pub written : {shortest : ℕ} → shortest ≡ length (storedPressed row channels cut)
           → (lent : List ℕ) {left : List ℕ} → 9 ≤ length lent → left ≡ inFront (storedPressed row channels cut) (take (length lent - 9) (drop 9 lent))
-          → inFront (patternHead rows shortest) (putMid 9 (length lent - 9) lent left) ≡ inFront (pressedAt patternFormat channels file place) lent
+          → inFront (patternHead row shortest) (putMid 9 (length lent - 9) lent left) ≡ inFront (pressedAt patternFormat channels file place) lent
 
     module _ (told : Told (λ i. Marked file i mark) (readAt patternFormat channels file place)) where
       abbrev w : AsRead
@@ -107,19 +105,19 @@ module _ (file : List ℕ) (place channels mark : ℕ) where
       long : length d ≡ size
       long = length-take-le S (drop L from) (omega (arith, length-drop L from, w .tests .1 .1 .1 .0)) ∙ sym r
 
-      is-rows : rowsReadAs row size ≡ w .pattern .rows
-      is-rows = ap (λ (n : ℕ). rowsReadAs n size) q ∙ ap (rowsReadAs (wordAt 5 from)) (sym long) ∙ sym (rows-stored channels (wordAt 5 from) (place + L) d (w .pattern) (w .used) (w .reads))
+      is-rows : row ≡ w .pattern .rows
+      is-rows = q ∙ sym (stored-rows channels (wordAt 5 from) (place + L) d (w .pattern) (w .used) (w .reads))
 
       is-pressed : storedPressed row channels cut ≡ writeStored (w .pattern)
       is-pressed =
           ap₂ (λ (n : ℕ) (s : List ℕ). storedPressed n channels s) q same-cut
           ∙ ap (listIn writeStored) (stored-anywhere channels (wordAt 5 from) (place + L) 0 d (w .pattern) (w .used) (w .reads))
 
-      is-written : pressedAt patternFormat channels file place ≡ patternHead (rowsReadAs row size) (length (storedPressed row channels cut)) ++ storedPressed row channels cut
+      is-written : pressedAt patternFormat channels file place ≡ patternHead row (length (storedPressed row channels cut)) ++ storedPressed row channels cut
       unfolding writePattern
       is-written =
           w .written ∙ ap₂ (λ (n : ℕ) (l : List ℕ). patternHead n (length l) ++ (l ++ [])) (sym is-rows) (sym is-pressed)
-          ∙ ap (λ (l : List ℕ). patternHead (rowsReadAs row size) (length (storedPressed row channels cut)) ++ l) (append-nil (storedPressed row channels cut))
+          ∙ ap (λ (l : List ℕ). patternHead row (length (storedPressed row channels cut)) ++ l) (append-nil (storedPressed row channels cut))
 
       pub pattern-lies : Bytes file → 1 ≤ channels → channels ≤ channelsMost → PatternLies
       pattern-lies b some high =
@@ -127,7 +125,7 @@ module _ (file : List ℕ) (place channels mark : ℕ) where
           let k = stored-keeps channels (wordAt 5 from) (place + L) d (w .pattern) (w .used) (bytes-take S (bytes-drop L (bytes-drop place b))) some (h .1 .1 .0 .0) (h .1 .1 .0 .1) (w .reads) in
           record {
             there = omega (arith, h .0, h .1 .1 .1 .0, length-drop place file);
-            rows-high = omega (arith, is-rows, k .good .high);
+            rows-high = omega (arith, h .1 .1 .0 .1);
             size-high = omega (arith, ap length is-pressed, k .short, long, word-small 7 (bytes-drop place b));
             known = record {
               rows-most = omega (arith, h .1 .1 .0 .1);
@@ -138,8 +136,8 @@ module _ (file : List ℕ) (place channels mark : ℕ) where
               already = λ t. is-pressed ∙ sym (w .already t) ∙ sym same-cut;
             };
             long = ap length is-written ∙ omega arith;
-            written = λ {rows} {shortest} e f lent h l.
-                first-last lent (patternHead rows shortest) (storedPressed row channels cut) 9 refl h l
-                ∙ ap₂ (λ (rows shortest : ℕ). inFront (patternHead rows shortest ++ storedPressed row channels cut) lent) e f
+            written = λ {shortest} e lent h l.
+                first-last lent (patternHead row shortest) (storedPressed row channels cut) 9 refl h l
+                ∙ ap (λ (shortest : ℕ). inFront (patternHead row shortest ++ storedPressed row channels cut) lent) e
                 ∙ ap (λ (whole : List ℕ). inFront whole lent) (sym is-written);
           }

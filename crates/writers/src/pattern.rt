@@ -7,7 +7,6 @@ use slices::read::word;
 use slices::write::put_byte;
 use slices::write::put_long;
 use slices::write::put_word;
-use steps::pattern::rows_read;
 ghost use mathlib.Core.Path.{_≡_};
 ghost use Prim.Native.Nat.{_≤_};
 ghost use lib.ListN.{length};
@@ -52,6 +51,6 @@ pub fn write_pattern(file: &[u8], at: usize, channels: usize, mark: u64, out: &m
         mark == COPIED,
         &mut out[9..],
     );
-    write_head(rows_read(row, size), shortest, out);
+    write_head(row, shortest, out);
     9 + shortest
 }

@@ -49,18 +49,19 @@ pub two-values : decodeNumbers 8 (127 ∷ 1 ∷ []) 2 ≡ 0 ∷ 0 ∷ 2 ∷ []
 unfolding decoding decoded storedNumbers pairs sums _>>_ ensure checked
 two-values = refl
 
--- Two empty cells are two bytes. Three are packed, and unpacked; a note and an empty cell are three bytes, in two rows: 3 + 65,536 × 2
-pub two-empty : writeStored (record { rows = 2; cells = replicate 2 (replicate 5 0) }) ≡ 0x80 ∷ 0x80 ∷ []
+-- A note and an empty cell are three bytes, in two rows: 3 + 65,536 × 2. Empty cells in three rows are packed to no bytes, and unpacked from
+-- none and from three
+pub two-cells : writeStored (record { rows = 2; cells = (1 ∷ replicate 4 0) ∷ replicate 5 0 ∷ [] }) ≡ 0x81 ∷ 1 ∷ 0x80 ∷ []
 unfolding writeStored needsNoData allZero writeCell goesPlain plainBy marked kepts marks kept ones onesIn
-two-empty = refl
+two-cells = refl
 
-pub three-packed : (packNumbers 3 1 (replicate 15 0) 3 ≡ 0 ∷ 0 ∷ 3 ∷ 3 ∷ []) × (packLoader 2 1 (1 ∷ replicate 9 0) 3 ≡ 131075)
+pub cells-packed : (packNumbers 2 1 (1 ∷ replicate 9 0) 3 ≡ 0 ∷ 0 ∷ 3 ∷ 2 ∷ []) × (packLoader 2 1 (1 ∷ replicate 9 0) 3 ≡ 131075) × (packNumbers 3 1 (replicate 15 0) 0 ≡ 0 ∷ 0 ∷ 0 ∷ 3 ∷ [])
 unfolding packing cellsOf _>>_ ensure checked writeStored needsNoData allZero writeCell goesPlain plainBy marked kepts marks kept ones onesIn loaderNumber
-three-packed = (refl, refl)
+cells-packed = (refl, refl, refl)
 
-pub three-unpacked : (unpackNumbers 3 1 (replicate 3 0x80) 15 ≡ 0 ∷ 0 ∷ 3 ∷ []) × (unpackAfter 1 1 (0x80 ∷ []) (replicate 6 7) ≡ 0 ∷ 0 ∷ 0 ∷ 0 ∷ 0 ∷ 7 ∷ [])
+pub three-unpacked : (unpackNumbers 3 1 [] 15 ≡ 0 ∷ 0 ∷ 3 ∷ []) × (unpackNumbers 3 1 (replicate 3 0x80) 15 ≡ 0 ∷ 0 ∷ 3 ∷ []) × (unpackAfter 1 1 (0x80 ∷ []) (replicate 6 7) ≡ 0 ∷ 0 ∷ 0 ∷ 0 ∷ 0 ∷ 7 ∷ [])
 unfolding unpacking _>>=_ _>>_ ensure checked readStored readCells readCell cellAt fieldsBy lengthBy ones onesIn
-three-unpacked = (refl, refl)
+three-unpacked = (refl, refl, refl)
 
 -- An instrument of 29 bytes without samples takes so many; behind it the first sample is still number 0
 abbrev pub bare : InstrumentFound

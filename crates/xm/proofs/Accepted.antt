@@ -26,7 +26,7 @@ use Rattle.xm.proofs.Got.{no-true, pass}
 use Rattle.xm.proofs.Answer.{answer-gives, answer-refuses, tests-fail}
 use Rattle.xm.proofs.Format.{joined-length, all-append, each-length}
 use Rattle.xm.proofs.Packing.{unpack-gives}
-use Rattle.xm.proofs.Row.{stored-again}
+use Rattle.xm.proofs.Row.{stored-anywhere}
 use Rattle.xm.proofs.PatternInFile.{PatternTold}
 use Rattle.xm.proofs.Sample.{HeadTold, DataTold, Sized, SamplesTold}
 use Rattle.xm.proofs.Module.{module-keeps, module-adjoins, module-tells, whole-read}
@@ -204,7 +204,7 @@ row-unpacks file channels i low high t g = (
       let d = part (i .dataPlace) (i .dataSize) file in
       unpack-gives (i .content .rows) channels d room
       ((g .pattern .low, g .pattern .high), ((low, high), (omega (arith, length-take (i .dataSize) (drop (i .dataPlace) file), t .small), tt)))
-      (stored-again channels (t .rows) (i .dataPlace) d (i .content) (t .used) (t .reads)) h,
+      (stored-anywhere channels (i .content .rows) (i .dataPlace) 0 d (i .content) (t .used) (t .reads)) h,
 )
 
 rows-unpack : (file : List ℕ) (channels : ℕ) (ps : List PatternFound) → 1 ≤ channels → channels ≤ 64 → All (PatternTold channels file) ps

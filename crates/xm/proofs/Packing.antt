@@ -1,6 +1,7 @@
 -- Laws of unpacking and packing: each exit from the tests that lead to it, that they undo one another, and that no stored form is
 -- shorter. Assumes nothing.
 use Prim.Native.Nat.{ℕ, zero, suc, _+_, _-_, _*_, _/_, _%_, _≤_, _<_}
+use mathlib.Core.Bool.{Bool, true, false}
 use mathlib.Core.List.{List, [], _∷_, _++_}
 use mathlib.Core.Path.{_≡_, refl, sym, ap, _∙_}
 use native.Mathlib.Nat.{mul-le-mul, le-refl}
@@ -13,14 +14,16 @@ use Rattle.xm.specs.Got.{Refusal, got, refused, _>>_, Test, present, atM
 use Rattle.xm.specs.Format.{EachGood, flat, All}
 use Rattle.xm.specs.Answer.{gives, refuses, result, inFront}
 use Rattle.xm.specs.Cell.{noteMost, cellMost, cellFormat}
-use Rattle.xm.specs.Stored.{Pattern, readStored, writeStored, GoodPattern, cellsOf}
-use Rattle.xm.specs.PatternInFile.{dataMost}
+use Rattle.xm.specs.Stored.{Pattern, emptyRows, readStored, allZero, needsNoData, writeStored, GoodPattern, cellsOf}
+use Rattle.xm.specs.PatternInFile.{dataMost, writePattern}
 use Rattle.xm.specs.Packing.{argumentTests, cellBytes, rowsRead, unpacking, unpackLoader, noteTests, patternOf, packing, storedLength, packNumbers, packAfter, packLoader}
-use Rattle.xm.specs.Demands.{refusalMost, KeepsItsWord, accepts, StoredFormOf, WellFormed, UnpacksToCells, PackedShortest, Fifteen, LoaderTells}
+use Rattle.xm.specs.Demands.{refusalMost, KeepsItsWord, accepts, StoredFormOf, WellFormed, UnpacksToCells, PackedShortest, Fifteen, EmptyPatterns, LoaderTells}
 use Rattle.xm.proofs.Number.{bytes-nil, bytes-append, bytes-drop, bytes-by}
 use Rattle.xm.proofs.Got.{not-both, holds-passes, test-holds, test-fails, pass, step, step-refused, refused-bind, refused-tests}
+use Rattle.xm.proofs.Format.{cons-path}
 use Rattle.xm.proofs.Cell.{five-bytes}
-use Rattle.xm.proofs.Stored.{pattern-path, Fives, flat-length, cells-flat, flat-cells, cells-length, cells-fives, good-count, good-fives, stored-plain, stored-back, StoredKept, stored-keeps, stored-most, stored-full}
+use Rattle.xm.proofs.Stored.{pattern-path, Fives, flat-length, cells-flat, flat-cells, cells-length, cells-fives, good-count, good-fives, empty-flat, rows-good, rows-none, none-rows, write-none, write-cells, product-some, stored-none, stored-plain, stored-back, StoredKept, stored-keeps, stored-rows, stored-most, stored-full}
+use Rattle.xm.proofs.Row.{cells-least}
 use Rattle.xm.proofs.Fault.{stored-faults}
 use Rattle.xm.proofs.Answer.{answer-gives, answer-refuses, gives-passed, gives-bound, gives-same, refuses-refused, gives-refuses, tests-fail, refused-passed, word-kept, loader-tells, accepted-gives, reported-written}
 
@@ -356,6 +359,68 @@ unpacked-back rows channels stored room enough p b e h =
     let k = unpack-kept rows channels stored room p b e in
     let range = unpack-given rows channels stored room p e .range in
     good-packs channels p enough (range .1 .0 .1) (k .good) (omega (arith, k .short, range .1 .1 .0), (h, tt))
+
+-- Empty patterns keep their rows: of no data they are read, of no bytes they are written, and no other is
+module _ (rows channels : ℕ) (arguments : AllHold (argumentTests rows channels)) where
+  zeros : List ℕ
+  zeros = replicate (rows * channels * 5) 0
+
+  zeros-length : length zeros ≡ rows * channels * 5
+  unfolding zeros
+  zeros-length = length-replicate {A = ℕ} (rows * channels * 5) 0
+
+  empty-pattern : GoodPattern channels (emptyRows channels rows)
+  empty-pattern = rows-good channels rows (arguments .1 .0 .0) (arguments .0 .0) (arguments .0 .1)
+
+  empty-bytes : cellBytes (emptyRows channels rows) ≡ zeros
+  unfolding zeros
+  empty-bytes = empty-flat (rows * channels)
+
+  empty-written : length (writeStored (emptyRows channels rows)) ≡ 0
+  empty-written = ap length (write-none (emptyRows channels rows) (rows-none channels rows))
+
+  empty-unpacks : (room : ℕ) → rows * channels * 5 ≤ room → unpacking rows channels [] room ≡ gives (emptyRows channels rows)
+  empty-unpacks room h =
+      unpack-gives rows channels [] room (arguments .0, (arguments .1 .0, (omega arith, tt))) (stored-none channels rows 0 [] refl) (omega (arith, ap length empty-bytes, zeros-length))
+
+  empty-packs : (room : ℕ) → packing rows channels zeros room ≡ gives (emptyRows channels rows)
+  empty-packs room =
+      let same = good-pattern channels (emptyRows channels rows) (arguments .1 .0 .1) empty-pattern in
+      let well = good-well channels (emptyRows channels rows) (arguments .1 .0 .1) empty-pattern in
+      rw (← empty-bytes)
+      (pack-gives rows channels (cellBytes (emptyRows channels rows)) room (well-range well) (well .notes) (omega (arith, ap storedLength same, empty-written)) (omega (arith, ap storedLength same, empty-written))
+      ∙ ap gives same)
+
+none-only : (channels : ℕ) (p : Pattern) → GoodPattern channels p → writeStored p ≡ [] → p ≡ emptyRows channels (p .rows)
+none-only channels p g e = go (needsNoData p) refl
+  where
+    go : (t : Bool) → needsNoData p ≡ t → p ≡ emptyRows channels (p .rows)
+    go true q = none-rows channels p g q
+    go false q =
+        let n = p .rows * channels in
+        let least = cells-least (p .cells) (good-fives n (p .cells) (g .good)) in
+        absurd (omega (arith, ap length (sym (write-cells p q) ∙ e), least, good-count n (p .cells) (g .good), product-some (p .rows) channels (g .low) (g .some)))
+
+-- and the cells of one are empty, by whatever bytes they were stored
+one-content : (rows channels : ℕ) (stored : List ℕ) (room : ℕ) (p : Pattern) → Bytes stored → unpacking rows channels stored room ≡ gives p
+    → cellBytes p ≡ replicate (rows * channels * 5) 0 → unpacking rows channels [] room ≡ gives p
+unfolding zeros needsNoData
+one-content rows channels stored room p b e z =
+    let k = unpack-given rows channels stored room p e in
+    let arguments : AllHold (argumentTests rows channels) = (k .range .0, (k .range .1 .0, tt)) in
+    let none : needsNoData p ≡ true = ap allZero (z ∙ sym (empty-bytes rows channels arguments)) ∙ rows-none channels rows in
+    let same = none-rows channels p (unpack-kept rows channels stored room p b e .good) none ∙ ap (emptyRows channels) (stored-rows channels rows 0 stored p (k .used) (k .reads)) in
+    empty-unpacks rows channels arguments room (omega (arith, k .fits, ap length z, zeros-length rows channels arguments)) ∙ ap gives (sym same)
+
+pub empty-patterns : EmptyPatterns
+unfolding zeros writePattern
+empty-patterns = record {
+  unpacked = λ rows channels room h. empty-unpacks rows channels h room;
+  packed = λ rows channels room h. rw (empty-packs rows channels h room) (cons-path refl (cons-path refl (cons-path (omega (arith, empty-written rows channels h)) (cons-path (omega arith) refl))));
+  written = λ rows channels. rw (write-none (emptyRows channels rows) (rows-none channels rows)) refl;
+  only = none-only;
+  one-content = one-content;
+}
 
 -- Refusals have the paper's numbers, and places within the cells of the largest pattern
 abbrev pub bytesMost : ℕ

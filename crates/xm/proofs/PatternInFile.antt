@@ -15,7 +15,7 @@ use Rattle.xm.proofs.Number.{bytes-drop, bytes-take, word-small, part-d
 use Rattle.xm.proofs.Got.{no-true, pass, step, passed, bind-got, got-both, got-carry}
 use Rattle.xm.proofs.Format.{Back, Keeps, Held, Adjoins, Firm, Tells}
 use Rattle.xm.proofs.Field.{Field, byteField, wordField, longField, textField, noField, _⊗_}
-use Rattle.xm.proofs.Stored.{stored-back, stored-keeps, stored-plain}
+use Rattle.xm.proofs.Stored.{stored-back, stored-keeps, stored-plain, stored-rows}
 
 -- L, packing type, rows, S, and the data
 abbrev Row : Type 0
@@ -126,14 +126,11 @@ pattern-firm channels = record {
       (step _ r (got-both (found-path L S) (ap₂ (λ (o k : ℕ). o + k) L S)))) refl;
 }
 
--- What is found says of the file: its data, read for its row number, are the pattern
+-- What is found says of the file: its data, read for its rows, are the pattern
 pub record PatternTold (channels : ℕ) (file : List ℕ) (i : PatternFound) : Type 0 where
-  pub rows : ℕ
-  pub low : 1 ≤ rows
-  pub high : rows ≤ 256
   pub small : i .dataSize ≤ dataMost
   pub used : ℕ
-  pub reads : readStored channels rows (i .dataPlace) (part (i .dataPlace) (i .dataSize) file) ≡ got (i .content) used
+  pub reads : readStored channels (i .content .rows) (i .dataPlace) (part (i .dataPlace) (i .dataSize) file) ≡ got (i .content) used
 
 pub pattern-tells : (channels : ℕ) → Tells patternFormat channels (PatternTold channels)
 unfolding readPattern
@@ -143,11 +140,10 @@ pattern-tells channels = record {
       let s = drop place file in
       got-carry (λ (r : PatternFound) (u : ℕ). PatternTold channels file r) e
       (record {
-        rows = wordAt 5 s;
-        low = h .1 .1 .0 .0;
-        high = h .1 .1 .0 .1;
         small = omega (arith, word-small 7 (bytes-drop place b));
         used = m;
-        reads = rw (← part-drop place (longAt 0 s) (wordAt 7 s) file) ep;
+        reads =
+            ap (λ (rows : ℕ). readStored channels rows (place + longAt 0 s) (part (place + longAt 0 s) (wordAt 7 s) file)) (stored-rows channels (wordAt 5 s) _ _ p m ep)
+            ∙ rw (← part-drop place (longAt 0 s) (wordAt 7 s) file) ep;
       });
 }

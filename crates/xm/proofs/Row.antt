@@ -11,13 +11,13 @@ use lib.Dec.{leb, eqb}
 use lib.ListN.{length, getD, drop, length-append, length-drop}
 use Rattle.xm.specs.Got.{Got, got, refused, _>>=_, _>>_, ensure, checked, atMost, accepted, _at_}
 use Rattle.xm.specs.Format.{joined, flat}
-use Rattle.xm.specs.Cell.{noteMost, needed, cellAt, readCell, bit, kepts, marked, goesPlain, writeCell}
+use Rattle.xm.specs.Cell.{noteMost, needed, cellAt, readCell, bit, kepts, goesPlain, writeCell}
 use Rattle.xm.specs.Stored.{Pattern, readRow, readCells, readStored, allZero, needsNoData, writeStored}
-use Rattle.xm.specs.Row.{cellsIn, noDataBy, sizeBy}
+use Rattle.xm.specs.Row.{cellsIn, sizeBy}
 use Rattle.xm.proofs.Got.{not-both, accepted-got, got-accepted, bind-got, got-value, got-used}
 use Rattle.xm.proofs.Format.{cons-path}
 use Rattle.xm.proofs.Cell.{bit-none, bit-some, kept-length, marked-length, length-some, cell-length, cell-read, write-plain, write-marked, write-some, write-short, plain-many}
-use Rattle.xm.proofs.Stored.{Fives, zero-append, write-none, write-cells, stored-rows}
+use Rattle.xm.proofs.Stored.{Fives, zero-append, write-none, write-cells}
 
 -- What an accepted row says: which cells it has, that each takes a byte or more, and that they are written in no more bytes
 pub record RowRead (count : ℕ) (s : List ℕ) (cells : List (List ℕ)) (used : ℕ) : Type 0 where
@@ -121,7 +121,7 @@ module _ (base : ℕ) where
   stored-shifted channels rows [] = refl
   stored-shifted channels rows (b ∷ d) = cells-shifted rows (b ∷ d) channels
 
--- So an accepted reading is accepted anywhere, and for the rows that it reads as
+-- So an accepted reading is accepted anywhere
 pub row-anywhere : (count place other : ℕ) (s : List ℕ) (cells : List (List ℕ)) (used : ℕ) → readRow count place s ≡ got cells used → readRow count other s ≡ got cells used
 unfolding shifted
 row-anywhere count place other s cells used e =
@@ -134,12 +134,6 @@ pub stored-anywhere : (channels rows place other : ℕ) (d : List ℕ) (p : Patt
 unfolding shifted
 stored-anywhere channels rows place other d p used e =
     stored-shifted other channels rows d ∙ ap (shifted other) (shifted-got place (readStored channels rows 0 d) (sym (stored-shifted place channels rows d) ∙ e))
-
-pub stored-again : (channels rows place : ℕ) (d : List ℕ) (p : Pattern) (used : ℕ) → readStored channels rows place d ≡ got p used → readStored channels (p .rows) 0 d ≡ got p used
-unfolding readStored
-stored-again channels rows place [] p used e = e
-stored-again channels rows place (b ∷ d) p used e =
-    ap (λ (n : ℕ). readStored channels n 0 (b ∷ d)) (stored-rows channels rows place (b ∷ d) p used (omega arith) e) ∙ stored-anywhere channels rows place 0 (b ∷ d) p used e
 
 -- Two numbers that are no less than two others: their sums are equal exactly if both are
 sum-least : (i j a b : ℕ) → i ≤ a → j ≤ b → eqb (a + b) (i + j) ≡ (eqb a i && eqb b j)
@@ -202,15 +196,10 @@ stored-cells p h = go (needsNoData p) refl
     go true e = absurd (omega (arith, ap length (write-none p e)))
     go false e = write-cells p e
 
-module _ (p : Pattern) (fives : Fives (p .cells)) where
-  pub no-data-by : noDataBy (p .rows) (length (p .cells)) (length (joined writeCell (p .cells))) ≡ needsNoData p
-  unfolding noDataBy needsNoData
-  no-data-by = ap (λ (t : Bool). eqb (p .rows) 64 && t) (cells-zero (p .cells) fives)
-
-  pub size-by : sizeBy (p .rows) (length (p .cells)) (length (joined writeCell (p .cells))) ≡ length (writeStored p)
-  unfolding sizeBy
-  size-by = rw no-data-by (go (needsNoData p) refl)
-    where
-      go : (t : Bool) → needsNoData p ≡ t → cond t 0 (length (joined writeCell (p .cells))) ≡ length (writeStored p)
-      go true e = sym (ap length (write-none p e))
-      go false e = sym (ap length (write-cells p e))
+pub size-by : (p : Pattern) → Fives (p .cells) → sizeBy (length (p .cells)) (length (joined writeCell (p .cells))) ≡ length (writeStored p)
+unfolding sizeBy needsNoData
+size-by p fives = rw (cells-zero (p .cells) fives) (go (needsNoData p) refl)
+  where
+    go : (t : Bool) → needsNoData p ≡ t → cond t 0 (length (joined writeCell (p .cells))) ≡ length (writeStored p)
+    go true e = sym (ap length (write-none p e))
+    go false e = sym (ap length (write-cells p e))

@@ -1,7 +1,7 @@
 -- Laws of stored patterns: what is written reads back, what is read is kept and written in no more bytes; cells as lent bytes, and
 -- how many bytes they take. Assumes nothing.
 use Prim.Native.Nat.{ℕ, zero, suc, _+_, _*_, _≤_}
-use mathlib.Core.Bool.{Bool, true, false, cond, _&&_, and-eq-true-iff, and-assoc, and-false}
+use mathlib.Core.Bool.{Bool, true, false, cond, _&&_, and-eq-true-iff, and-assoc}
 use mathlib.Core.List.{List, [], _∷_, _++_, map, append-nil}
 use mathlib.Core.Path.{_≡_, refl, sym, ap, _∙_}
 use native.Mathlib.Nat.{mul-le-mul}
@@ -14,7 +14,7 @@ use Rattle.xm.specs.Number.{Bytes}
 use Rattle.xm.specs.Got.{got}
 use Rattle.xm.specs.Format.{each, eachRead, EachGood, joined, flat, All}
 use Rattle.xm.specs.Cell.{five, readCell, writeCell, cellMost, cellFormat}
-use Rattle.xm.specs.Stored.{Pattern, standard, readCells, readStored, allZero, needsNoData, writeStored, GoodPattern, cellsOf}
+use Rattle.xm.specs.Stored.{Pattern, emptyRows, readCells, readStored, allZero, needsNoData, writeStored, GoodPattern, cellsOf}
 use Rattle.xm.proofs.Number.{bytes-nil, bytes-zeros}
 use Rattle.xm.proofs.Got.{pass, passed, step, bind-got, got-both, got-value, got-used, got-carry}
 use Rattle.xm.proofs.Format.{cons-path, each-length, many-back, many-keeps}
@@ -119,20 +119,21 @@ unfolding allZero
 empty-zero zero = refl
 empty-zero (suc n) = empty-zero n
 
--- The standard empty pattern, and no other, needs no data
-pub standard-good : (channels : ℕ) → 1 ≤ channels → GoodPattern channels (standard channels)
-standard-good channels h = record { some = h; low = omega arith; high = omega arith; good = empty-good (64 * channels) }
+pub empty-flat : (n : ℕ) → flat {A = ℕ} (replicate n (replicate 5 0)) ≡ replicate (n * 5) 0
+empty-flat zero = refl
+empty-flat (suc n) = let more : suc n * 5 ≡ suc (suc (suc (suc (suc (n * 5))))) = omega arith in rw (empty-flat n, more)
 
-pub standard-none : (channels : ℕ) → needsNoData (standard channels) ≡ true
-unfolding needsNoData
-standard-none channels = empty-zero (64 * channels)
+-- An empty pattern, and no other, needs no data
+pub rows-good : (channels rows : ℕ) → 1 ≤ channels → 1 ≤ rows → rows ≤ 256 → GoodPattern channels (emptyRows channels rows)
+rows-good channels rows some low high = record { some = some; low = low; high = high; good = empty-good (rows * channels) }
 
-pub none-standard : (channels : ℕ) (p : Pattern) → GoodPattern channels p → needsNoData p ≡ true → p ≡ standard channels
+pub rows-none : (channels rows : ℕ) → needsNoData (emptyRows channels rows) ≡ true
 unfolding needsNoData
-none-standard channels p g e =
-    let t = and-eq-true-iff (eqb (p .rows) 64) (allZero (flat (p .cells))) .0 e in
-    let r : p .rows ≡ 64 = eqb-true (p .rows) 64 (t .0) in
-    pattern-path r (zero-cells (p .rows * channels) (p .cells) (g .good) (t .1) ∙ ap (λ (n : ℕ). replicate (n * channels) (replicate 5 0)) r)
+rows-none channels rows = rw (empty-zero (rows * channels))
+
+pub none-rows : (channels : ℕ) (p : Pattern) → GoodPattern channels p → needsNoData p ≡ true → p ≡ emptyRows channels (p .rows)
+unfolding needsNoData
+none-rows channels p g e = pattern-path refl (zero-cells (p .rows * channels) (p .cells) (g .good) e)
 
 -- No bytes, or those of the cells
 pub write-none : (p : Pattern) → needsNoData p ≡ true → writeStored p ≡ []
@@ -157,7 +158,7 @@ stored-plain channels p g =
     write-case Bytes p (λ e. bytes-nil) (λ e. many-back cellFormat (p .rows * channels) cell-back .plain (p .cells) (g .good))
 
 -- No data, and some
-pub stored-none : (channels rows place : ℕ) (d : List ℕ) → length d ≡ 0 → readStored channels rows place d ≡ got (standard channels) 0
+pub stored-none : (channels rows place : ℕ) (d : List ℕ) → length d ≡ 0 → readStored channels rows place d ≡ got (emptyRows channels rows) 0
 unfolding readStored
 stored-none channels rows place [] h = refl
 stored-none channels rows place (b ∷ d) h = absurd (omega arith)
@@ -180,9 +181,7 @@ full-some ((x ∷ c) ∷ cells) h l f = rw (ne-eqb x 0 (f .0 .0))
 pub stored-full : (p : Pattern) → 1 ≤ length (p .cells) → Fives (p .cells) → All (All (λ (x : ℕ). x ≡ 0 → ⊥)) (p .cells)
     → length (writeStored p) ≡ 5 * length (p .cells)
 unfolding needsNoData
-stored-full p h l f =
-    let some : needsNoData p ≡ false = rw (full-some (p .cells) h l f) (and-false (eqb (p .rows) 64)) in
-    rw (write-cells p some) (cells-full (p .cells) l f)
+stored-full p h l f = rw (write-cells p (full-some (p .cells) h l f)) (cells-full (p .cells) l f)
 
 -- What is written reads back
 map-same : (cells : List (List ℕ)) → map (λ (c : List ℕ). c) cells ≡ cells
@@ -203,7 +202,7 @@ product-some a b h k = omega (arith, mul-le-mul h k)
 pub stored-back : (channels place : ℕ) (p : Pattern) → GoodPattern channels p → readStored channels (p .rows) place (writeStored p) ≡ got p (length (writeStored p))
 stored-back channels place p g =
     write-case (λ (d : List ℕ). readStored channels (p .rows) place d ≡ got p (length d)) p
-    (λ e. stored-none channels (p .rows) place [] refl ∙ got-both (sym (none-standard channels p g e)) refl)
+    (λ e. stored-none channels (p .rows) place [] refl ∙ got-both (sym (none-rows channels p g e)) refl)
     (λ e. stored-some channels (p .rows) place _ (cells-some (p .rows * channels) (p .cells) (product-some (p .rows) channels (g .low) (g .some)) (g .good))
     ∙ cells-back channels place p g)
 
@@ -230,10 +229,10 @@ pub stored-keeps : (channels rows place : ℕ) (d : List ℕ) (p : Pattern) (n :
 unfolding readStored
 stored-keeps channels rows place [] p n b some low high e =
     got-carry (λ (q : Pattern) (u : ℕ). StoredKept channels [] q) e
-    (record { good = standard-good channels some; short = omega (arith, ap length (write-none (standard channels) (standard-none channels))) })
+    (record { good = rows-good channels rows some low high; short = omega (arith, ap length (write-none (emptyRows channels rows) (rows-none channels rows))) })
 stored-keeps channels rows place (x ∷ d) p n b some low high e = cells-keep channels rows place (x ∷ d) p n b some low high e
 
--- All of the data is used, and with some data the rows are the row number
+-- All of the data is used, and the rows are the row number
 cells-inside : (hs : List (Unit {0})) (place : ℕ) (s : List ℕ) (cells : List (List ℕ)) (n : ℕ) → eachRead cellFormat hs place s ≡ got cells n → n ≤ length s
 unfolding readCell
 cells-inside [] place s cells n e = omega (arith, got-used e)
@@ -256,8 +255,10 @@ unfolding readStored
 stored-used channels rows place [] p n e = sym (got-used e)
 stored-used channels rows place (b ∷ d) p n e = cells-read channels rows place (b ∷ d) p n e .used
 
-pub stored-rows : (channels rows place : ℕ) (d : List ℕ) (p : Pattern) (n : ℕ) → 1 ≤ length d → readStored channels rows place d ≡ got p n → p .rows ≡ rows
-stored-rows channels rows place d p n h e = cells-read channels rows place d p n (sym (stored-some channels rows place d h) ∙ e) .same
+pub stored-rows : (channels rows place : ℕ) (d : List ℕ) (p : Pattern) (n : ℕ) → readStored channels rows place d ≡ got p n → p .rows ≡ rows
+unfolding readStored
+stored-rows channels rows place [] p n e = ap Pattern.rows (sym (got-value e))
+stored-rows channels rows place (b ∷ d) p n e = cells-read channels rows place (b ∷ d) p n e .same
 
-pub stored-empty : (channels rows place : ℕ) (d : List ℕ) (p : Pattern) (n : ℕ) → length d ≡ 0 → readStored channels rows place d ≡ got p n → p ≡ standard channels
+pub stored-empty : (channels rows place : ℕ) (d : List ℕ) (p : Pattern) (n : ℕ) → length d ≡ 0 → readStored channels rows place d ≡ got p n → p ≡ emptyRows channels rows
 stored-empty channels rows place d p n h e = got-value (sym e ∙ stored-none channels rows place d h)

@@ -14,11 +14,13 @@ use Rattle.xm.specs.Sample.{readHead, readData}
 use Rattle.xm.specs.Instrument.{readInstrument, writeVoice, writeInstrument}
 use Rattle.xm.specs.Module.{readWhole}
 use Rattle.xm.specs.Press.{pressed}
-use Rattle.xm.specs.Wrong.{song, wrongFiles, withTempo, forgetful, typed, readsAs}
+use Rattle.xm.specs.Wrong.{song, wrongFiles, silence, inCells, withTempo, forgetful, typed, readsAs}
 
-pub wrong-longer : map readsAs (pressed song ∷ wrongFiles) ≡ (song ∷ [], 662) ∷ (song ∷ [], 665) ∷ (song ∷ [], 664) ∷ (song ∷ [], 663) ∷ []
+pub wrong-longer :
+    (map readsAs (pressed song ∷ wrongFiles) ≡ (song ∷ [], 662) ∷ (song ∷ [], 665) ∷ (song ∷ [], 664) ∷ (song ∷ [], 663) ∷ [])
+    × (map readsAs (pressed silence ∷ inCells ∷ []) ≡ (silence ∷ [], 658) ∷ (silence ∷ [], 722) ∷ [])
 unfolding readWhole _>>=_ _>>_ ensure checked restartInside restartOf readHeader writeHeader readPattern writePattern readStored readCells readCell cellAt fieldsBy lengthBy ones onesIn writeStored needsNoData allZero writeCell goesPlain plainBy marked kepts marks kept readHead readData readInstrument writeVoice writeInstrument wordAt longAt
-wrong-longer = refl
+wrong-longer = (refl, refl)
 
 -- One file for two songs: they differ in the tempo, and the press that forgets it gives the same bytes of both
 pub forgets : (forgetful song ≡ forgetful (withTempo 3 song)) × (song .0 .tempo ≡ 6)

@@ -1,7 +1,7 @@
 -- The three demands, and the paper's further claims, as statements over these definitions. docs/PROMISES.md says where each is proved.
--- `Demand₁`, `Demand₂`, `Demand₃`; then of packing `Fifteen`; of pressing `PressesWhole` and `SameBytes`; of the check's tables `TablesTell`; of
--- accepted files `AcceptedFiles`, `AsksExactly`, `RestIgnored`, `RestartsRead`, `PlaysOrders`; of the small reader `ReadersTell`; of the loader
--- `LoadersTell`.
+-- `Demand₁`, `Demand₂`, `Demand₃`; then of packing `Fifteen` and `EmptyPatterns`; of pressing `PressesWhole` and `SameBytes`; of the check's
+-- tables `TablesTell`; of accepted files `AcceptedFiles`, `AsksExactly`, `RestIgnored`, `RestartsRead`, `PlaysOrders`; of the small reader
+-- `ReadersTell`; of the loader `LoadersTell`.
 use Prim.Native.Nat.{ℕ, _+_, _*_, _/_, _%_, _^_, _≤_, _<_}
 use mathlib.Core.Bool.{true, cond}
 use mathlib.Core.List.{List, [], _∷_, _++_, map}
@@ -9,15 +9,15 @@ use mathlib.Core.Logic.{_↔_}
 use mathlib.Core.Path.{_≡_}
 use lib.Dec.{eqb}
 use lib.IntN.{ℤ}
-use lib.ListN.{length, getD, take, drop}
-use Rattle.xm.specs.Number.{Bytes, byteAt, longAt, part, signed}
+use lib.ListN.{length, getD, take, drop, replicate}
+use Rattle.xm.specs.Number.{Bytes, byteAt, longAt, part, byte, word, long, signed}
 use Rattle.xm.specs.Got.{Refusal, got, refused, _at_, AllHold}
-use Rattle.xm.specs.Format.{Format, Kind, Region, patternHeader, patternData, instrument, sampleHeader, sampleData, joined, All}
+use Rattle.xm.specs.Format.{Format, Kind, Region, patternHeader, patternData, instrument, sampleHeader, sampleData, joined, flat, All}
 use Rattle.xm.specs.Answer.{Answer, gives, refuses, inFront, after}
 use Rattle.xm.specs.Cell.{cellSize, cellMost}
-use Rattle.xm.specs.Stored.{rowsMost, Pattern, standard, readStored, writeStored}
+use Rattle.xm.specs.Stored.{rowsMost, Pattern, emptyRows, readStored, writeStored, GoodPattern}
 use Rattle.xm.specs.Header.{songLengthAt, restartAt}
-use Rattle.xm.specs.PatternInFile.{dataMost}
+use Rattle.xm.specs.PatternInFile.{dataMost, leastPattern, writePattern}
 use Rattle.xm.specs.Packing.{argumentTests, cellBytes, unpacking, unpackNumbers, unpackAfter, unpackLoader, noteTests, patternOf, packing, packNumbers, packAfter, packLoader}
 use Rattle.xm.specs.Sample.{lengthOf, loopStart, loopLength, loops}
 use Rattle.xm.specs.Instrument.{Instrument, InstrumentFound}
@@ -173,6 +173,16 @@ pub record Fifteen : Type 0 where
   pub at-51 : rowsMost * 51 * cellMost ≤ dataMost
   pub at-52 : (cells : List ℕ) × WellFormed rowsMost 52 cells × ((room : ℕ) → packing rowsMost 52 cells room ≡ refuses (15 at 0))
 
+-- "S = 0 means empty cells for the row number in the header. The press writes S = 0 for every all-empty pattern", and for no other; and data
+-- of empty cells are one content with S = 0, whatever bytes they are.
+pub record EmptyPatterns : Type 0 where
+  pub unpacked : (rows channels room : ℕ) → AllHold (argumentTests rows channels) → rows * channels * cellSize ≤ room → unpacking rows channels [] room ≡ gives (emptyRows channels rows)
+  pub packed : (rows channels room : ℕ) → AllHold (argumentTests rows channels) → packNumbers rows channels (replicate (rows * channels * cellSize) 0) room ≡ 0 ∷ 0 ∷ 0 ∷ rows ∷ []
+  pub written : (rows channels : ℕ) → writePattern (emptyRows channels rows) ≡ flat (long leastPattern ∷ byte 0 ∷ word rows ∷ word 0 ∷ [])
+  pub only : (channels : ℕ) (p : Pattern) → GoodPattern channels p → writeStored p ≡ [] → p ≡ emptyRows channels (p .rows)
+  pub one-content : (rows channels : ℕ) (stored : List ℕ) (room : ℕ) (p : Pattern) → Bytes stored → unpacking rows channels stored room ≡ gives p
+      → cellBytes p ≡ replicate (rows * channels * cellSize) 0 → unpacking rows channels [] room ≡ gives p
+
 -- The pressed length "never exceeds the input's"; the pressed file is used to its last byte.
 pub record PressedWhole (content : Content) (file : List ℕ) : Type 0 where
   pub no-longer : length (pressed content) ≤ length file
@@ -306,11 +316,11 @@ pub record RestartRead (file : List ℕ) (found : Found) : Type 0 where
 abbrev pub RestartsRead : Type 0
 RestartsRead = (file : List ℕ) (found : Found) (end : ℕ) → readFile file ≡ got found end → RestartRead file found
 
--- "An order entry naming no pattern .. stands for the standard empty pattern", and any other for the pattern it names: of a position
--- within the song length.
+-- "Only an order entry that names no pattern still stands for 64 rows", of empty cells, and any other for the pattern it names: of a
+-- position within the song length.
 pub record PlaysOrders (content : Content) : Type 0 where
   pub named : (position number : ℕ) (p : Pattern) → position < content .0 .songLength → getD (content .0 .orders) position 0 ≡ number → number < length (content .1 .0) → plays content position ≡ getD (content .1 .0) number p
-  pub nameless : (position : ℕ) → position < content .0 .songLength → length (content .1 .0) ≤ getD (content .0 .orders) position 0 → plays content position ≡ standard (content .0 .channels)
+  pub nameless : (position : ℕ) → position < content .0 .songLength → length (content .1 .0) ≤ getD (content .0 .orders) position 0 → plays content position ≡ emptyRows (content .0 .channels) 64
 
 -- The small reader: a call after n others gives what `reading` says of n, which is the structure of that number, in file order; behind the
 -- last one it says that the end is reached, and the reader stays as it is.

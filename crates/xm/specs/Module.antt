@@ -4,7 +4,7 @@ use mathlib.Core.List.{List, [], _∷_}
 use lib.ListN.{length, getD, replicate}
 use Rattle.xm.specs.Got.{Got, _>>_, checked, atMost, _at_}
 use Rattle.xm.specs.Format.{Format, over, then, each}
-use Rattle.xm.specs.Stored.{Pattern, standard}
+use Rattle.xm.specs.Stored.{Pattern, emptyRows}
 use Rattle.xm.specs.Header.{Header, HeaderFound, headerFormat}
 use Rattle.xm.specs.PatternInFile.{PatternFound, patternFormat}
 use Rattle.xm.specs.Instrument.{Instrument, InstrumentFound, instrumentFormat}
@@ -42,7 +42,11 @@ readWhole F file = do
 abbrev pub readFile : (file : List ℕ) → Got Found
 readFile file = readWhole moduleFormat file
 
--- "An order entry naming no pattern is accepted; it stands for the standard empty pattern": what an order position within the song length
--- plays.
+-- "the standard empty one: 64 rows of empty cells"
+abbrev pub standard : (channels : ℕ) → Pattern
+standard channels = emptyRows channels 64
+
+-- "An order entry naming no pattern is accepted; it stands for the standard empty pattern", and "only an order entry that names no pattern
+-- still stands for 64 rows": what an order position within the song length plays.
 unfoldable pub plays : Content → (position : ℕ) → Pattern
 plays content position = getD (content .1 .0) (getD (content .0 .orders) position 0) (standard (content .0 .channels))

@@ -20,19 +20,9 @@ pub record Pattern : Type 0 where
   pub rows : ℕ
   pub cells : List (List ℕ)
 
+-- So many rows of empty cells.
 abbrev pub emptyRows : (channels rows : ℕ) → Pattern
 emptyRows channels rows = record { rows = rows; cells = replicate (rows * channels) (replicate cellSize 0) }
-
--- "the standard empty one: 64 rows of empty cells"
-abbrev pub standardRows : ℕ
-standardRows = 64
-
-abbrev pub standard : (channels : ℕ) → Pattern
-standard channels = emptyRows channels standardRows
-
--- "With S = 0 the pattern is the standard empty one, whatever row number stands there."
-abbrev pub whenNoData : (channels rows : ℕ) → Pattern
-whenNoData channels rows = standard channels
 
 -- So many cells, one after the other.
 abbrev pub readRow : (count : ℕ) → Reader (List (List ℕ))
@@ -45,17 +35,18 @@ readCells channels rows place d = do
   checked (atMost 0 (length d - used) (8 at (place + used)) ∷ [])
   got (record { rows = rows; cells = cells }) used
 
+-- "S = 0 means empty cells for the row number in the header."
 unfoldable pub readStored : (channels rows : ℕ) → Reader Pattern
-readStored channels rows place [] = got (whenNoData channels rows) 0
+readStored channels rows place [] = got (emptyRows channels rows) 0
 readStored channels rows place (b ∷ d) = readCells channels rows place (b ∷ d)
 
--- "A pattern of 64 empty rows gets row number 64 and S = 0"; any other its cells, each in its shortest form.
+-- "The press writes S = 0 for every all-empty pattern"; of any other its cells, each in its shortest form.
 unfoldable pub allZero : List ℕ → Bool
 allZero [] = true
 allZero (x ∷ xs) = eqb x 0 && allZero xs
 
 unfoldable pub needsNoData : Pattern → Bool
-needsNoData p = eqb (p .rows) standardRows && allZero (flat (p .cells))
+needsNoData p = allZero (flat (p .cells))
 
 unfoldable pub writeStored : Pattern → List ℕ
 writeStored p = cond (needsNoData p) [] (joined writeCell (p .cells))

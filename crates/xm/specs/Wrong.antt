@@ -1,12 +1,13 @@
--- Wrong presses, tried on one song: each gives a file that reads as the same content and is longer than it need be. So demand 2 does not
--- rule it out, and demand 3 does: proofs/Wrong.antt has the numbers.
+-- Wrong presses, tried on one song and on silence: each gives a file that reads as the same content and is longer than it need be. So
+-- demand 2 does not rule it out, and demand 3 does: proofs/Wrong.antt has the numbers.
 use Prim.Native.Nat.{ℕ, _+_}
 use mathlib.Core.List.{List, [], _∷_}
 use lib.ListN.{length, take, drop, replicate}
 use Rattle.xm.specs.Number.{part, byte, word, long}
 use Rattle.xm.specs.Got.{Got, got, refused}
 use Rattle.xm.specs.Format.{joined, flat}
-use Rattle.xm.specs.Stored.{Pattern, writeStored}
+use Rattle.xm.specs.Cell.{writeCell}
+use Rattle.xm.specs.Stored.{Pattern, emptyRows, writeStored}
 use Rattle.xm.specs.Header.{writeHeader}
 use Rattle.xm.specs.PatternInFile.{PatternFound, leastPattern, writePattern}
 use Rattle.xm.specs.Sample.{leastHead, samplesFormat}
@@ -79,6 +80,16 @@ longInstrument x = flat (
 
 abbrev pub wrongFiles : List (List ℕ)
 wrongFiles = firstPacked saved (readFile saved) ∷ fileBy longPattern writeInstrument song ∷ fileBy writePattern longInstrument song ∷ []
+
+-- 32 silent rows, twice, and a press that writes S = 0 of 64 empty rows only.
+abbrev pub silence : Content
+silence = (song .0, (replicate 2 (emptyRows 1 32), song .1 .1))
+
+abbrev pub cellsPattern : Pattern → List ℕ
+cellsPattern p = let cells = joined writeCell (p .cells) in flat (long leastPattern ∷ byte 0 ∷ word (p .rows) ∷ word (length cells) ∷ cells ∷ [])
+
+abbrev pub inCells : List ℕ
+inCells = fileBy cellsPattern writeInstrument silence
 
 -- A14: a press that forgets a field gives one file for two songs; one that keeps what is no content gives two files for one.
 abbrev pub withTempo : ℕ → Content → Content

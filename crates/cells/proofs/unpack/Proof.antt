@@ -10,7 +10,7 @@ use borrow.Author.Tests.{not-true, not-false}
 use Rattle.xm.specs.Answer.{inFront}
 use Rattle.xm.proofs.Packing.{UnpackRange, unpack-argument, unpack-cells, unpack-room, unpack-gives}
 use Rattle.refusal.proofs.Steps.{place-refused}
-use Rattle.cells.proofs.Unpacking.{range-holds, range-fails, Found, found-of, bytes-none, fine-some, bytes-some, bytes-long, rows-most, answers-refusal, answers-pattern}
+use Rattle.cells.proofs.Unpacking.{range-holds, range-fails, Found, found-of, rows-found, bytes-none, fine-some, bytes-some, bytes-long, answers-refusal, answers-pattern}
 use borrow.Author.Needs.{needs}
 use Rattle.cells.proofs.unpack.Statement.{statement}
 use Rattle.cells.proofs.unpack.Tie as tie
@@ -19,8 +19,8 @@ use Rattle.cells.proofs.unpack.Tie as tie
 range : (c : tie.Else2) → UnpackRange (c .before .before .before .before .before .args .rows) (c .before .before .before .before .before .args .channels) (now (c .before .before .before .before .before .args .stored))
 range c = let a = c .before .before .before .before .before .args in range-holds (a .rows) (a .channels) (now (a .stored)) (sym (c .before .before .in-range .ensures) ∙ not-false _ (c .before .if1 .left)) (omega arith)
 
-found : (c : tie.After-rows-read) → Found (c .before .before .before .before .before .before .before .before .before .args .channels) (c .before .before .before .before .before .before .before .before .before .args .rows) (now (c .before .before .before .before .before .before .before .before .before .args .stored)) (c .rows-read .result)
-found c = found-of _ _ _ (c .before .before .before .scan-stored .ensures) (c .before .enum-told .given .1) (c .rows-read .ensures)
+found : (c : tie.After-enum-told) → Found (c .before .before .before .before .before .before .before .before .args .channels) (c .before .before .before .before .before .before .before .before .args .rows) (now (c .before .before .before .before .before .before .before .before .args .stored))
+found c = found-of _ _ _ (c .before .before .scan-stored .ensures) (c .enum-told .given .1)
 
 in-range-requires : tie.Need-in-range-requires
 in-range-requires c κs = search needs
@@ -60,23 +60,20 @@ returns-3 c =
     answers-refusal (a .rows) (a .channels) d lent
     (unpack-cells (a .rows) (a .channels) d (length lent) (range (c .before .before .before .before)) (place-refused 0 _ (c .before .before .before .scan-stored .ensures) (c .before .enum-told2 .given .1) (c .fault-of .ensures))) refl
 
-rows-read-requires : tie.Need-rows-read-requires
-rows-read-requires c κs = search needs
-
 mul-count : tie.Need-mul-count
-mul-count c = let h = range (c .before .before .before .before) in omega (arith, mul-le-mul (rows-most (found c) (h .0 .1)) (h .1 .0 .1))
+mul-count c = let h = range (c .before .before .before) in omega (arith, mul-le-mul (h .0 .1) (h .1 .0 .1))
 
 mul-if3 : tie.Need-mul-if3
-mul-if3 c = let h = range (c .before .before .before .before) in omega (arith, mul-le-mul (rows-most (found c) (h .0 .1)) (h .1 .0 .1))
+mul-if3 c = let h = range (c .before .before .before) in omega (arith, mul-le-mul (h .0 .1) (h .1 .0 .1))
 
 returns-4 : tie.Need-returns-4
 returns-4 c =
-    let a = c .before .before .before .before .before .before .before .before .before .before .args in
+    let a = c .before .before .before .before .before .before .before .before .before .args in
     let d = now (a .stored) in
     let lent = now (a .cells) in
     let f = found (c .before) in
     answers-refusal (a .rows) (a .channels) d lent
-    (unpack-room (a .rows) (a .channels) d (length lent) (range (c .before .before .before .before .before)) (f .reads) (omega (arith, bytes-long f, c .if3 .taken))) refl
+    (unpack-room (a .rows) (a .channels) d (length lent) (range (c .before .before .before .before)) (f .reads) (omega (arith, bytes-long f, c .if3 .taken))) refl
 
 mul-clear : tie.Need-mul-clear
 mul-clear c = search needs
@@ -92,12 +89,12 @@ same-length c = search needs
 
 returns-5 : tie.Need-returns-5
 returns-5 c =
-    let a = c .before .before .before .before .before .before .before .before .before .before .before .before .before .before .before .args in
+    let a = c .before .before .before .before .before .before .before .before .before .before .before .before .before .before .args in
     let d = now (a .stored) in
     let lent = now (a .cells) in
     let f = found (c .before .before .before .before .before .before) in
     answers-pattern (a .rows) (a .channels) d lent
-    (unpack-gives (a .rows) (a .channels) d (length lent) (range (c .before .before .before .before .before .before .before .before .before .before)) (f .reads) (omega (arith, bytes-long f, c .before .before .before .before .before .if3 .left))) (omega (arith, f .same))
+    (unpack-gives (a .rows) (a .channels) d (length lent) (range (c .before .before .before .before .before .before .before .before .before)) (f .reads) (omega (arith, bytes-long f, c .before .before .before .before .before .if3 .left))) (omega (arith, rows-found f))
     (c .before .before .clear .ensures ∙ ap (λ (x : List ℕ). inFront x lent) (sym (bytes-none f (c .before .before .before .before .if4 .taken))))
 
 same-length-2 : tie.Need-same-length-2
@@ -105,12 +102,12 @@ same-length-2 c = search needs
 
 returns-6 : tie.Need-returns-6
 returns-6 c =
-    let a = c .before .before .before .before .before .before .before .before .before .before .before .before .before .before .before .args in
+    let a = c .before .before .before .before .before .before .before .before .before .before .before .before .before .before .args in
     let d = now (a .stored) in
     let lent = now (a .cells) in
     let f = found (c .before .before .before .before .before .before) in
     answers-pattern (a .rows) (a .channels) d lent
-    (unpack-gives (a .rows) (a .channels) d (length lent) (range (c .before .before .before .before .before .before .before .before .before .before)) (f .reads) (omega (arith, bytes-long f, c .before .before .before .before .before .if3 .left))) (omega (arith, f .same))
+    (unpack-gives (a .rows) (a .channels) d (length lent) (range (c .before .before .before .before .before .before .before .before .before)) (f .reads) (omega (arith, bytes-long f, c .before .before .before .before .before .if3 .left))) (omega (arith, rows-found f))
     (c .before .before .fill-cells .ensures ∙ ap (λ (x : List ℕ). inFront x lent) (sym (bytes-some f (omega (arith, c .before .before .before .before .if4 .left)))))
 
 pub unpack-spec : {M : Type 1} → statement M
@@ -125,7 +122,6 @@ unpack-spec =
     enum-told-2
     fault-of-requires
     returns-3
-    rows-read-requires
     mul-count
     mul-if3
     returns-4

@@ -26,22 +26,22 @@ returns-2 : tie.Need-returns-2
 returns-2 c =
     let a = c .before .before .before .before .args in c .with-ahead2 .ensures ∙ not-there (a .ahead .place + leastPattern) (length (a .file .now)) _ (a .ahead) (omega arith)
 
-pattern-at-requires : tie.Need-pattern-at-requires
-pattern-at-requires c κs = search needs
+pattern-head-requires : tie.Need-pattern-head-requires
+pattern-head-requires c κs = search needs
 
 sub-t6 : tie.Need-sub-t6
 sub-t6 c = search needs
 
 add-t9 : tie.Need-add-t9
 add-t9 c =
-    let there = pattern-fits _ _ (record { below = λ i. omega (arith, c .before .before .before .before .before .shared-slice-known .given i) }) (c .before .before .before .before .before .before .pre .0) (omega arith) (c .before .before .pattern-at .ensures) in omega (arith, there)
+    let there = pattern-fits _ _ (record { below = λ i. omega (arith, c .before .before .before .before .before .shared-slice-known .given i) }) (c .before .before .before .before .before .before .pre .0) (omega arith) (c .before .before .pattern-head .ensures) in omega (arith, there)
 
 with-ahead-requires-3 : tie.Need-with-ahead-requires-3
 with-ahead-requires-3 c κs = search needs
 
 returns-3 : tie.Need-returns-3
 returns-3 c =
-    let a = c .before .before .before .before .before .before .before .args in is-there (a .ahead .place + leastPattern) (length (a .file .now)) _ (a .ahead) (omega arith) (pattern-handed _ (a .ahead) (c .before .before .before .pattern-at .ensures) (c .with-ahead3 .ensures) (omega arith))
+    let a = c .before .before .before .before .before .before .before .args in is-there (a .ahead .place + leastPattern) (length (a .file .now)) _ (a .ahead) (omega arith) (pattern-handed _ (a .ahead) (c .before .before .before .pattern-head .ensures) (c .with-ahead3 .ensures) (omega arith))
 
 pub hand-pattern-spec : {M : Type 1} → statement M
 hand-pattern-spec =
@@ -52,7 +52,7 @@ hand-pattern-spec =
     sub-if2
     with-ahead-requires-2
     returns-2
-    pattern-at-requires
+    pattern-head-requires
     sub-t6
     add-t9
     with-ahead-requires-3

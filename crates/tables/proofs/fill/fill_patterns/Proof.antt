@@ -24,46 +24,46 @@ loop-holds c =
     let p = c .before .before .before .pre in
     rw (ap HeaderPart.patterns e, ap HeaderPart.start e) (patterns-start _ _ (p .0) (p .1))
 
-pattern-at-requires : tie.Need-pattern-at-requires Inv-loop μ-loop
-pattern-at-requires c κs = skipping-room _ (c .before .loop .inv .skipping) (c .loop-test .taken)
+pattern-head-requires : tie.Need-pattern-head-requires Inv-loop μ-loop
+pattern-head-requires c κs = skipping-room _ (c .before .loop .inv .skipping) (c .loop-test .taken)
 
 cast-put-three : tie.Need-cast-put-three Inv-loop μ-loop
 cast-put-three c =
     let w = c .before .before .before .before .loop .inv in
-    let f = patterns-fit _ _ w (c .before .before .before .loop-test .taken) (c .before .before .pattern-at .ensures) in
+    let f = patterns-fit _ _ w (c .before .before .before .loop-test .taken) (c .before .before .pattern-head .ensures) in
     omega (arith, f .inside, w .skipping .small)
 
 cast-put-three-2 : tie.Need-cast-put-three-2 Inv-loop μ-loop
 cast-put-three-2 c =
     let w = c .before .before .before .before .before .loop .inv in
-    let f = patterns-fit _ _ w (c .before .before .before .before .loop-test .taken) (c .before .before .before .pattern-at .ensures) in
+    let f = patterns-fit _ _ w (c .before .before .before .before .loop-test .taken) (c .before .before .before .pattern-head .ensures) in
     omega (arith, f .inside, w .skipping .small)
 
 cast-put-three-3 : tie.Need-cast-put-three-3 Inv-loop μ-loop
 cast-put-three-3 c =
-    let f = patterns-fit _ _ (c .before .before .before .before .before .before .loop .inv) (c .before .before .before .before .before .loop-test .taken) (c .before .before .before .before .pattern-at .ensures) in
+    let f = patterns-fit _ _ (c .before .before .before .before .before .before .loop .inv) (c .before .before .before .before .before .loop-test .taken) (c .before .before .before .before .pattern-head .ensures) in
     omega (arith, f .few)
 
 put-three-requires : tie.Need-put-three-requires Inv-loop μ-loop
-put-three-requires c κs = patterns-room _ _ (c .before .before .before .before .before .before .loop .inv) (c .before .before .before .before .before .loop-test .taken) (c .before .before .before .before .pattern-at .ensures)
+put-three-requires c κs = patterns-room _ _ (c .before .before .before .before .before .before .loop .inv) (c .before .before .before .before .before .loop-test .taken) (c .before .before .before .before .pattern-head .ensures)
 
 add-place : tie.Need-add-place Inv-loop μ-loop
 add-place c =
     let w = c .before .before .before .before .before .before .before .before .before .before .loop .inv in
-    let f = patterns-fit _ _ w (c .before .before .before .before .before .before .before .before .before .loop-test .taken) (c .before .before .before .before .before .before .before .before .pattern-at .ensures) in
+    let f = patterns-fit _ _ w (c .before .before .before .before .before .before .before .before .before .loop-test .taken) (c .before .before .before .before .before .before .before .before .pattern-head .ensures) in
     omega (arith, f .inside, w .skipping .small)
 
 sub-left : tie.Need-sub-left Inv-loop μ-loop
 sub-left c = omega arith
 
 add-to : tie.Need-add-to Inv-loop μ-loop
-add-to c = omega (arith, patterns-room _ _ (c .before .before .before .before .before .before .before .before .before .before .loop .inv) (c .before .before .before .before .before .before .before .before .before .loop-test .taken) (c .before .before .before .before .before .before .before .before .pattern-at .ensures))
+add-to c = omega (arith, patterns-room _ _ (c .before .before .before .before .before .before .before .before .before .before .loop .inv) (c .before .before .before .before .before .before .before .before .before .loop-test .taken) (c .before .before .before .before .before .before .before .before .pattern-head .ensures))
 
 loop-less : tie.Need-loop-less Inv-loop μ-loop
 loop-less c = omega arith
 
 loop-again : tie.Need-loop-again Inv-loop μ-loop
-loop-again c = patterns-on _ _ (c .before .before .before .before .before .before .before .before .before .before .loop .inv) (c .before .before .before .before .before .before .before .before .before .loop-test .taken) (c .before .before .before .before .before .before .before .before .pattern-at .ensures) (c .before .before .before .put-three .ensures)
+loop-again c = patterns-on _ _ (c .before .before .before .before .before .before .before .before .before .before .loop .inv) (c .before .before .before .before .before .before .before .before .before .loop-test .taken) (c .before .before .before .before .before .before .before .before .pattern-head .ensures) (c .before .before .before .put-three .ensures)
 
 same-length : tie.Need-same-length Inv-loop μ-loop
 same-length c = c .before .loop .inv .laid .kept
@@ -79,7 +79,7 @@ fill-patterns-spec =
     μ-loop
     header-part-requires
     loop-holds
-    pattern-at-requires
+    pattern-head-requires
     cast-put-three
     cast-put-three-2
     cast-put-three-3

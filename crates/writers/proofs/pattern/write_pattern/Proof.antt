@@ -54,26 +54,23 @@ part-write-stored-end-2 c = search needs
 write-stored-requires : tie.Need-write-stored-requires
 write-stored-requires c κs = let l = lies (c .before .before) in (l .known, rw (part-all, length-drop) (omega (arith, l .long, c .before .before .before .before .before .before .before .pre)))
 
-rows-read-requires : tie.Need-rows-read-requires
-rows-read-requires c κs = search needs
-
 write-head-requires : tie.Need-write-head-requires
 write-head-requires c κs =
-    let l = lies (c .before .before .before .before .before .before .before) in
-    (omega (arith, c .before .rows-read .ensures, l .rows-high), (omega (arith, c .before .before .before .before .write-stored .ensures .0, l .size-high), omega (arith, l .long, c .before .before .before .before .before .before .before .before .before .before .before .before .pre)))
+    let l = lies (c .before .before .before .before .before .before) in
+    (l .rows-high, (omega (arith, c .before .before .before .write-stored .ensures .0, l .size-high), omega (arith, l .long, c .before .before .before .before .before .before .before .before .before .before .before .pre)))
 
 add-result : tie.Need-add-result
-add-result c = omega (arith, c .before .before .before .before .before .before .before .write-stored .ensures .0, lies (c .before .before .before .before .before .before .before .before .before .before) .size-high)
+add-result c = omega (arith, c .before .before .before .before .before .before .write-stored .ensures .0, lies (c .before .before .before .before .before .before .before .before .before) .size-high)
 
 same-length : tie.Need-same-length
 same-length c = search needs
 
 returns : tie.Need-returns
 returns c =
-    let l = lies (c .before .before .before .before .before .before .before .before .before .before) in
-    let a = c .before .before .before .before .before .before .before .before .before .before .before .before .before .before .before .args in
-    let w = c .before .before .before .before .before .before .before .write-stored .ensures in
-    (omega (arith, l .long, w .0), c .before .before .write-head .ensures ∙ l .written (c .before .before .before .before .rows-read .ensures) (w .0) (a .out .now) (omega (arith, l .long, c .before .before .before .before .before .before .before .before .before .before .before .before .before .before .before .pre)) (w .1))
+    let l = lies (c .before .before .before .before .before .before .before .before .before) in
+    let a = c .before .before .before .before .before .before .before .before .before .before .before .before .before .before .args in
+    let w = c .before .before .before .before .before .before .write-stored .ensures in
+    (omega (arith, l .long, w .0), c .before .before .write-head .ensures ∙ l .written (w .0) (a .out .now) (omega (arith, l .long, c .before .before .before .before .before .before .before .before .before .before .before .before .before .before .pre)) (w .1))
 
 pub write-pattern-spec : {M : Type 1} → statement M
 write-pattern-spec =
@@ -91,7 +88,6 @@ write-pattern-spec =
     part-write-stored-start-2
     part-write-stored-end-2
     write-stored-requires
-    rows-read-requires
     write-head-requires
     add-result
     same-length
