@@ -5,6 +5,11 @@ use borrow.Author.Needs.{needs}
 use Rattle.loader.proofs.refusal_number.Statement.{statement}
 use Rattle.loader.proofs.refusal_number.Tie as tie
 
+-- The number itself first: what has room is that one
+returns : tie.Need-returns
+unfolding loaderNumber
+returns c = omega arith
+
 cast-result : tie.Need-cast-result
 cast-result c = search needs
 
@@ -14,10 +19,6 @@ mul-result c = omega arith
 add-result : tie.Need-add-result
 unfolding loaderNumber
 add-result c = omega arith
-
-returns : tie.Need-returns
-unfolding loaderNumber
-returns c = omega arith
 
 pub refusal-number-spec : {M : Type 1} → statement M
 refusal-number-spec = tie.close (tie.spec cast-result mul-result add-result returns)
