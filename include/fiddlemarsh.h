@@ -45,8 +45,8 @@
        call       stack, bytes    time grows with
        check               304    file_len: what stands in headers and patterns is read once, sample data are passed over
        unpack              216    data_len + rows x channels
-       pack                168    cells_len
-       press               464    file_len: as the check, and once more what is written
+       pack                120    cells_len
+       press               448    file_len: as the check, and once more what is written
        tables              384    file_len: as the check, and once more the headers
        decode               24    bytes_len
        code                 24    values_len

@@ -3,3 +3,4 @@ pub mod ReadRows
 pub mod WriteLaws
 pub mod Over
 pub mod WriteRows
+pub mod RewriteLaws

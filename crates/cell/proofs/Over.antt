@@ -1,6 +1,6 @@
 -- Laws of fields put over one another: a field that is 0 is written too, and the next goes over it. What is written too much lies
 -- inside what is still to be written. Assumes nothing.
-use Prim.Native.Nat.{ℕ, zero, suc, _+_, _*_, _-_, _≤_, _<_}
+use Prim.Native.Nat.{ℕ, zero, suc, _+_, _-_, _≤_, _<_}
 use mathlib.Core.Path.{_≡_, refl, sym, ap, ap₂, _∙_}
 use mathlib.Core.Bool.{Bool, true, false, cond}
 use mathlib.Core.List.{List, [], _∷_, _++_, append-assoc, append-nil}
@@ -14,10 +14,10 @@ use lib.ListN.{length, take, drop, set, length-append, length-drop, length-set}
 use lib.Seq.{drop-drop, length-take-le, take-set-le, drop-set-lt, take-suc-set, take-append-add, drop-append-add}
 use Rattle.xm.specs.Lay.{lay}
 use Rattle.xm.specs.Cell.{bit, kept, marks, kepts, marked, writeCell}
-use Rattle.xm.proofs.Cell.{bit-most, kept-length, kepts-sum, marks-sum}
+use Rattle.xm.proofs.Cell.{kept-length}
 use Rattle.xm.proofs.Lay.{part-back, part-all, Laid}
 use Rattle.cell.specs.Over.{overMost, Over}
-use Rattle.cell.proofs.WriteLaws.{count-plain, count-marked, kepts-full}
+use Rattle.cell.proofs.WriteLaws.{count-plain, count-marked, kepts-full, lead-full, lead-less}
 
 -- What stands in front, up to `to`, and what is still to come make up the goal
 pub record PutOver (lent goal out : List ℕ) (to : ℕ) (rest : List ℕ) : Type 0 where
@@ -47,21 +47,10 @@ over-done {goal = goal} {out} {to} p =
     let all : to ≡ length goal = omega (arith, p .ends) in
     (all, record { front = ap (λ (n : ℕ). take n out) (sym all) ∙ sym (append-nil (take to out)) ∙ p .holds; beyond = p .beyond })
 
--- The lead byte's five bits are all set exactly if all fields are kept: then the first goes over it, else behind it
+-- The first field goes over the lead byte if all five bits are set there, else behind it
 module _ (lent : List ℕ) (a b c d e lead place : ℕ) (isLead : lead ≡ 128 + marks (a ∷ b ∷ c ∷ d ∷ e ∷ [])) (isPlace : place ≡ cond (eqb lead 159) 0 1) where
   abbrev cell : List ℕ
   cell = a ∷ b ∷ c ∷ d ∷ e ∷ []
-
-  less : (p q r s t : ℕ) → p ≤ 1 → q ≤ 1 → r ≤ 1 → s ≤ 1 → t ≤ 1 → (p + 2 * q + 4 * r + 8 * s + 16 * t ≡ 31 → ⊥) → p + (q + (r + (s + t))) < 5
-  less p q r s t hp hq hr hs ht h = omega arith
-
-  lead-full : lead ≡ 159 → 5 ≤ length (kepts cell)
-  lead-full h = omega (arith, isLead, marks-sum a b c d e, kepts-sum a b c d e, bit-most a, bit-most b, bit-most c, bit-most d, bit-most e)
-
-  lead-less : (lead ≡ 159 → ⊥) → length (kepts cell) < 5
-  lead-less h =
-      rw (kepts-sum a b c d e)
-      (less (bit a) (bit b) (bit c) (bit d) (bit e) (bit-most a) (bit-most b) (bit-most c) (bit-most d) (bit-most e) (λ z. h (omega (arith, isLead, marks-sum a b c d e))))
 
   pub over-first : overMost ≤ length lent → PutOver lent (writeCell cell) (set lent 0 lead) place (kepts cell)
   unfolding marked
@@ -77,11 +66,11 @@ module _ (lent : List ℕ) (a b c d e lead place : ℕ) (isLead : lead ≡ 128 +
 
       go : (t : Bool) → eqb lead 159 ≡ t → place ≡ cond t 0 1 → PutOver lent (writeCell cell) (set lent 0 lead) place (kepts cell)
       go true t z =
-          let full = lead-full (eqb-true lead 159 t) in
+          let full = lead-full a b c d e lead isLead (eqb-true lead 159 t) in
           put (rw z (kepts-full cell full ∙ sym (count-plain cell full))) (omega arith)
       go false t z =
           put (ap (λ (n : ℕ). take n (set lent 0 lead) ++ kepts cell) z ∙ ap (λ (l : List ℕ). l ++ kepts cell) (take-suc-set lent 0 lead (omega arith))
-          ∙ ap (λ (v : ℕ). v ∷ kepts cell) isLead ∙ sym (count-marked cell (lead-less (eqb-false lead 159 t)))) (omega arith)
+          ∙ ap (λ (v : ℕ). v ∷ kepts cell) isLead ∙ sym (count-marked cell (lead-less a b c d e lead isLead (eqb-false lead 159 t)))) (omega arith)
 
 -- A piece written so in front of a lent part, by a writer that has six bytes and more to write
 pub laid-over : {lent goal out rest : List ℕ} {to : ℕ} → Laid lent goal out to rest → (w rest′ : List ℕ) {ys : List ℕ} {next : ℕ}

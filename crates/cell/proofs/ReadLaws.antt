@@ -10,7 +10,7 @@ use borrow.Author.Tests.{ltb-true, ltb-false}
 use lib.Count.{ones, onesIn}
 use lib.Dec.{ltb}
 use lib.ListN.{length, getD, drop, replicate, length-drop}
-use lib.Seq.{drop-drop}
+use lib.Seq.{drop-drop, getD-drop}
 use Rattle.xm.specs.Got.{got, refused, _at_}
 use Rattle.xm.specs.Cell.{noteMost, five, lengthBy, fieldBy, fieldsBy, needed, cellAt, readCell, kepts}
 use Rattle.xm.proofs.Cell.{five-same, kepts-sum, ones-five, length-plain, length-marked, cell-plain, cell-marked, length-some, cell-length, fields-at, read-short, read-note, read-got, cell-read}
@@ -23,6 +23,13 @@ use Rattle.refusal.proofs.Steps.{next-got}
 use Rattle.cell.specs.declared.read.Cell.{Cell}
 use Rattle.cell.specs.declared.read.Field.{Field}
 use Rattle.cell.specs.Read.{bitsBy, fieldsFrom, FirstField, NextField, cellOf, fieldsOf, keptCount}
+
+-- The five bytes at a place, one by one
+abbrev pub bytesAt : (place : ℕ) (s : List ℕ) → List ℕ
+bytesAt place s = getD s place 0 ∷ getD s (place + 1) 0 ∷ getD s (place + 2) 0 ∷ getD s (place + 3) 0 ∷ getD s (place + 4) 0 ∷ []
+
+pub five-at : (place : ℕ) (s : List ℕ) → five (drop place s) ≡ bytesAt place s
+five-at place s = rw (head-at place s 0, getD-drop place s 1 0, getD-drop place s 2 0, getD-drop place s 3 0, getD-drop place s 4 0)
 
 -- A cell's fields as a list
 pub fields-of : (s : List ℕ) {cell : Cell} → cell ≡ cellOf (cellAt s) → fieldsOf cell ≡ cellAt s
@@ -75,7 +82,7 @@ tried place s inside e told =
     record { reads = ec ∙ got-both (r .same) long; fits = omega (arith, long, r .long, r .fits, length-drop place s); long = omega (arith, long) }
 
 -- A plain cell's five bytes are the fields of five bits, so that every cell's fields are those of its bits
-plain-fields : (s : List ℕ) → five s ≡ fieldsBy 5 31 s
+pub plain-fields : (s : List ℕ) → five s ≡ fieldsBy 5 31 s
 unfolding fieldsBy
 plain-fields [] = refl
 plain-fields (a ∷ []) = refl
@@ -128,6 +135,21 @@ pub fifth-over : {lead place n : ℕ} {first second third fourth fifth : Field} 
     → NextField third fourth → NextField fourth fifth → place + 6 ≤ n → fifth .place < n
 fifth-over f g h i j k = let p = f .near in let q = g .near in let r = h .near in let t = i .near in let u = j .near in omega arith
 
+-- behind the fifth the cell ends
+next-ends : (count : ℕ) {field next : Field} → NextField field next → next .place + onesIn count (next .bits) ≡ field .place + onesIn (suc count) (field .bits)
+unfolding onesIn
+next-ends count g = rw (g .place, g .bits) (omega arith)
+
+last-ends : (field : Field) → field .place ≡ field .place + onesIn 0 (field .bits)
+unfolding onesIn
+last-ends field = omega arith
+
+pub fields-end : {lead place : ℕ} {first second third fourth fifth behind : Field} → FirstField lead place first → NextField first second → NextField second third
+    → NextField third fourth → NextField fourth fifth → NextField fifth behind → behind .place ≡ place + lengthBy lead
+fields-end {lead} {place} {first} {behind = behind} f g h i j k =
+    let start : first .place + onesIn 5 (first .bits) ≡ place + lengthBy lead = rw (f .place, f .bits) (length-bits place lead) in
+    last-ends behind ∙ next-ends 0 k ∙ next-ends 1 j ∙ next-ends 2 i ∙ next-ends 3 h ∙ next-ends 4 g ∙ start
+
 next-fields : (count : ℕ) (s : List ℕ) {field next : Field} → NextField field next
     → fieldsBy (suc (suc count)) (field .bits) (drop (field .place) s)
     ≡ fieldBy (field .bits) (drop (field .place) s) ∷ fieldsBy (suc count) (next .bits) (drop (next .place) s)
@@ -138,7 +160,7 @@ unfolding fieldsBy
 last-field bits s = refl
 
 module _ (place : ℕ) (s : List ℕ) {first : Field} (f : FirstField (getD s place 0) place first) where
-  cell-first : cellAt (drop place s) ≡ fieldsBy 5 (first .bits) (drop (first .place) s)
+  pub cell-first : cellAt (drop place s) ≡ fieldsBy 5 (first .bits) (drop (first .place) s)
   cell-first = rw (f .bits, f .place) (cell-bits place s)
 
   pub note-first : getD (cellAt (drop place s)) 0 0 ≡ fieldBy (first .bits) (drop (first .place) s)

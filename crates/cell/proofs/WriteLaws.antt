@@ -1,5 +1,5 @@
 -- Laws of one cell written: plain or marked by how many fields are kept, and these put one after the other. Assumes nothing.
-use Prim.Native.Nat.{ℕ, zero, suc, _+_, _≤_, _<_}
+use Prim.Native.Nat.{ℕ, zero, suc, _+_, _*_, _≤_, _<_}
 use mathlib.Core.Path.{_≡_, refl, sym, ap, _∙_}
 use mathlib.Core.List.{List, [], _∷_, _++_}
 use native.Mathlib.Omega.{arith}
@@ -9,7 +9,7 @@ use lib.Seq.{drop-drop}
 use Rattle.xm.specs.Answer.{inFront}
 use Rattle.xm.specs.Lay.{lay}
 use Rattle.xm.specs.Cell.{cellSize, bit, kept, marks, kepts, marked, plainBy, goesPlain, writeCell}
-use Rattle.xm.proofs.Cell.{kept-length, kepts-most, marked-length, write-plain, write-marked, many-plain}
+use Rattle.xm.proofs.Cell.{bit-most, kept-length, kepts-sum, marks-sum, kepts-most, marked-length, write-plain, write-marked, many-plain}
 use Rattle.xm.proofs.Lay.{Laid, laid-none, laid-more, laid-set, laid-done, laid-long}
 
 -- Plain if all five fields are kept, else marked
@@ -30,6 +30,19 @@ unfolding kepts kept
 kepts-full [] h = refl
 kepts-full (zero ∷ xs) h = absurd (omega (arith, kepts-most xs))
 kepts-full (suc x ∷ xs) h = ap (λ (l : List ℕ). suc x ∷ l) (kepts-full xs (omega arith))
+
+-- The lead byte's five bits are all set exactly if all fields are kept
+module _ (a b c d e lead : ℕ) (isLead : lead ≡ 128 + marks (a ∷ b ∷ c ∷ d ∷ e ∷ [])) where
+  less : (p q r s t : ℕ) → p ≤ 1 → q ≤ 1 → r ≤ 1 → s ≤ 1 → t ≤ 1 → (p + 2 * q + 4 * r + 8 * s + 16 * t ≡ 31 → ⊥) → p + (q + (r + (s + t))) < 5
+  less p q r s t hp hq hr hs ht h = omega arith
+
+  pub lead-full : lead ≡ 159 → 5 ≤ length (kepts (a ∷ b ∷ c ∷ d ∷ e ∷ []))
+  lead-full h = omega (arith, isLead, marks-sum a b c d e, kepts-sum a b c d e, bit-most a, bit-most b, bit-most c, bit-most d, bit-most e)
+
+  pub lead-less : (lead ≡ 159 → ⊥) → length (kepts (a ∷ b ∷ c ∷ d ∷ e ∷ [])) < 5
+  lead-less h =
+      rw (kepts-sum a b c d e)
+      (less (bit a) (bit b) (bit c) (bit d) (bit e) (bit-most a) (bit-most b) (bit-most c) (bit-most d) (bit-most e) (λ z. h (omega (arith, isLead, marks-sum a b c d e))))
 
 -- An empty cell is its lead byte
 pub empty-written : writeCell (replicate cellSize 0) ≡ 128 ∷ []

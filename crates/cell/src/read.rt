@@ -5,7 +5,7 @@ ghost use mathlib.Core.Path.{_≡_};
 ghost use Prim.Native.Nat.{ℕ, _+_, _%_, _<_, _≤_};
 ghost use mathlib.Core.Bool.{cond};
 ghost use lib.ListN.{length, getD, drop};
-ghost use Rattle.xm.specs.Cell.{lengthBy, fieldBy, cellAt, readCell, bit};
+ghost use Rattle.xm.specs.Cell.{five, lengthBy, fieldBy, cellAt, readCell, bit, kepts};
 ghost use Rattle.xm.specs.Short.{shortestBy};
 ghost use Rattle.refusal.specs.Fault.{placeStep};
 ghost use Rattle.cell.specs.Read.{bitsBy, fieldsFrom, FirstField, NextField, cellOf, keptCount};
@@ -22,9 +22,9 @@ pub struct Cell {
 }
 
 // A field of a stored cell: it stands at its place if the lowest of its bits says so.
-struct Field {
-    place: usize,
-    bits: u8,
+pub struct Field {
+    pub place: usize,
+    pub bits: u8,
 }
 
 // One of two bytes, both of which are there: the choice needs no jump.
@@ -80,7 +80,7 @@ pub fn field_over(stored: &[u8], place: usize, bits: u8) -> u8
 }
 
 // The first field of the cell at a place, and the one behind another.
-fn first_field(lead: u8, place: usize) -> Field
+pub fn first_field(lead: u8, place: usize) -> Field
     requires { ⌜ place + 1 ≤ 18446744073709551615 ⌝ }
     ensures { λ r. ⌜ FirstField lead place r ⌝ }
 {
@@ -90,7 +90,7 @@ fn first_field(lead: u8, place: usize) -> Field
     }
 }
 
-fn next_field(field: Field) -> Field
+pub fn next_field(field: Field) -> Field
     requires { ⌜ field .place + field .bits % 2 ≤ 18446744073709551615 ⌝ }
     ensures { λ r. ⌜ NextField field r ⌝ }
 {
@@ -98,6 +98,20 @@ fn next_field(field: Field) -> Field
         place: field.place + (field.bits % 2) as usize,
         bits: field.bits / 2,
     }
+}
+
+// Where the cell at a place ends: behind its last field.
+pub fn cell_end(lead: u8, place: usize) -> usize
+    requires { ⌜ place + 6 ≤ 18446744073709551615 ⌝ }
+    ensures { λ r. ⌜ r ≡ place + lengthBy lead ⌝ }
+{
+    let first = first_field(lead, place);
+    let second = next_field(first);
+    let third = next_field(second);
+    let fourth = next_field(third);
+    let fifth = next_field(fourth);
+    let behind = next_field(fifth);
+    behind.place
 }
 
 // The cell at a place, which stands there whole.
@@ -189,6 +203,19 @@ pub fn kept_count(cell: Cell) -> usize
     let volume = bit_of(cell.volume);
     let effect = bit_of(cell.effect);
     let parameter = bit_of(cell.parameter);
+    note + (instrument + (volume + (effect + parameter)))
+}
+
+// The same of five bytes at a place, all of them fields.
+pub fn kept_in(cells: &[u8], place: usize) -> usize
+    requires { ⌜ place + 5 ≤ length (now cells) ⌝ }
+    ensures { λ r. ⌜ r ≡ length (kepts (five (drop place (now (cells .entry))))) ⌝ }
+{
+    let note = bit_of(cells[place]);
+    let instrument = bit_of(cells[place + 1]);
+    let volume = bit_of(cells[place + 2]);
+    let effect = bit_of(cells[place + 3]);
+    let parameter = bit_of(cells[place + 4]);
     note + (instrument + (volume + (effect + parameter)))
 }
 

@@ -1,19 +1,15 @@
--- Lent cells, five bytes each: one of them, the first of those that are left, and how long they are. Assumes nothing.
+-- Lent cells, five bytes each: an empty one, the first of those that are left, and how long they are. Assumes nothing.
 use Prim.Native.Nat.{ℕ, zero, suc, _+_, _*_, _-_, _≤_, _<_}
 use mathlib.Core.Path.{_≡_, ap}
 use mathlib.Core.List.{List, [], _∷_}
 use native.Mathlib.Omega.{arith}
-use lib.ListN.{length, getD, drop, replicate}
-use lib.Seq.{drop-drop, getD-drop}
+use lib.ListN.{length, drop, replicate}
+use lib.Seq.{drop-drop}
 use Rattle.xm.specs.Format.{joined}
 use Rattle.xm.specs.Cell.{cellSize, five, writeCell}
 use Rattle.xm.specs.Stored.{cellsOf}
 use Rattle.xm.proofs.Stored.{cells-length, cells-fives, cells-most}
 use Rattle.xm.proofs.Row.{cells-least}
-use Rattle.xm.proofs.Lay.{head-at}
-
-pub five-at : (place : ℕ) (s : List ℕ) → five (drop place s) ≡ getD s place 0 ∷ getD s (place + 1) 0 ∷ getD s (place + 2) 0 ∷ getD s (place + 3) 0 ∷ getD s (place + 4) 0 ∷ []
-five-at place s = rw (head-at place s 0, getD-drop place s 1 0, getD-drop place s 2 0, getD-drop place s 3 0, getD-drop place s 4 0)
 
 -- Five bytes that add up to 0
 pub five-zero : (a b c d e : ℕ) → a + 256 * b + 65536 * c + 16777216 * d + e ≡ 0 → a ∷ b ∷ c ∷ d ∷ e ∷ [] ≡ replicate cellSize 0

@@ -1,23 +1,19 @@
 -- The first pass over lent cells: the notes' tests and the length in one loop. Assumes nothing.
 use Prim.Native.Nat.{ℕ, _+_, _*_, _-_, _≤_, _<_}
-use mathlib.Core.Path.{_≡_, refl, sym, ap, _∙_}
+use mathlib.Core.Path.{_≡_, refl, ap, _∙_}
 use mathlib.Core.List.{List}
 use native.Mathlib.Omega.{arith}
 use lib.ListN.{length, getD, drop}
 use Rattle.refusal.specs.Fault.{faultOf}
 use Rattle.xm.specs.Got.{Got, got, refused, checked, _at_}
 use Rattle.xm.specs.Format.{joined}
-use Rattle.xm.specs.Cell.{noteMost, five, writeCell}
+use Rattle.xm.specs.Cell.{noteMost, five, kepts, writeCell}
 use Rattle.xm.specs.Short.{shortestBy}
 use Rattle.xm.specs.Stored.{cellsOf}
 use Rattle.xm.specs.Packing.{noteTests}
-use Rattle.xm.proofs.Lay.{head-at}
 use Rattle.xm.proofs.Short.{shortest-by}
 use Rattle.xm.proofs.Packing.{notes-more, notes-stop, notes-done}
 use Rattle.packing.specs.declared.Measured.the-variants.{Shortest, Faulty}
-use Rattle.cell.specs.declared.read.Cell.{Cell}
-use Rattle.cell.specs.Read.{fieldsOf, keptCount}
-use Rattle.cell.proofs.ReadLaws.{kept-fields}
 use Rattle.cell.proofs.WriteRows.{first-length}
 use Rattle.packing.specs.Packed.{measuredOf}
 use Rattle.packing.proofs.Lent.{lent-first, lent-none, lent-most}
@@ -37,25 +33,24 @@ module _ {cells : List ℕ} {count place shortest left : ℕ} (m : Measuring cel
       rw (m .notes, notes-done left place cells z)
       (ap Shortest (omega (arith, m .bytes, ap (λ r. length (joined writeCell r)) (lent-none left (drop place cells) z))))
 
-  module _ (h : 0 < left) (cell : Cell) (isCell : five (drop place cells) ≡ fieldsOf cell) where
-    note-at : getD cells place 0 ≡ cell .note
-    note-at = sym (head-at place cells 0) ∙ ap (λ (l : List ℕ). getD l 0 0) isCell
-
-    pub measuring-stop : noteMost < cell .note → Faulty (faultOf (9 at place)) ≡ measuredOf (checked (noteTests count 0 cells)) (length (joined writeCell (cellsOf count cells)))
-    measuring-stop note = rw (m .notes, notes-stop left place cells h (omega (arith, note-at)))
+  module _ (h : 0 < left) where
+    pub measuring-stop : noteMost < getD cells place 0 → Faulty (faultOf (9 at place)) ≡ measuredOf (checked (noteTests count 0 cells)) (length (joined writeCell (cellsOf count cells)))
+    measuring-stop note = rw (m .notes, notes-stop left place cells h note)
 
     -- one more, by how many of its fields are kept
-    module _ {kept used : ℕ} (isKept : kept ≡ keptCount cell) (isUsed : (note : ℕ) → used ≡ shortestBy note kept) where
+    module _ {kept used : ℕ} (isKept : kept ≡ length (kepts (five (drop place cells)))) (isUsed : (note : ℕ) → used ≡ shortestBy note kept) where
       more-bytes : shortest + used + length (joined writeCell (cellsOf (left - 1) (drop (place + 5) cells))) ≡ length (joined writeCell (cellsOf count cells))
       more-bytes =
-          let long : used ≡ length (writeCell (fieldsOf cell)) = isUsed (cell .note) ∙ ap (shortestBy (cell .note)) (isKept ∙ kept-fields cell) ∙ shortest-by (fieldsOf cell) refl in
-          omega (arith, m .bytes, first-length (lent-first left place cells h isCell))
+          let cell = five (drop place cells) in
+          let note = getD cell 0 0 in
+          let long : used ≡ length (writeCell cell) = isUsed note ∙ ap (shortestBy note) isKept ∙ shortest-by cell refl in
+          omega (arith, m .bytes, first-length (lent-first left place cells h refl))
 
       pub measuring-small : shortest + used ≤ count * 5
       measuring-small = omega (arith, more-bytes, lent-most count cells)
 
-      pub measuring-more : cell .note ≤ noteMost → Measuring cells count (place + 5) (shortest + used) (left - 1)
-      measuring-more note = record { inside = omega (arith, m .inside); notes = m .notes ∙ notes-more left place cells h (omega (arith, note-at)); bytes = more-bytes }
+      pub measuring-more : getD cells place 0 ≤ noteMost → Measuring cells count (place + 5) (shortest + used) (left - 1)
+      measuring-more note = record { inside = omega (arith, m .inside); notes = m .notes ∙ notes-more left place cells h note; bytes = more-bytes }
 
 -- What was measured says of the tests
 pub measured-shortest : {R : Type 0} (g : Got (Unit {0})) (length k : ℕ) → Shortest k ≡ measuredOf g length → ((n : ℕ) → g ≡ got tt n → k ≡ length → R) → R

@@ -1,9 +1,8 @@
 // Packing: the cells of a pattern in their shortest stored form.
 use cell::pattern::in_range;
 use cell::pattern::stored_size;
-use cell::read::Cell;
 use cell::read::NOTE_MOST;
-use cell::read::kept_count;
+use cell::read::kept_in;
 use cell::read::shortest_by;
 use cell::write::write_cell;
 use cell::write::write_over;
@@ -18,7 +17,6 @@ ghost use Rattle.xm.specs.Answer.{refuses, inFront};
 ghost use Rattle.xm.specs.Cell.{cellSize, five, writeCell};
 ghost use Rattle.xm.specs.Stored.{cellsOf};
 ghost use Rattle.xm.specs.Packing.{packing, packAfter, noteTests};
-ghost use Rattle.cell.specs.Read.{fieldsOf};
 ghost use Rattle.packing.specs.Packed.{packedOf, measuredOf};
 
 // A stored form that was written: how many data bytes, and its row number.
@@ -38,20 +36,6 @@ enum Measured {
     Faulty(Fault),
 }
 
-// The lent cell at a place.
-fn cell_at(cells: &[u8], place: usize) -> Cell
-    requires { ⌜ place + 5 ≤ length (now cells) ⌝ }
-    ensures { λ r. ⌜ five (drop place (now (cells .entry))) ≡ fieldsOf r ⌝ }
-{
-    Cell {
-        note: cells[place],
-        instrument: cells[place + 1],
-        volume: cells[place + 2],
-        effect: cells[place + 3],
-        parameter: cells[place + 4],
-    }
-}
-
 // The first pass over lent cells: a note above 97, or how many bytes the cells take in their shortest form.
 fn measure_cells(cells: &[u8], count: usize) -> Measured
     requires { ⌜ count * 5 ≤ length (now cells) ⌝ }
@@ -61,15 +45,14 @@ fn measure_cells(cells: &[u8], count: usize) -> Measured
     let mut shortest: usize = 0;
     let mut left = count;
     while 0 < left {
-        let cell = cell_at(cells, place);
-        let note = cell.note;
+        let note = cells[place];
         if NOTE_MOST < note {
             return Measured::Faulty(Fault {
                 number: 9,
                 place: place,
             });
         }
-        let kept = kept_count(cell);
+        let kept = kept_in(cells, place);
         shortest += shortest_by(kept);
         place += 5;
         left -= 1;
@@ -100,7 +83,7 @@ fn write_each(cells: &[u8], from: usize, count: usize, out: &mut [u8])
     let mut to: usize = 0;
     let mut unwritten = count;
     while 0 < unwritten {
-        to += write_cell(cell_at(cells, place), &mut out[to..]);
+        to += write_cell(cells, place, &mut out[to..]);
         place += 5;
         unwritten -= 1;
     }
@@ -126,7 +109,7 @@ fn write_cells(cells: &[u8], count: usize, out: &mut [u8])
             to += 1;
             continue;
         }
-        to += write_over(cell_at(cells, at), &mut out[to..]);
+        to += write_over(cells, at, &mut out[to..]);
     }
     write_each(cells, (count - left) * 5, left, &mut out[to..]);
 }

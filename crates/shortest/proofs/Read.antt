@@ -73,17 +73,17 @@ module _ {stored lent goal out : List ℕ} {place to left : ℕ} (f : Rewriting 
       pub rewriting-room : to + length (writeCell cell) ≤ length out
       rewriting-room = writing-room (f .writing) cells
 
-      next : {new : List ℕ} {to′ : ℕ} → (used : ℕ) → used ≡ lengthBy (getD stored place 0)
-          → Laid lent goal new to′ (joined writeCell (cellsIn (left - 1) (drop (place + lengthBy (getD stored place 0)) stored))) → Rewriting stored lent goal new (place + used) to′ (left - 1)
-      next used u w = rw u (record { inside = first .fits; fine = first .rest; writing = w })
+      next : {new : List ℕ} {to′ : ℕ} → (place′ : ℕ) → place′ ≡ place + lengthBy (getD stored place 0)
+          → Laid lent goal new to′ (joined writeCell (cellsIn (left - 1) (drop (place + lengthBy (getD stored place 0)) stored))) → Rewriting stored lent goal new place′ to′ (left - 1)
+      next place′ u w = rw u (record { inside = first .fits; fine = first .rest; writing = w })
 
-      module _ (used : ℕ) (isUsed : used ≡ lengthBy (getD stored place 0)) (ys : List ℕ) (size : ℕ) (isSize : size ≡ length (writeCell cell)) where
-        pub rewriting-part : ys ≡ inFront (writeCell cell) (take (length out - to) (drop to out)) → Rewriting stored lent goal (putMid to (length out - to) out ys) (place + used) (to + size) (left - 1)
-        rewriting-part e = next used isUsed (writing-part (f .writing) cells ys size isSize e)
+      module _ (place′ : ℕ) (isPlace : place′ ≡ place + lengthBy (getD stored place 0)) (ys : List ℕ) (size : ℕ) (isSize : size ≡ length (writeCell cell)) where
+        pub rewriting-part : ys ≡ inFront (writeCell cell) (take (length out - to) (drop to out)) → Rewriting stored lent goal (putMid to (length out - to) out ys) place′ (to + size) (left - 1)
+        rewriting-part e = next place′ isPlace (writing-part (f .writing) cells ys size isSize e)
 
         pub rewriting-over : overMost ≤ left → Over (writeCell cell) (take (length out - to) (drop to out)) ys → length ys ≡ length (take (length out - to) (drop to out))
-            → Rewriting stored lent goal (putMid to (length out - to) out ys) (place + used) (to + size) (left - 1)
-        rewriting-over more o l = next used isUsed (writing-over (f .writing) cells ys size isSize (omega (arith, rewriting-more)) o l)
+            → Rewriting stored lent goal (putMid to (length out - to) out ys) place′ (to + size) (left - 1)
+        rewriting-over more o l = next place′ isPlace (writing-over (f .writing) cells ys size isSize (omega (arith, rewriting-more)) o l)
 
     -- the lead byte 128 is an empty cell
     module _ (lead : getD stored place 0 ≡ 128) where
@@ -93,7 +93,7 @@ module _ {stored lent goal out : List ℕ} {place to left : ℕ} (f : Rewriting 
       pub rewriting-empty : Rewriting stored lent goal (set out to 128) (place + 1) (to + 1) (left - 1)
       rewriting-empty =
           let empty = sym (empty-cell place stored lead) in
-          next empty 1 (sym (empty-length place stored lead)) (writing-empty (f .writing) (cells empty) empty-written)
+          next empty (place + 1) (ap (λ (n : ℕ). place + n) (sym (empty-length place stored lead))) (writing-empty (f .writing) (cells empty) empty-written)
 
 -- A stored form that takes some bytes in its shortest form: its cells
 pub record CellsOf (rows channels : ℕ) (stored : List ℕ) : Type 0 where

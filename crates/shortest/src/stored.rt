@@ -1,9 +1,8 @@
 // Stored cells that were accepted, pressed: written again, each in its shortest form.
+use cell::read::cell_end;
 use cell::read::cell_length;
-use cell::read::take_cell;
-use cell::read::take_over;
-use cell::write::write_cell;
-use cell::write::write_over;
+use cell::rewrite::rewrite_cell;
+use cell::rewrite::rewrite_over;
 use slices::write::copy;
 ghost use mathlib.Core.Path.{_≡_};
 ghost use Prim.Native.Nat.{_≤_};
@@ -31,7 +30,7 @@ fn press_each(stored: &[u8], from: usize, count: usize, out: &mut [u8]) -> usize
     while 0 < unwritten {
         let at = place;
         place += cell_length(stored[at]);
-        to += write_cell(take_cell(stored, at), &mut out[to..]);
+        to += rewrite_cell(stored, at, &mut out[to..]);
         unwritten -= 1;
     }
     to
@@ -58,8 +57,8 @@ fn press_cells(stored: &[u8], count: usize, out: &mut [u8]) -> usize
             place += 1;
             continue;
         }
-        place += cell_length(lead);
-        to += write_over(take_over(stored, at), &mut out[to..]);
+        place = cell_end(lead, at);
+        to += rewrite_over(stored, at, &mut out[to..]);
     }
     to + press_each(stored, place, left, &mut out[to..])
 }

@@ -390,7 +390,7 @@ field-stored bits s = go (eqb (bits % 2) 0) refl
     go true e = omega arith
     go false e = omega (arith, eqb-false (bits % 2) 0 e, kept-length (getD s 0 0), bit-most (getD s 0 0))
 
-fields-stored : (count bits : ℕ) (s : List ℕ) → length (kepts (fieldsBy count bits s)) ≤ onesIn count bits
+pub fields-stored : (count bits : ℕ) (s : List ℕ) → length (kepts (fieldsBy count bits s)) ≤ onesIn count bits
 unfolding fieldsBy kepts onesIn
 fields-stored zero bits s = omega arith
 fields-stored (suc count) bits s = rw length-append (omega (arith, field-stored bits s, fields-stored count (bits / 2) (drop (bits % 2) s)))

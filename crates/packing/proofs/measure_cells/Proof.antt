@@ -11,20 +11,20 @@ abbrev μ-loop : tie.MeasureT-loop
 μ-loop cells count place₀ shortest₀ left₀ place shortest left = left
 
 returns : tie.Need-returns Inv-loop μ-loop
-returns c = measuring-stop (c .before .before .before .loop .inv) (omega arith) _ (c .before .cell-at .ensures) (omega arith)
+returns c = measuring-stop (c .before .before .before .loop .inv) (omega arith) (omega arith)
 
 add-shortest : tie.Need-add-shortest Inv-loop μ-loop
 add-shortest c =
-    let cell = c .before .before .before in
-    omega (arith, measuring-small (cell .before .before .loop .inv) (omega arith) _ (cell .cell-at .ensures) (c .before .kept-count .ensures) (c .shortest-by .ensures))
+    let t = c .before .before .before .before .before in
+    omega (arith, measuring-small (t .loop .inv) (omega arith) (c .before .kept-in .ensures) (c .shortest-by .ensures))
 
 loop-again : tie.Need-loop-again Inv-loop μ-loop
 loop-again c =
-    let cell = c .before .before .before in
-    measuring-more (cell .before .before .loop .inv) (omega arith) _ (cell .cell-at .ensures) (c .before .kept-count .ensures) (c .shortest-by .ensures) (omega arith)
+    let t = c .before .before .before .before .before in
+    measuring-more (t .loop .inv) (omega arith) (c .before .kept-in .ensures) (c .shortest-by .ensures) (omega arith)
 
 pub measure-cells-spec : {M : Type 1} → statement M
 measure-cells-spec =
     tie.close
-    (tie.spec Inv-loop μ-loop (λ c. measuring-none _ _ (c .before .pre)) (λ c κs. omega arith) returns (λ c κs. tt) (λ c κs. tt) add-shortest
+    (tie.spec Inv-loop μ-loop (λ c. measuring-none _ _ (c .before .pre)) (λ c. omega arith) returns (λ c κs. omega arith) (λ c κs. tt) add-shortest
     (λ c. omega arith) (λ c. omega arith) (λ c. omega arith) loop-again (λ c. measuring-done (c .before .loop .inv) (omega arith)))

@@ -2,7 +2,8 @@
 use mathlib.Core.Path.{_∙_}
 use borrow.Author.Needs.{needs}
 use native.Mathlib.Omega.{arith}
-use Rattle.packing.proofs.Lent.{five-at, five-zero}
+use Rattle.cell.proofs.ReadLaws.{five-at}
+use Rattle.packing.proofs.Lent.{five-zero}
 use Rattle.packing.proofs.weight.Statement.{statement}
 use Rattle.packing.proofs.weight.Tie as tie
 

@@ -1,39 +1,65 @@
 -- `cell::write::write_over` meets its contract: the fields go over the lead byte, or behind it. Assumes nothing.
-use mathlib.Core.Path.{_≡_}
+use Prim.Native.Nat.{ℕ, _+_}
+use mathlib.Core.Path.{_≡_, ap, _∙_}
+use mathlib.Core.Bool.{Bool, cond}
+use mathlib.Core.List.{List}
 use native.Mathlib.Omega.{arith}
 use borrow.Author.Needs.{needs}
 use lib.ListN.{length, set, length-set}
+use Rattle.xm.specs.Cell.{marks}
+use Rattle.cell.proofs.ReadLaws.{bytesAt, five-at}
 use Rattle.cell.proofs.Over.{over-first, over-more, over-done}
 use Rattle.cell.proofs.write.write_over.Statement.{statement}
 use Rattle.cell.proofs.write.write_over.Tie as tie
 
+lead : (c : tie.After-lead-of) → (let a = c .before .before .before .args in c .lead-of .result ≡ 128 + marks (bytesAt (a .place) (a .cells .now)))
+lead c = let a = c .before .before .before .args in c .lead-of .ensures ∙ ap (λ (l : List ℕ). 128 + marks l) (five-at (a .place) (a .cells .now))
+
 -- The lead byte stands where a byte stood
-long : (c : tie.After-first-place) → (let out = c .before .before .before .args .out .now in length (set out 0 (c .before .lead-of .result)) ≡ length out)
-long c = length-set (c .before .before .before .args .out .now) 0 (c .before .lead-of .result)
+long : (c : tie.After-first-place) → (let of = c .before .before in let out = of .before .before .before .args .out .now in length (set out 0 (of .lead-of .result)) ≡ length out)
+long c = let of = c .before .before in length-set (of .before .before .before .args .out .now) 0 (of .lead-of .result)
+
+-- From one call of `put_over` back to the one before, and from the first to its place
+abbrev first : tie.After-put-over-arg → tie.After-first-place
+first c = c .before .before
+
+abbrev second : tie.After-put-over-arg2 → tie.After-first-place
+second c = first (c .before .before .before .before .before)
+
+abbrev third : tie.After-put-over-arg3 → tie.After-first-place
+third c = second (c .before .before .before .before .before)
+
+abbrev fourth : tie.After-put-over-arg4 → tie.After-first-place
+fourth c = third (c .before .before .before .before .before)
+
+abbrev fifth : tie.After-put-over-arg5 → tie.After-first-place
+fifth c = fourth (c .before .before .before .before .before)
 
 returns : tie.Need-returns
 returns c =
-    let fifth = c .before .before in
-    let fourth = fifth .before .before .before .before in
-    let third = fourth .before .before .before .before in
-    let second = third .before .before .before .before in
-    let first = second .before .before .before .before in
-    let place = first .before .before in
-    let s = place .before .before .before in
-    let s₀ = over-first (s .args .out .now) _ _ _ _ _ _ _ (place .before .lead-of .ensures) (place .first-place .ensures .0) (s .pre) in
-    let s₁ = over-more _ _ s₀ (omega arith) (s .pre) (first .put-over .ensures) in
-    let s₂ = over-more _ _ s₁ (omega arith) (s .pre) (second .put-over2 .ensures) in
-    let s₃ = over-more _ _ s₂ (omega arith) (s .pre) (third .put-over3 .ensures) in
-    let s₄ = over-more _ _ s₃ (omega arith) (s .pre) (fourth .put-over4 .ensures) in
-    over-done (over-more _ _ s₄ (omega arith) (s .pre) (fifth .put-over5 .ensures))
+    let p₅ = c .before .before in
+    let p₄ = p₅ .before .before .before .before .before in
+    let p₃ = p₄ .before .before .before .before .before in
+    let p₂ = p₃ .before .before .before .before .before in
+    let p₁ = p₂ .before .before .before .before .before in
+    let place = p₁ .before .before .before in
+    let of = place .before .before in
+    let s = of .before .before .before in
+    let six = s .pre .1 in
+    let s₀ = over-first (s .args .out .now) _ _ _ _ _ _ _ (lead of) (place .first-place .ensures .0 ∙ ap (λ (t : Bool). cond t 0 1) (place .before .goes-plain .ensures)) six in
+    let s₁ = over-more _ _ s₀ (omega arith) six (p₁ .put-over .ensures) in
+    let s₂ = over-more _ _ s₁ (omega arith) six (p₂ .put-over2 .ensures) in
+    let s₃ = over-more _ _ s₂ (omega arith) six (p₃ .put-over3 .ensures) in
+    let s₄ = over-more _ _ s₃ (omega arith) six (p₄ .put-over4 .ensures) in
+    rw (five-at (s .args .place) (s .args .cells .now)) (over-done (over-more _ _ s₄ (omega arith) six (p₅ .put-over5 .ensures)))
 
 pub write-over-spec : {M : Type 1} → statement M
 write-over-spec =
     tie.close
-    (tie.spec (λ c κs. search needs) (λ c. search needs) (λ c κs. search needs)
-    (λ c κs. omega (arith, long (c .before)))
-    (λ c κs. omega (arith, long (c .before .before .before .before .before)))
-    (λ c κs. omega (arith, long (c .before .before .before .before .before .before .before .before .before)))
-    (λ c κs. omega (arith, long (c .before .before .before .before .before .before .before .before .before .before .before .before .before)))
-    (λ c κs. omega (arith, long (c .before .before .before .before .before .before .before .before .before .before .before .before .before .before .before .before .before)))
-    (λ c. omega (arith, long (c .before .before .before .before .before .before .before .before .before .before .before .before .before .before .before .before .before .before .before .before))) returns)
+    (tie.spec (λ c κs. search needs) (λ c. search needs) (λ c κs. search needs) (λ c κs. search needs)
+    (λ c. search needs) (λ c κs. omega (arith, long (first c)))
+    (λ c. search needs) (λ c. search needs) (λ c κs. omega (arith, long (second c)))
+    (λ c. search needs) (λ c. search needs) (λ c κs. omega (arith, long (third c)))
+    (λ c. search needs) (λ c. search needs) (λ c κs. omega (arith, long (fourth c)))
+    (λ c. search needs) (λ c. search needs) (λ c κs. omega (arith, long (fifth c)))
+    (λ c. omega (arith, long (fifth (c .before .before .before)))) returns)

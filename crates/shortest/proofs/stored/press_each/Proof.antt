@@ -1,13 +1,12 @@
 -- `shortest::stored::press_each` meets its contract: what is left of the cells is what is still to be written. Assumes nothing.
-use mathlib.Core.Path.{_≡_}
+use Prim.Native.Nat.{ℕ, _+_}
+use mathlib.Core.Path.{refl, ap}
 use native.Mathlib.Omega.{arith}
 use lib.ListN.{drop, length-drop}
 use Rattle.xm.specs.Format.{joined}
-use Rattle.xm.specs.Cell.{cellAt, writeCell}
+use Rattle.xm.specs.Cell.{writeCell}
 use Rattle.xm.specs.Row.{cellsIn}
 use Rattle.xm.proofs.Lay.{part-all}
-use Rattle.cell.specs.Read.{fieldsOf}
-use Rattle.cell.proofs.ReadLaws.{fields-of}
 use Rattle.shortest.proofs.Read.{Rewriting, rewriting-none, rewriting-done, rewriting-here, rewriting-fits, rewriting-room, rewriting-part}
 use Rattle.shortest.proofs.stored.press_each.Statement.{statement}
 use Rattle.shortest.proofs.stored.press_each.Tie as tie
@@ -18,36 +17,33 @@ Inv-loop stored from count out₀ place₀ to₀ unwritten₀ out place to unwri
 abbrev μ-loop : tie.MeasureT-loop
 μ-loop stored from count out₀ place₀ to₀ unwritten₀ out place to unwritten = unwritten
 
--- The turn that a place behind the cell's length is in, and the cell
+-- The turn that a place behind the cell's length is in
 abbrev turn : tie.After-cell-length Inv-loop μ-loop → tie.At-loop Inv-loop μ-loop
 turn c = c .before .before .before
-
-cell : (c : tie.After-take-cell Inv-loop μ-loop) → (let t = turn (c .before) in fieldsOf (c .take-cell .result) ≡ cellAt (drop (t .loop .place) (t .before .before .before .args .stored .now)))
-cell c = let t = turn (c .before) in fields-of (drop (t .loop .place) (t .before .before .before .args .stored .now)) (c .take-cell .ensures)
 
 add-place : tie.Need-add-place Inv-loop μ-loop
 add-place c = omega (arith, c .cell-length .ensures, rewriting-fits (turn c .loop .inv) (omega arith), turn c .before .before .before .good)
 
-write-cell-requires : tie.Need-write-cell-requires Inv-loop μ-loop
-write-cell-requires c κs =
-    let l = turn (c .before .before) .loop in
-    rw (part-all (l .to) (l .out)) (omega (arith, rewriting-room (l .inv) (omega arith) (cell (c .before)), length-drop (l .to) (l .out)))
+rewrite-cell-requires : tie.Need-rewrite-cell-requires Inv-loop μ-loop
+rewrite-cell-requires c κs =
+    let l = turn (c .before) .loop in
+    rw (part-all (l .to) (l .out)) (rewriting-fits (l .inv) (omega arith), omega (arith, rewriting-room (l .inv) (omega arith) refl, length-drop (l .to) (l .out)))
 
 add-to : tie.Need-add-to Inv-loop μ-loop
 add-to c =
-    let read = c .before .before .before .before in
-    let t = turn (read .before) in
-    omega (arith, c .before .before .write-cell .ensures .0, rewriting-room (t .loop .inv) (omega arith) (cell read), t .loop .inv .writing .kept, t .before .before .before .good)
+    let t = turn (c .before .before .before .before) in
+    omega (arith, c .before .before .rewrite-cell .ensures .0, rewriting-room (t .loop .inv) (omega arith) refl, t .loop .inv .writing .kept, t .before .before .before .good)
 
 loop-again : tie.Need-loop-again Inv-loop μ-loop
 loop-again c =
     let read = c .before .before .before .before in
-    let w = c .before .before .write-cell .ensures in
-    rewriting-part (turn (read .before) .loop .inv) (omega arith) (cell read) _ (read .before .cell-length .ensures) _ _ (w .0) (w .1)
+    let t = turn read in
+    let w = c .before .before .rewrite-cell .ensures in
+    rewriting-part (t .loop .inv) (omega arith) refl _ (ap (λ (n : ℕ). t .loop .place + n) (read .cell-length .ensures)) _ _ (w .0) (w .1)
 
 pub press-each-spec : {M : Type 1} → statement M
 press-each-spec =
     tie.close
     (tie.spec Inv-loop μ-loop (λ c. let p = c .before .before .pre in rewriting-none _ _ _ _ (p .0) (p .1 .0) (p .1 .1)) (λ c. rewriting-here (c .before .before .loop .inv) (omega arith)) (λ c κs. tt)
-    add-place (λ c κs. rewriting-fits (turn c .loop .inv) (omega arith)) (λ c. omega arith) (λ c. omega arith) (λ c. omega arith) write-cell-requires add-to
+    add-place (λ c. omega arith) (λ c. omega arith) (λ c. omega arith) rewrite-cell-requires add-to
     (λ c. omega arith) (λ c. omega arith) loop-again (λ c. c .before .loop .inv .writing .kept) (λ c. rewriting-done (c .before .loop .inv) (omega arith)))

@@ -1,0 +1,209 @@
+-- Laws of a stored cell written again: its fields as they stand if all are stored, else fewer than five are kept; and the lead byte put
+-- last, into the place that was left for it. Assumes nothing.
+use Prim.Native.Nat.{ℕ, zero, suc, _+_, _*_, _-_, _/_, _%_, _≤_, _<_}
+use mathlib.Core.Path.{_≡_, refl, sym, ap, _∙_}
+use mathlib.Core.Bool.{Bool, true, false, cond, _&&_}
+use mathlib.Core.List.{List, [], _∷_, _++_}
+use native.Mathlib.Omega.{arith}
+use borrow.Author.Tests.{eqb-true, eqb-false}
+use lib.Count.{onesIn}
+use lib.Dec.{eqb}
+use lib.ListN.{length, getD, take, drop, set, length-append}
+use lib.Seq.{length-take-le, take-set-le, drop-set-lt}
+use Rattle.xm.specs.Answer.{inFront}
+use Rattle.xm.specs.Lay.{lay}
+use Rattle.xm.specs.Cell.{five, bit, fieldBy, fieldsBy, cellAt, marks, kepts, marked, writeCell}
+use Rattle.xm.proofs.Cell.{kept-length, marks-sum, kepts-most, fields-at, fields-stored, cell-length}
+use Rattle.xm.proofs.Lay.{Laid, laid-done, laid-long}
+use Rattle.cell.specs.declared.read.Field.{Field}
+use Rattle.cell.specs.Read.{FirstField, NextField}
+use Rattle.cell.specs.Over.{overMost, Over}
+use Rattle.cell.proofs.ReadLaws.{plain-fields, cell-first, Inside}
+use Rattle.cell.proofs.WriteLaws.{count-plain, count-marked, kepts-full}
+use Rattle.cell.proofs.Over.{PutOver, over-done}
+
+-- Five bits that are all set, one by one
+odd₃₂ : (b : ℕ) → b % 32 ≡ 31 → (b % 2 ≡ 1) × (b / 2 % 16 ≡ 15)
+odd₃₂ b h = (omega arith, omega arith)
+
+odd₁₆ : (b : ℕ) → b % 16 ≡ 15 → (b % 2 ≡ 1) × (b / 2 % 8 ≡ 7)
+odd₁₆ b h = (omega arith, omega arith)
+
+odd₈ : (b : ℕ) → b % 8 ≡ 7 → (b % 2 ≡ 1) × (b / 2 % 4 ≡ 3)
+odd₈ b h = (omega arith, omega arith)
+
+odd₄ : (b : ℕ) → b % 4 ≡ 3 → (b % 2 ≡ 1) × (b / 2 % 2 ≡ 1)
+odd₄ b h = (omega arith, omega arith)
+
+set-field : (count bits : ℕ) (s : List ℕ) → bits % 2 ≡ 1 → fieldsBy (suc count) bits s ≡ getD s 0 0 ∷ fieldsBy count (bits / 2) (drop 1 s)
+unfolding fieldsBy
+set-field count bits s e = rw e
+
+all-stored : (bits : ℕ) (s : List ℕ) → bits % 32 ≡ 31 → fieldsBy 5 bits s ≡ five s
+unfolding fieldsBy
+all-stored bits s h =
+    let q₁ = odd₃₂ bits h in
+    let q₂ = odd₁₆ (bits / 2) (q₁ .1) in
+    let q₃ = odd₈ (bits / 2 / 2) (q₂ .1) in
+    let q₄ = odd₄ (bits / 2 / 2 / 2) (q₃ .1) in
+    set-field 4 bits s (q₁ .0) ∙ ap (λ (l : List ℕ). getD s 0 0 ∷ l) (set-field 3 (bits / 2) (drop 1 s) (q₂ .0))
+    ∙ ap (λ (l : List ℕ). getD s 0 0 ∷ getD (drop 1 s) 0 0 ∷ l) (set-field 2 (bits / 2 / 2) (drop 1 (drop 1 s)) (q₃ .0))
+    ∙ ap (λ (l : List ℕ). getD s 0 0 ∷ getD (drop 1 s) 0 0 ∷ getD (drop 1 (drop 1 s)) 0 0 ∷ l) (set-field 1 (bits / 2 / 2 / 2) (drop 1 (drop 1 (drop 1 s))) (q₄ .0))
+    ∙ ap (λ (l : List ℕ). getD s 0 0 ∷ getD (drop 1 s) 0 0 ∷ getD (drop 1 (drop 1 s)) 0 0 ∷ getD (drop 1 (drop 1 (drop 1 s))) 0 0 ∷ l)
+    (set-field 0 (bits / 2 / 2 / 2 / 2) (drop 1 (drop 1 (drop 1 (drop 1 s)))) (q₄ .1))
+    ∙ sym (plain-fields s)
+
+-- as they are if all five count
+ones-most : (count b : ℕ) → onesIn count b ≤ count
+unfolding onesIn
+ones-most zero b = omega arith
+ones-most (suc count) b = omega (arith, ones-most count (b / 2))
+
+ones-more : (count b : ℕ) → suc count ≤ onesIn (suc count) b → (b % 2 ≡ 1) × (count ≤ onesIn count (b / 2))
+unfolding onesIn
+ones-more count b h = let m = ones-most count (b / 2) in (omega arith, omega arith)
+
+ones-all : (b : ℕ) → 5 ≤ onesIn 5 b → b % 32 ≡ 31
+ones-all b h =
+    let q₁ = ones-more 4 b h in
+    let q₂ = ones-more 3 (b / 2) (q₁ .1) in
+    let q₃ = ones-more 2 (b / 2 / 2) (q₂ .1) in
+    let q₄ = ones-more 1 (b / 2 / 2 / 2) (q₃ .1) in
+    let q₅ = ones-more 0 (b / 2 / 2 / 2 / 2) (q₄ .1) in
+    let h₂ : b / 2 / 2 / 2 % 4 ≡ 3 = up₂ (b / 2 / 2 / 2) (q₄ .0) (q₅ .0) in
+    let h₃ : b / 2 / 2 % 8 ≡ 7 = up₃ (b / 2 / 2) (q₃ .0) h₂ in
+    let h₄ : b / 2 % 16 ≡ 15 = up₄ (b / 2) (q₂ .0) h₃ in
+    up₅ b (q₁ .0) h₄
+  where
+    up₂ : (b : ℕ) → b % 2 ≡ 1 → b / 2 % 2 ≡ 1 → b % 4 ≡ 3
+    up₂ b p q = omega arith
+
+    up₃ : (b : ℕ) → b % 2 ≡ 1 → b / 2 % 4 ≡ 3 → b % 8 ≡ 7
+    up₃ b p q = omega arith
+
+    up₄ : (b : ℕ) → b % 2 ≡ 1 → b / 2 % 8 ≡ 7 → b % 16 ≡ 15
+    up₄ b p q = omega arith
+
+    up₅ : (b : ℕ) → b % 2 ≡ 1 → b / 2 % 16 ≡ 15 → b % 32 ≡ 31
+    up₅ b p q = omega arith
+
+below : {n : ℕ} → n ≤ 5 → (n ≡ 5 → ⊥) → n < 5
+below h k = omega arith
+
+ones-next : (count b : ℕ) → b % 2 ≡ 1 → onesIn (suc count) b ≡ 1 + onesIn count (b / 2)
+unfolding onesIn
+ones-next count b h = omega arith
+
+ones-none : (b : ℕ) → onesIn 0 b ≡ 0
+unfolding onesIn
+ones-none b = refl
+
+pub five-inside : {field : Field} {n : ℕ} → Inside 5 field n → field .bits % 32 ≡ 31 → field .place + 5 ≤ n
+five-inside {field} i h =
+    let b = field .bits in
+    let q₁ = odd₃₂ b h in
+    let q₂ = odd₁₆ (b / 2) (q₁ .1) in
+    let q₃ = odd₈ (b / 2 / 2) (q₂ .1) in
+    let q₄ = odd₄ (b / 2 / 2 / 2) (q₃ .1) in
+    let all : onesIn 5 b ≡ 1 + (1 + (1 + (1 + (1 + 0)))) =
+    rw (ones-next 4 b (q₁ .0), ones-next 3 (b / 2) (q₂ .0), ones-next 2 (b / 2 / 2) (q₃ .0), ones-next 1 (b / 2 / 2 / 2) (q₄ .0), ones-next 0 (b / 2 / 2 / 2 / 2) (q₄ .1), ones-none) in
+    omega (arith, i .ends)
+
+-- Whether a cell goes plain
+pub record Plain (cell : List ℕ) (plain : Bool) : Type 0 where
+  pub full : plain ≡ true → 5 ≤ length (kepts cell)
+  pub less : plain ≡ false → length (kepts cell) < 5
+
+-- The stored cell at a place: if all five fields are stored they are the five bytes from the first one on; else fewer than five are kept
+module _ (place : ℕ) (s : List ℕ) {first : Field} (f : FirstField (getD s place 0) place first) where
+  pub stored-five : first .bits % 32 ≡ 31 → cellAt (drop place s) ≡ five (drop (first .place) s)
+  stored-five h = cell-first place s f ∙ all-stored (first .bits) (drop (first .place) s) h
+
+  pub stored-few : (first .bits % 32 ≡ 31 → ⊥) → length (kepts (cellAt (drop place s))) < 5
+  stored-few h =
+      rw (cell-first place s f) (below (omega (arith, fields-stored 5 (first .bits) (drop (first .place) s), ones-most 5 (first .bits))) λ z.
+      h (ones-all (first .bits) (omega (arith, fields-stored 5 (first .bits) (drop (first .place) s)))))
+
+  pub stored-plain : Plain (cellAt (drop place s)) (eqb (first .bits % 32) 31 && eqb (length (kepts (five (drop (first .place) s)))) 5)
+  stored-plain = go (eqb (first .bits % 32) 31) refl (eqb (length (kepts (five (drop (first .place) s)))) 5) refl
+    where
+      go : (t : Bool) → eqb (first .bits % 32) 31 ≡ t → (u : Bool) → eqb (length (kepts (five (drop (first .place) s)))) 5 ≡ u → Plain (cellAt (drop place s)) (t && u)
+      go true t true u =
+          let same = ap (λ (l : List ℕ). length (kepts l)) (stored-five (eqb-true _ 31 t)) in
+          record { full = λ q. omega (arith, same, eqb-true (length (kepts (five (drop (first .place) s)))) 5 u); less = λ q. absurd (let z : _≡_ {A = ℕ} 0 1 = cc in omega arith) }
+      go true t false u =
+          let same = ap (λ (l : List ℕ). length (kepts l)) (stored-five (eqb-true _ 31 t)) in
+          record {
+            full = λ q. absurd (let z : _≡_ {A = ℕ} 0 1 = cc in omega arith);
+            less = λ q. below (omega (arith, kepts-most (cellAt (drop place s)), cell-length (drop place s))) (λ z. eqb-false _ 5 u (sym same ∙ z));
+          }
+      go false t u v = record { full = λ q. absurd (let z : _≡_ {A = ℕ} 0 1 = cc in omega arith); less = λ q. stored-few (eqb-false _ 31 t) }
+
+-- The lead byte by the places behind each field
+pub lead-moved : (a b c d e p₀ : ℕ) {p₁ p₂ p₃ p₄ p₅ lead : ℕ} → p₁ ≡ p₀ + bit a → p₂ ≡ p₁ + bit b → p₃ ≡ p₂ + bit c → p₄ ≡ p₃ + bit d → p₅ ≡ p₄ + bit e
+    → lead + (p₀ + p₁ + 2 * p₂ + 4 * p₃ + 8 * p₄) ≡ 128 + 16 * p₅ → lead ≡ 128 + marks (a ∷ b ∷ c ∷ d ∷ e ∷ [])
+lead-moved a b c d e p₀ q₁ q₂ q₃ q₄ q₅ l = omega (arith, marks-sum a b c d e)
+
+-- How many of a stored cell's fields are kept, one by one
+pub kept-least : (count : ℕ) (s : List ℕ) (field : Field)
+    → bit (fieldBy (field .bits) (drop (field .place) s)) ≤ length (kepts (fieldsBy (suc count) (field .bits) (drop (field .place) s)))
+unfolding kepts
+kept-least count s field =
+    rw (fields-at count (field .bits) (field .place) s, length-append) (omega (arith, kept-length (fieldBy (field .bits) (drop (field .place) s))))
+
+pub kept-next : (count : ℕ) (s : List ℕ) {field next : Field} → NextField field next
+    → length (kepts (fieldsBy (suc count) (field .bits) (drop (field .place) s)))
+    ≡ bit (fieldBy (field .bits) (drop (field .place) s)) + length (kepts (fieldsBy count (next .bits) (drop (next .place) s)))
+unfolding kepts
+kept-next count s {field} n =
+    rw (n .bits, n .place, fields-at count (field .bits) (field .place) s, length-append) (omega (arith, kept-length (fieldBy (field .bits) (drop (field .place) s))))
+
+-- A place is left for the lead byte, and what is kept goes behind it
+pub left-over : (lent rest : List ℕ) {place : ℕ} → place ≤ length lent → PutOver lent (take place lent ++ rest) lent place rest
+left-over lent rest {place} h = record { holds = refl; ends = omega (arith, length-append (take place lent) rest, length-take-le place lent h); beyond = refl; long = refl }
+
+pub left-first : (lent rest : List ℕ) → 1 + length rest ≤ length lent → Laid lent (take 1 lent ++ rest) lent 1 rest
+unfolding lay
+left-first [] rest h = absurd (omega arith)
+left-first (x ∷ lent) rest h =
+    let long : 1 + length rest ≡ 0 + suc (length rest) = omega arith in
+    record { kept = refl; room = h; count = omega arith; laid = ap (λ (n : ℕ). x ∷ (rest ++ drop n (x ∷ lent))) long }
+
+-- then it is put there; a plain cell stands without it, which goes behind the cell
+set-front : (out : List ℕ) (n lead x : ℕ) (xs : List ℕ) → take (suc n) out ≡ x ∷ xs → take (suc n) (set out 0 lead) ≡ lead ∷ xs
+set-front [] n lead x xs e = absurd (let z : _≡_ {A = ℕ} 0 1 = cc in omega arith)
+set-front (y ∷ out) n lead x xs e = let same : take n out ≡ xs = cc in ap (λ (l : List ℕ). lead ∷ l) same
+
+module _ (cell : List ℕ) (size : length cell ≡ 5) (lead : ℕ) (isLead : lead ≡ 128 + marks cell) where
+  pub over-lead : (lent : List ℕ) → overMost ≤ length lent → (plain : Bool) → Plain cell plain → {place : ℕ} → place ≡ cond plain 0 1 → {out : List ℕ} {to : ℕ} → PutOver lent (take place lent ++ kepts cell) out to (kepts [])
+      → (to ≡ length (writeCell cell)) × Over (writeCell cell) lent (set out (5 - 5 * place) lead)
+  unfolding marked
+  over-lead [] six plain k isPlace p = absurd (omega arith)
+  over-lead (x ∷ lent) six true k {place} isPlace {out} {to} p =
+      let same : kepts cell ≡ writeCell cell = kepts-full cell (omega (arith, k .full refl)) ∙ sym (count-plain cell (k .full refl)) in
+      let d = over-done (rw isPlace at p) in
+      let long : length (kepts cell) ≡ 5 = ap length (kepts-full cell (omega (arith, k .full refl))) ∙ size in (
+        d .0 ∙ ap length same,
+        rw (isPlace, ← same) (record {
+          front = take-set-le (length (kepts cell)) out 5 lead (omega arith) ∙ d .1 .front;
+          beyond = drop-set-lt overMost out 5 lead (omega arith) ∙ d .1 .beyond;
+        }),
+      )
+  over-lead (x ∷ lent) six false k {place} isPlace {out} {to} p =
+      let w = count-marked cell (k .less refl) in
+      let d = over-done (rw isPlace at p) in
+      (d .0 ∙ ap length (sym w), rw (isPlace, w) (over-marked out (d .1)))
+    where
+      over-marked : (out : List ℕ) → Over (x ∷ kepts cell) (x ∷ lent) out → Over (marked cell) (x ∷ lent) (set out 0 lead)
+      over-marked out o = record {
+        front = set-front out (length (kepts cell)) lead x (kepts cell) (o .front) ∙ ap (λ (l : ℕ). l ∷ kepts cell) isLead;
+        beyond = drop-set-lt overMost out 0 lead (omega arith) ∙ o .beyond;
+      }
+
+  pub laid-lead : (lent : List ℕ) → 1 ≤ length lent → length (kepts cell) < 5 → {out : List ℕ} {to : ℕ} → Laid lent (take 1 lent ++ kepts cell) out to (kepts [])
+      → (to ≡ length (writeCell cell)) × (set out 0 lead ≡ inFront (writeCell cell) lent)
+  unfolding kepts marked
+  laid-lead [] h few l = absurd (omega arith)
+  laid-lead (x ∷ lent) h few l =
+      let w = count-marked cell few in
+      rw w (laid-long l refl, ap (λ (out : List ℕ). set out 0 lead) (laid-done l refl) ∙ ap (λ (y : ℕ). y ∷ (kepts cell ++ drop (suc (length (kepts cell))) (x ∷ lent))) isLead)
