@@ -82,7 +82,7 @@ three-kinds = refl
 pub one-left : handHead (record { patterns = 0; instruments = 0; place = 0; heads = 2; head = 0; headSize = 40 }) .ahead .heads ≡ 1
 one-left = refl
 
--- At two channels an order entry that names no pattern plays 128 cells
+-- At two channels an order entry that names no pattern plays 128 cells, and not those of pattern 0
 pub two-channels : length (plays (
   record {
     moduleName = [];
@@ -90,14 +90,14 @@ pub two-channels : length (plays (
     songLength = 1;
     restart = 0;
     channels = 2;
-    patterns = 0;
+    patterns = 1;
     instruments = 0;
     flags = 0;
     tempo = 6;
     bpm = 125;
-    orders = 0 ∷ [];
+    orders = 1 ∷ [];
   },
-  ([], []),
+  (record { rows = 1; cells = replicate 2 (replicate 5 0) } ∷ [], []),
 ) 0 .cells) ≡ 128
 unfolding plays
 two-channels = refl
