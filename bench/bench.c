@@ -468,6 +468,15 @@ static void stack_code(void *nothing)
     run_code(NULL, &library);
 }
 
+/* A row of the table from each note of an octave, and the refusals. */
+static uint64_t stack_note;
+
+static void stack_period(void *nothing)
+{
+    (void)nothing;
+    kept += fiddlemarsh_period(stack_note, 127);
+}
+
 static void keep_largest(size_t *largest, void (*run)(void *))
 {
     size_t use = stack_use(run, NULL);
@@ -476,7 +485,7 @@ static void keep_largest(size_t *largest, void (*run)(void *))
 
 static void say_stack(const struct set *sets, size_t set_count)
 {
-    size_t check = 0, unpack = 0, pack = 0, press = 0, tables = 0, decode = 0, code = 0;
+    size_t check = 0, unpack = 0, pack = 0, press = 0, tables = 0, decode = 0, code = 0, period = 0;
     for (size_t i = 0; i < set_count; i++) {
         for (size_t j = 0; j < sets[i].module_count && j < 20; j++) {
             struct module cut = sets[i].modules[j];
@@ -498,8 +507,11 @@ static void say_stack(const struct set *sets, size_t set_count)
         keep_largest(&decode, stack_decode);
         keep_largest(&code, stack_code);
     }
-    printf("largest stack use of a call, in bytes: check %zu, unpack %zu, pack %zu, press %zu, tables %zu, decode %zu, code %zu\n", check,
-           unpack, pack, press, tables, decode, code);
+    for (stack_note = 0; stack_note <= FIDDLEMARSH_REAL_NOTE_MOST + 1; stack_note++)
+        keep_largest(&period, stack_period);
+    printf("largest stack use of a call, in bytes: check %zu, unpack %zu, pack %zu, press %zu, tables %zu, decode %zu, code %zu, "
+           "period %zu\n",
+           check, unpack, pack, press, tables, decode, code, period);
 }
 
 /* The machine */

@@ -11,6 +11,9 @@ enum status check_files(struct manner manner, int count, char **named);
 /* Says which files are one song, and which are alone. */
 enum status same_files(struct manner manner, int count, char **named);
 
+/* Says a note's period with its finetune, as two whole numbers and their quotient. */
+enum status say_period(const char *note, const char *finetune);
+
 /* Presses one file into another. */
 enum status press_file(struct manner manner, char *in, const char *out);
 

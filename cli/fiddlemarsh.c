@@ -1,4 +1,4 @@
-/* fiddlemarsh.c: checks, presses and compares FastTracker II modules from the command line, over libfiddlemarsh. */
+/* fiddlemarsh.c: checks, presses and compares FastTracker II modules, and tells periods, from the command line, over libfiddlemarsh. */
 
 #define _GNU_SOURCE /* getopt_long */
 
@@ -15,12 +15,13 @@
 #include <unistd.h>
 
 static const char help[] =
-    "Checks, presses and compares FastTracker II (XM) modules.\n"
+    "Checks, presses and compares FastTracker II (XM) modules, and tells periods.\n"
     "\n"
     "usage: fiddlemarsh check [--quiet] [--tsv] FILE...\n"
     "       fiddlemarsh press [--quiet] IN OUT\n"
     "       fiddlemarsh press [--quiet] --into DIR FILE...\n"
     "       fiddlemarsh same [--quiet] [--tsv] FILE...\n"
+    "       fiddlemarsh period NOTE FINETUNE\n"
     "       fiddlemarsh --help | --version\n"
     "\n"
     "check says of each file whether it is accepted, one line a file, and counts\n"
@@ -36,6 +37,9 @@ static const char help[] =
     "bytes behind the end. The module's name is content, so a module under another\n"
     "name (in it, not the file's) is another song; so are tempo, tracker name and\n"
     "all else that press keeps.\n"
+    "\n"
+    "period says the Amiga period of a real note, 0 to 118, with its finetune, -128\n"
+    "to 127, as two whole numbers and their quotient: 29024 / 2 = 14512.\n"
     "\n"
     "  -q, --quiet      tell only what needs a person: refused files, and trouble;\n"
     "                   with same also the songs that come more than once\n"
@@ -160,10 +164,28 @@ static enum status run_same(const struct request *request, int count, char **nam
     return same_files(request->manner, count, named);
 }
 
+static enum status run_period(const struct request *request, int count, char **named)
+{
+    if (request->into != NULL || request->manner.quiet || request->manner.tsv)
+        return wrong_usage("period has no such option", NULL);
+    if (count != 2)
+        return wrong_usage("period wants NOTE and FINETUNE", NULL);
+    return say_period(named[0], named[1]);
+}
+
+/* Where options end: behind period a minus with a digit is a number, and so are all arguments after it. */
+static int options_end(int count, char **arguments)
+{
+    for (int i = 2; i < count && strcmp(arguments[1], "period") == 0; i++)
+        if (arguments[i][0] == '-' && arguments[i][1] >= '0' && arguments[i][1] <= '9')
+            return i;
+    return count;
+}
+
 static enum status run(int count, char **arguments)
 {
     struct request request = {.into = NULL};
-    enum status status = read_options(count, arguments, &request);
+    enum status status = read_options(options_end(count, arguments), arguments, &request);
     if (status != ACCEPTED)
         return status;
     if (request.help)
@@ -171,7 +193,7 @@ static enum status run(int count, char **arguments)
     if (request.version)
         return puts("fiddlemarsh " FIDDLEMARSH_VERSION), ACCEPTED;
     if (optind >= count)
-        return wrong_usage("a command is wanted: check, press or same", NULL);
+        return wrong_usage("a command is wanted: check, press, same or period", NULL);
     const char *command = arguments[optind++];
     if (strcmp(command, "check") == 0)
         return run_check(&request, count - optind, arguments + optind);
@@ -179,6 +201,8 @@ static enum status run(int count, char **arguments)
         return run_press(&request, count - optind, arguments + optind);
     if (strcmp(command, "same") == 0)
         return run_same(&request, count - optind, arguments + optind);
+    if (strcmp(command, "period") == 0)
+        return run_period(&request, count - optind, arguments + optind);
     return wrong_usage("no such command: ", command);
 }
 

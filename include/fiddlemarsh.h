@@ -50,6 +50,7 @@
        tables              384    file_len: as the check, and once more the headers
        decode               24    bytes_len
        code                 24    values_len
+       period              544    nothing: it is the same for all
 
    Time grows in proportion to that and no faster, whatever the input holds.
 
@@ -80,9 +81,9 @@ extern "C" {
 #endif
 
 #define FIDDLEMARSH_VERSION_MAJOR 2
-#define FIDDLEMARSH_VERSION_MINOR 0
+#define FIDDLEMARSH_VERSION_MINOR 1
 #define FIDDLEMARSH_VERSION_PATCH 0
-#define FIDDLEMARSH_VERSION "2.0.0"
+#define FIDDLEMARSH_VERSION "2.1.0"
 
 /* The refusal numbers, and the place that comes with each. */
 enum fiddlemarsh_number {
@@ -131,6 +132,7 @@ enum fiddlemarsh_number {
 #define FIDDLEMARSH_PATTERNS_MOST 256
 #define FIDDLEMARSH_INSTRUMENTS_MOST 128
 #define FIDDLEMARSH_SAMPLES_MOST 2048 /* of a module: 128 instruments with 16 each */
+#define FIDDLEMARSH_REAL_NOTE_MOST 118 /* of a period: A#9 */
 
 /* Cells: five bytes each (note, instrument, volume, effect, parameter), row by row and in a row channel by channel. */
 #define FIDDLEMARSH_CELL_BYTES 5
@@ -215,6 +217,14 @@ uint64_t fiddlemarsh_decode(size_t width, const uint8_t *bytes, size_t bytes_len
    Returns how many bytes it has filled: values_len, or twice as many at 16.
    Refusals, in this order: 16 (width, values_len or a value), 14. */
 uint64_t fiddlemarsh_code(size_t width, const int16_t *values, size_t values_len, uint8_t *bytes, size_t bytes_len);
+
+/* The Amiga period of a note with its finetune, as two whole numbers: a dividend and a divisor, which is a power of two.
+   note 0..FIDDLEMARSH_REAL_NOTE_MOST is the real note, the pattern's and the sample's relative note added up (0 is C-0); finetune
+   -128..127 is the sample's. Sixteen finetunes are an eighth of a halftone, and between these the table of the format's description
+   is interpolated.
+   Returns dividend + 65,536 x divisor: the period is dividend / divisor. The dividend is at most 29,024, the divisor 2 to 1,024.
+   Refusals: 16 (note or finetune, or note 0 with a finetune below 0, which lies outside the table). */
+uint64_t fiddlemarsh_period(uint64_t note, int64_t finetune);
 
 /* How much there is in a module that was accepted: for others the answers mean nothing, and for a file of under 74 bytes the memory
    behind it would be read. */
@@ -305,6 +315,18 @@ static inline uint32_t fiddlemarsh_decoded_values(uint64_t answer)
 static inline uint32_t fiddlemarsh_coded_bytes(uint64_t answer)
 {
     return fiddlemarsh_refused(answer) ? 0 : (uint32_t)answer;
+}
+
+/* The dividend of a period; 0 of a refusal. */
+static inline uint32_t fiddlemarsh_period_dividend(uint64_t answer)
+{
+    return fiddlemarsh_refused(answer) ? 0 : (uint32_t)(answer % 65536);
+}
+
+/* The divisor of a period; 0 of a refusal. */
+static inline uint32_t fiddlemarsh_period_divisor(uint64_t answer)
+{
+    return fiddlemarsh_refused(answer) ? 0 : (uint32_t)(answer / 65536);
 }
 
 /* What a refusal number means. */

@@ -55,6 +55,41 @@ for usage in 'check' 'check --into . example.xm' 'press example.xm' 'press examp
 done
 ok "wrong usage writes nothing" is_missing one.xm
 
+# Periods: two whole numbers, and the quotient to its last digit
+period() { # NOTE FINETUNE LINE
+    fiddlemarsh period "$1" "$2"
+    ok "the period of note $1, finetune $2" says_only "$3"
+    ok "and its status" exits 0
+}
+period 0 0 '29024 / 2 = 14512'
+period 1 -1 '27404 / 2 = 13702'
+period 11 127 '14519 / 2 = 7259.5'
+period 12 -1 '14519 / 2 = 7259.5'
+period 012 +0 '29024 / 4 = 7256'
+period 107 127 '14519 / 512 = 28.357421875'
+period 118 127 '15368 / 1024 = 15.0078125'
+for numbers in '119 0' '-1 0' '5 128' '5 -129' '0 -1' '18446744073709551616 0' '5 -99999999999999999999'; do
+    # shellcheck disable=SC2086  # words
+    fiddlemarsh period $numbers
+    ok "no period: $numbers" exits 1
+    ok "it is told: $numbers" \
+        says_only 'refused, number 16: a note is 0 to 118, a finetune -128 to 127, and note 0 has none below 0'
+done
+for usage in 'period' 'period 5' 'period 5 -1 7' 'period five 0' 'period 5 0x10' 'period 5 -' 'period 5 1.5' 'period --quiet 5 0' \
+    'period --tsv 5 0' 'period --into . 5 0' 'period -1x 0'; do
+    # shellcheck disable=SC2086  # words
+    fiddlemarsh $usage
+    ok "wrong usage: $usage" exits 2
+    ok "it is told: $usage" complains "^Try 'fiddlemarsh --help'.\$"
+    ok "and nothing is said: $usage" [ ! -s said ]
+done
+fiddlemarsh period five 0
+ok "what is no number is named" complains 'NOTE wants a whole number: five$'
+fiddlemarsh period --help
+ok "--help behind period" is_same said help
+fiddlemarsh period -- 12 -1
+ok "numbers behind --" says_only '14519 / 2 = 7259.5'
+
 # Checking one file
 fiddlemarsh check example.xm
 ok "an accepted file" exits 0

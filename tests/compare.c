@@ -94,6 +94,11 @@ static uint64_t code(size_t width, const int16_t *values, size_t length, size_t 
     return lent_compare(&(struct call){.name = CALL_CODE, .input = values, .input_len = length, .room = room, .width = width});
 }
 
+static uint64_t period(uint64_t note, int64_t finetune)
+{
+    return lent_compare(&(struct call){.name = CALL_PERIOD, .note = note, .finetune = finetune});
+}
+
 /* Check, and press with room that does, that just does, and that just doesn't. */
 static void try_file(const uint8_t *file, size_t length)
 {
@@ -1152,6 +1157,37 @@ static void group_delta_limit(void)
     module_free(&noise);
 }
 
+/* Periods */
+
+static void must_be_period(uint64_t note, int64_t finetune, uint64_t want)
+{
+    uint64_t answer = period(note, finetune);
+    if (answer != want)
+        lent_unexpected(&(struct call){.name = CALL_PERIOD, .note = note, .finetune = finetune}, "not the paper's period", answer);
+}
+
+/* Every note and every finetune that there is, those next to them, and numbers that are one of them in fewer bits. */
+static void group_periods(void)
+{
+    static const uint64_t odd_notes[] = {255, 256, 65536, TWO_TO(32), TWO_TO(32) + 1, TWO_TO(61), TWO_TO(63), UINT64_MAX};
+    static const int64_t odd_finetunes[] = {-65536, -256, -130, 129, 255, 256, INT64_MIN, INT64_MIN + 1, INT64_MAX, (int64_t)TWO_TO(32),
+                                            -(int64_t)TWO_TO(32), -(int64_t)TWO_TO(32) - 1};
+    must_be_period(0, 0, 29024 + 65536 * 2);
+    must_be_period(0, -1, REFUSED(16, 0));
+    must_be_period(1, -1, 27404 + 65536 * 2);   /* q = 7 and f = 15: 2 x (862 + 15 x 856) */
+    must_be_period(11, 127, 14519 + 65536 * 2); /* q = 95 and f = 15: 2 x 457 + 15 x 907, since half of 907 is behind the last */
+    must_be_period(12, 0, 29024 + 65536 * 4);   /* an octave up */
+    for (uint64_t note = 0; note <= 120; note++) {
+        for (int64_t finetune = -129; finetune <= 128; finetune++)
+            period(note, finetune);
+        for (size_t i = 0; i < COUNT(odd_finetunes); i++)
+            period(note, odd_finetunes[i]);
+    }
+    for (size_t i = 0; i < COUNT(odd_notes); i++)
+        for (int64_t finetune = -129; finetune <= 128; finetune++)
+            period(odd_notes[i], finetune);
+}
+
 /* The largest counts of everything, and samples up to the size limit. */
 static void group_large(void)
 {
@@ -1186,6 +1222,7 @@ struct group {
 /* Those that take longest stand last: must-see.sh is then done soon with most faults. */
 static const struct group groups[] = {
     {"the paper's bench pieces", group_pieces},
+    {"period: every note and finetune", group_periods},
     {"modules: every cut", group_every_cut},
     {"modules: every room", group_every_room},
     {"tables: every room", group_table_rooms},
@@ -1243,6 +1280,8 @@ static void must_have_met_all(void)
         must_have_met(name, 14, 14);
         must_have_met(name, 16, 16);
     }
+    must_have_met(CALL_PERIOD, 0, 0);
+    must_have_met(CALL_PERIOD, 16, 16);
 }
 
 static uint64_t accepted_so_far(void)

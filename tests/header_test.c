@@ -101,6 +101,9 @@ static void test_answers(void)
     MUST(fiddlemarsh_length(16777216) == 16777216u && fiddlemarsh_length(refused) == 0);
     MUST(fiddlemarsh_decoded_values(16777216) == 16777216u && fiddlemarsh_decoded_values(refused) == 0);
     MUST(fiddlemarsh_coded_bytes(33554432) == 33554432u && fiddlemarsh_coded_bytes(refused) == 0);
+    MUST(fiddlemarsh_period_dividend(160096) == 29024 && fiddlemarsh_period_divisor(160096) == 2);
+    MUST(fiddlemarsh_period_dividend(67124232) == 15368 && fiddlemarsh_period_divisor(67124232) == 1024);
+    MUST(fiddlemarsh_period_dividend(refused) == 0 && fiddlemarsh_period_divisor(refused) == 0);
 }
 
 static void test_counts(void)
@@ -123,6 +126,7 @@ static void test_constants(void)
     MUST(FIDDLEMARSH_FILE_MOST == 16777216 && FIDDLEMARSH_DATA_MOST == 65535);
     MUST(FIDDLEMARSH_ROWS_MOST == 256 && FIDDLEMARSH_CHANNELS_MOST == 64);
     MUST(FIDDLEMARSH_PATTERNS_MOST == 256 && FIDDLEMARSH_INSTRUMENTS_MOST == 128 && FIDDLEMARSH_SAMPLES_MOST == 2048);
+    MUST(FIDDLEMARSH_REAL_NOTE_MOST == 118);
     MUST(FIDDLEMARSH_CELL_BYTES == 5 && FIDDLEMARSH_CELLS_MOST == 81920);
     MUST(FIDDLEMARSH_CELLS_SIZE(256, 64) == 81920 && FIDDLEMARSH_CELLS_SIZE(1, 1) == 5 && FIDDLEMARSH_CELLS_SIZE(60 + 4, 3 + 1) == 1280);
     MUST(sizeof FIDDLEMARSH_CELLS_SIZE(1, 1) == sizeof(size_t));
@@ -137,7 +141,7 @@ static void test_constants(void)
     MUST(FIDDLEMARSH_SAMPLE_FINETUNE == 0 && FIDDLEMARSH_SAMPLE_RELATIVE_NOTE == 1);
     MUST(strcmp(FIDDLEMARSH_VERSION, TEXT(FIDDLEMARSH_VERSION_MAJOR) "." TEXT(FIDDLEMARSH_VERSION_MINOR) "." TEXT(
                                          FIDDLEMARSH_VERSION_PATCH)) == 0);
-    MUST(FIDDLEMARSH_VERSION_MAJOR == 2 && FIDDLEMARSH_VERSION_MINOR == 0 && FIDDLEMARSH_VERSION_PATCH == 0);
+    MUST(FIDDLEMARSH_VERSION_MAJOR == 2 && FIDDLEMARSH_VERSION_MINOR == 1 && FIDDLEMARSH_VERSION_PATCH == 0);
 }
 
 /* README has a row for each number, which ends with its sentence. */

@@ -62,6 +62,7 @@ static const struct kind kinds[CALL_NAMES] = {
     {"tables", "end", 1, {"patterns", "instruments", "samples", "tunes"}, {4, 4, 4, 1}},
     {"decode", "values", 1, {"output"}, {2}},
     {"code", "bytes", 2, {"output"}, {1}},
+    {"period", "number", 1, {NULL}, {0}},
 };
 
 static size_t input_bytes(const struct call *call)
@@ -104,6 +105,9 @@ static void say_answer(const char *whose, enum call_name name, uint64_t answer)
     else if (name == CALL_PACK)
         fprintf(stderr, "length %u, rows %u\n", (unsigned)fiddlemarsh_packed_length(answer),
                 (unsigned)fiddlemarsh_packed_rows(answer));
+    else if (name == CALL_PERIOD)
+        fprintf(stderr, "dividend %u, divisor %u\n", (unsigned)fiddlemarsh_period_dividend(answer),
+                (unsigned)fiddlemarsh_period_divisor(answer));
     else
         fprintf(stderr, "%s %u\n", kinds[name].told, (unsigned)answer);
 }
@@ -116,6 +120,8 @@ static void say_call(const struct call *call)
         fprintf(stderr, "rows %zu, channels %zu, ", call->rows, call->channels);
     if (call->name == CALL_DECODE || call->name == CALL_CODE)
         fprintf(stderr, "width %zu, ", call->width);
+    if (call->name == CALL_PERIOD)
+        fprintf(stderr, "note %llu, finetune %lld, ", (unsigned long long)call->note, (long long)call->finetune);
     fprintf(stderr, "input of %zu bytes", input_bytes(call));
     for (unsigned i = 0; i < OUTPUTS && kinds[call->name].outputs[i] != NULL; i++)
         fprintf(stderr, ", %s of %zu bytes", kinds[call->name].outputs[i], output_bytes(call, i));
@@ -332,6 +338,8 @@ static uint64_t ask_reference(const struct call *call, uint8_t *const output[OUT
     case CALL_TABLES:
         return reference_loader_tables(call->input, call->input_len, NUMBERS_AT(output[0]), call->room, NUMBERS_AT(output[1]),
                                        rooms[0], NUMBERS_AT(output[2]), rooms[1], (int8_t *)output[3], rooms[2]);
+    case CALL_PERIOD:
+        return reference_loader_period(call->note, call->finetune);
     case CALL_DECODE:
         return reference_loader_decode(call->width, call->input, call->input_len, VALUES_AT(output[0]), call->room);
     default:
@@ -354,6 +362,8 @@ static uint64_t ask_library(const struct call *call, const uint8_t *input, uint8
     case CALL_TABLES:
         return fiddlemarsh_tables(input, call->input_len, NUMBERS_AT(output[0]), call->room, NUMBERS_AT(output[1]), rooms[0],
                                   NUMBERS_AT(output[2]), rooms[1], (int8_t *)output[3], rooms[2]);
+    case CALL_PERIOD:
+        return fiddlemarsh_period(call->note, call->finetune);
     case CALL_DECODE:
         return fiddlemarsh_decode(call->width, input, call->input_len, VALUES_AT(output[0]), call->room);
     default:

@@ -805,6 +805,45 @@ REFERENCE_CALL struct reference_stretch reference_sample_stretch(size_t file_len
     return (struct reference_stretch){accepted, row->data_place, row->length};
 }
 
+/* Periods */
+
+enum { REAL_NOTE_MOST = 118, TABLE_ENTRIES = 96 };
+
+/* Document 001, Annex B. */
+static const uint16_t period_table[TABLE_ENTRIES] = {
+    907, 900, 894, 887, 881, 875, 868, 862, 856, 850, 844, 838, 832, 826, 820, 814,
+    808, 802, 796, 791, 785, 779, 774, 768, 762, 757, 752, 746, 741, 736, 730, 725,
+    720, 715, 709, 704, 699, 694, 689, 684, 678, 675, 670, 665, 660, 655, 651, 646,
+    640, 636, 632, 628, 623, 619, 614, 610, 604, 601, 597, 592, 588, 584, 580, 575,
+    570, 567, 563, 559, 555, 551, 547, 543, 538, 535, 532, 528, 524, 520, 516, 513,
+    508, 505, 502, 498, 494, 491, 487, 484, 480, 477, 474, 470, 467, 463, 460, 457
+};
+
+/* Twice an entry: the one behind the last is half the first. */
+static uint32_t twice_entry(uint32_t p)
+{
+    if (p == TABLE_ENTRIES)
+        return period_table[0];
+    return 2u * period_table[p];
+}
+
+REFERENCE_CALL struct reference_period reference_period(uint64_t note, int64_t finetune)
+{
+    if (note > REAL_NOTE_MOST)
+        return (struct reference_period){refuse(16, 0), 0, 0};
+    if (finetune < -128 || finetune > 127)
+        return (struct reference_period){refuse(16, 0), 0, 0};
+    int32_t raised = (int32_t)finetune + 128; /* from 0 on, so that division rounds down; 128 / 16 is taken off again */
+    int32_t q = 8 * (int32_t)note + raised / 16 - 8;
+    uint32_t f = (uint32_t)raised % 16;
+    if (q < 0)
+        return (struct reference_period){refuse(16, 0), 0, 0};
+    uint32_t p = (uint32_t)q % TABLE_ENTRIES, octave = (uint32_t)q / TABLE_ENTRIES;
+    uint32_t sum = twice_entry(p) * (16 - f);
+    sum += twice_entry(p + 1) * f;
+    return (struct reference_period){accepted, sum, 2u << octave};
+}
+
 /* The loader's numbers */
 
 static uint64_t loader_number(struct reference_refusal refusal, uint64_t otherwise)
@@ -910,4 +949,10 @@ REFERENCE_CALL uint64_t reference_loader_code(size_t width, const int16_t *value
         return loader_number(refuse(16, 0), 0);
     struct reference_count coded = reference_delta_code(width, values, values_len, bytes, bytes_len);
     return loader_number(coded.refusal, coded.count);
+}
+
+REFERENCE_CALL uint64_t reference_loader_period(uint64_t note, int64_t finetune)
+{
+    struct reference_period period = reference_period(note, finetune);
+    return loader_number(period.refusal, period.dividend + 65536ull * period.divisor);
 }

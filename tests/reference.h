@@ -82,6 +82,12 @@ struct reference_packed {
     uint32_t rows;
 };
 
+struct reference_period {
+    struct reference_refusal refusal;
+    uint32_t dividend;
+    uint32_t divisor;
+};
+
 /* A sample's data inside the file; 0 and 0 behind a refusal. */
 struct reference_stretch {
     struct reference_refusal refusal;
@@ -115,6 +121,9 @@ REFERENCE_CALL struct reference_count reference_delta_decode(size_t width, const
 REFERENCE_CALL struct reference_count reference_delta_code(size_t width, const int16_t *values, size_t value_count,
                                                            uint8_t *bytes, size_t room);
 
+/* A period as a dividend and a divisor; 0 and 0 behind a refusal. */
+REFERENCE_CALL struct reference_period reference_period(uint64_t note, int64_t finetune);
+
 /* Where a sample of a lent table stands in the file. */
 REFERENCE_CALL struct reference_stretch reference_sample_stretch(size_t file_len, const struct reference_sample_row *rows,
                                                                  size_t rows_lent, size_t number);
@@ -138,5 +147,7 @@ REFERENCE_CALL uint64_t reference_loader_decode(size_t width, const uint8_t *byt
                                                 size_t values_len);
 REFERENCE_CALL uint64_t reference_loader_code(size_t width, const int16_t *values, size_t values_len, uint8_t *bytes,
                                               size_t bytes_len);
+
+REFERENCE_CALL uint64_t reference_loader_period(uint64_t note, int64_t finetune);
 
 #endif

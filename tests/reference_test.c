@@ -332,6 +332,47 @@ static void generated_modules(void)
     module_free(&module);
 }
 
+/* Periods */
+
+static bool is_period(uint64_t note, int64_t finetune, uint32_t dividend, uint32_t divisor)
+{
+    struct reference_period period = reference_period(note, finetune);
+    return period.refusal.number == 0 && period.dividend == dividend && period.divisor == divisor;
+}
+
+static bool has_no_period(uint64_t note, int64_t finetune)
+{
+    struct reference_period period = reference_period(note, finetune);
+    return period.refusal.number == 16 && period.refusal.place == 0 && period.dividend == 0 && period.divisor == 0;
+}
+
+static void periods_by_hand(void)
+{
+    must(is_period(0, 0, 29024, 2));        /* 2 x 16 x 907 */
+    must(is_period(0, 1, 29010, 2));        /* 2 x (15 x 907 + 900) */
+    must(is_period(0, 16, 28800, 2));       /* the next entry, 900 */
+    must(is_period(1, -1, 27404, 2));       /* q = 7, f = 15: 2 x (862 + 15 x 856) */
+    must(is_period(1, -128, 29024, 2));     /* q = 0 */
+    must(is_period(11, 127, 14519, 2));     /* q = 95, f = 15: 2 x 457 + 15 x 907 */
+    must(is_period(12, -1, 14519, 2));      /* the same q */
+    must(is_period(12, 0, 29024, 4));       /* q = 96 */
+    must(is_period(118, 127, 15368, 1024)); /* q = 951, p = 87, octave 9: 2 x (484 + 15 x 480) */
+    must(has_no_period(0, -1) && has_no_period(0, -16) && has_no_period(0, -128));
+    must(has_no_period(119, 0) && has_no_period(UINT64_MAX, 0) && has_no_period(5, -129) && has_no_period(5, 128));
+}
+
+/* They fall from finetune to finetune and from note to note: a period is larger than the one after it. */
+static void periods_fall(void)
+{
+    struct reference_period before = reference_period(0, 0), next;
+    for (uint64_t note = 0; note <= 118; note++)
+        for (int64_t finetune = note == 0 ? 1 : 0; finetune < 128; finetune++, before = next) {
+            next = reference_period(note, finetune);
+            must((uint64_t)before.dividend * next.divisor > (uint64_t)next.dividend * before.divisor);
+            must(note == 118 || is_period(note + 1, finetune - 128, next.dividend, next.divisor));
+        }
+}
+
 int main(void)
 {
     deltas_hold_the_papers_pieces();
@@ -347,6 +388,8 @@ int main(void)
     structures_of_the_hand_module();
     stretches();
     generated_modules();
+    periods_by_hand();
+    periods_fall();
     printf("reference_test: %lu statements hold\n", held);
     return 0;
 }

@@ -16,7 +16,9 @@ use Rattle.xm.specs.Press.{pressedLength, pressing}
 use Rattle.xm.specs.Delta.{countWritten, decodingLimited, codingLimited}
 use Rattle.xm.specs.Demands.{LoaderTells}
 use Rattle.xm.proofs.Demands.{loaders-tell}
-use Rattle.fiddlemarsh.specs.Promise.{Checks, Unpacks, Packs, Presses, Fills, Decodes, Codes, Tells, TellsKept}
+use Rattle.periods.specs.Period.{Period, tuning, bothNumbers}
+use Rattle.periods.proofs.Calls as periods
+use Rattle.fiddlemarsh.specs.Promise.{Checks, Unpacks, Packs, Presses, Fills, Decodes, Codes, Tunes, Tells, TellsKept}
 
 -- At least 2^32 exactly when refused
 refused-exactly : {A : Type 0} (value : A → ℕ) (answer : Answer A) {number : ℕ} → LoaderTells value answer number
@@ -112,3 +114,16 @@ module _ (width : ℕ) (values : List ℤ) (lent : List ℕ) where
 
   pub code-once : {number other : ℕ} {held kept : List ℕ} → Codes width values lent number held → Codes width values lent other kept → (number ≡ other) × (held ≡ kept)
   code-once = once
+
+-- The period
+module _ (note : ℕ) (finetune : ℤ) where
+  pub period-tells : {number : ℕ} → Tunes note finetune number → Tells bothNumbers (tuning note finetune) number
+  period-tells met = tells bothNumbers (tuning note finetune) met (periods.period-tells note finetune .loads)
+
+  -- its two numbers come back
+  pub period-apart : {number : ℕ} → Tunes note finetune number → (period : Period) → tuning note finetune ≡ gives period
+      → (number % 65536 ≡ period .dividend) × (number / 65536 ≡ period .divisor)
+  period-apart met period e = rw met (periods.period-tells note finetune .apart period e)
+
+  pub period-once : {number other : ℕ} → Tunes note finetune number → Tunes note finetune other → number ≡ other
+  period-once met e = met ∙ sym e

@@ -12,6 +12,7 @@ use Rattle.xm.specs.Packing.{unpackLoader, unpackAfter, packLoader, packAfter}
 use Rattle.xm.specs.Press.{pressLoader, pressAfter}
 use Rattle.xm.specs.Delta.{decodeLoader, decodeLimitedAfter, codeLoader, codeLimitedAfter}
 use Rattle.xm.specs.Demands.{LoaderTells}
+use Rattle.periods.specs.Period.{periodLoader}
 use Rattle.tables.specs.Into.{tablesThen}
 
 -- The contracts.
@@ -35,6 +36,9 @@ Decodes width bytes lent number held = (number ≡ decodeLoader width bytes (len
 
 abbrev pub Codes : (width : ℕ) (values : List ℤ) (lent : List ℕ) (number : ℕ) (held : List ℕ) → Type 0
 Codes width values lent number held = (number ≡ codeLoader width values (length lent)) × (held ≡ codeLimitedAfter width values lent)
+
+abbrev pub Tunes : (note : ℕ) (finetune : ℤ) (number : ℕ) → Type 0
+Tunes note finetune number = number ≡ periodLoader note finetune
 
 -- The number tells the answer: the value, below 2^32, or number and place; and which of the two it is, it shows by itself.
 pub record Tells {A : Type 0} (value : A → ℕ) (answer : Answer A) (number : ℕ) : Type 0 where

@@ -1,10 +1,11 @@
-// What the loader links: seven calls, each with the loader's one number as its answer.
+// What the loader links: eight calls, each with the loader's one number as its answer.
 ghost use mathlib.Core.Path.{_≡_};
 ghost use lib.ListN.{length};
 ghost use Rattle.xm.specs.Table.{checkLoader, checkIntoLoader, roomOf};
 ghost use Rattle.xm.specs.Packing.{unpackLoader, unpackAfter, packLoader, packAfter};
 ghost use Rattle.xm.specs.Press.{pressLoader, pressAfter};
 ghost use Rattle.xm.specs.Delta.{decodeLoader, decodeLimitedAfter, codeLoader, codeLimitedAfter};
+ghost use Rattle.periods.specs.Period.{periodLoader};
 ghost use Rattle.tables.specs.Into.{lent, tablesThen};
 
 #[no_mangle]
@@ -85,4 +86,12 @@ pub extern "C" fn fiddlemarsh_code(width: usize, values: &[i16], bytes: &mut [u8
 {
     let coded = loader::limit::code(width, values, bytes);
     loader::code_number(coded)
+}
+
+#[no_mangle]
+pub extern "C" fn fiddlemarsh_period(note: u64, finetune: i64) -> u64
+    ensures { λ r. ⌜ r ≡ periodLoader note finetune ⌝ }
+{
+    let tuned = periods::period(note, finetune);
+    loader::period_number(tuned)
 }

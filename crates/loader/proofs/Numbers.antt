@@ -26,7 +26,11 @@ use Rattle.press.specs.Pressed.{pressedOf}
 use Rattle.samples.specs.declared.Decoded.{Decoded}
 use Rattle.samples.specs.declared.Coded.{Coded}
 use Rattle.samples.specs.Answers.{decodeAnswer, codeAnswer}
-use Rattle.loader.specs.Number.{checkNumber, unpackNumber, packNumber, pressNumber, decodeNumber, codeNumber}
+use Rattle.periods.specs.declared.Tuned.{Tuned}
+use Rattle.periods.specs.Period.{Period, tuning, bothNumbers, periodLoader}
+use Rattle.periods.specs.Tuned.{tunedOf}
+use Rattle.periods.proofs.Calls.{period-tells}
+use Rattle.loader.specs.Number.{checkNumber, unpackNumber, packNumber, pressNumber, decodeNumber, codeNumber, periodNumber}
 
 -- A number that tells a value below 2^32 from one of the paper's refusals
 fits : {A : Type 0} (value : A → ℕ) (answer : Answer A) (number : ℕ) → LoaderTells value answer number
@@ -63,6 +67,11 @@ code-cases : (answer : Answer (List ℕ)) → codeNumber (codeAnswer answer) ≡
 unfolding loaderNumber
 code-cases (gives bytes) = refl
 code-cases (refuses r) = refl
+
+period-cases : (answer : Answer Period) → periodNumber (tunedOf answer) ≡ loaderNumber bothNumbers answer
+unfolding loaderNumber
+period-cases (gives period) = refl
+period-cases (refuses r) = refl
 
 module _ (file : List ℕ) {verdict : Verdict} (met : verdict ≡ verdictOf (checking file)) where
   pub check-same : checkNumber verdict ≡ checkLoader file
@@ -125,3 +134,12 @@ module _ (width : ℕ) (values : List ℤ) (room : ℕ) {coded : Coded} (met : c
   code-fits =
       rw code-same (fits length (codingLimited width values room) (codeLoader width values room) (loaders-tell .code width values room)
       (λ r e. demand₁ .code-limited width values .numbered room r e .1))
+
+module _ (note : ℕ) (finetune : ℤ) {tuned : Tuned} (met : tuned ≡ tunedOf (tuning note finetune)) where
+  pub period-same : periodNumber tuned ≡ periodLoader note finetune
+  period-same = ap periodNumber met ∙ period-cases (tuning note finetune)
+
+  pub period-fits : periodNumber tuned < 2 ^ 64
+  period-fits =
+      rw period-same (fits bothNumbers (tuning note finetune) (periodLoader note finetune) (period-tells note finetune .loads)
+      (λ r e. omega (arith, ap Refusal.number (period-tells note finetune .refused r e))))

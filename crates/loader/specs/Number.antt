@@ -15,6 +15,8 @@ use Rattle.packing.specs.declared.Packed.{Packed}
 use Rattle.packing.specs.declared.Packed.the-variants as packed
 use Rattle.press.specs.declared.Pressed.{Pressed}
 use Rattle.press.specs.declared.Pressed.the-variants as pressed
+use Rattle.periods.specs.declared.Tuned.{Tuned}
+use Rattle.periods.specs.declared.Tuned.the-variants as tuned
 
 -- "refusal number × 2^32 + place"
 abbrev pub refusalNumber : Fault → ℕ
@@ -49,3 +51,8 @@ decodeNumber (decoded.Refused fault) = refusalNumber fault
 abbrev pub codeNumber : Coded → ℕ
 codeNumber (coded.Bytes count) = count
 codeNumber (coded.Refused fault) = refusalNumber fault
+
+-- "E + 65,536 × 2^(octave + 1)"
+abbrev pub periodNumber : Tuned → ℕ
+periodNumber (tuned.Period period) = period .dividend + 65536 * period .divisor
+periodNumber (tuned.Refused fault) = refusalNumber fault

@@ -1,9 +1,10 @@
 // The loader's one number for the answer of each call: "refusal number × 2^32 + place, or else the end, the rows, length + 65,536 × rows,
-// the length"; and of deltas, how many values or bytes were written.
+// the length"; of deltas, how many values or bytes were written; and of a period both its numbers, "E + 65,536 × 2^(octave + 1)".
 pub mod limit;
 
 use cells::Unpacked;
 use packing::Packed;
+use periods::Tuned;
 use press::Pressed;
 use refusal::Fault;
 use samples::Coded;
@@ -11,7 +12,7 @@ use samples::Decoded;
 use walk::Verdict;
 ghost use mathlib.Core.Path.{_≡_};
 ghost use Prim.Native.Nat.{_^_, _<_};
-ghost use Rattle.loader.specs.Number.{refusalNumber, checkNumber, unpackNumber, packNumber, pressNumber, decodeNumber, codeNumber};
+ghost use Rattle.loader.specs.Number.{refusalNumber, checkNumber, unpackNumber, packNumber, pressNumber, decodeNumber, codeNumber, periodNumber};
 
 fn refusal_number(fault: Fault) -> u64
     requires { ⌜ refusalNumber fault < 2 ^ 64 ⌝ }
@@ -77,5 +78,15 @@ pub fn code_number(coded: Coded) -> u64
     match coded {
         Coded::Bytes(count) => count as u64,
         Coded::Refused(fault) => refusal_number(fault),
+    }
+}
+
+pub fn period_number(tuned: Tuned) -> u64
+    requires { ⌜ periodNumber tuned < 2 ^ 64 ⌝ }
+    ensures { λ r. ⌜ r ≡ periodNumber tuned ⌝ }
+{
+    match tuned {
+        Tuned::Period(period) => (period.dividend as u64) + 65536 * (period.divisor as u64),
+        Tuned::Refused(fault) => refusal_number(fault),
     }
 }

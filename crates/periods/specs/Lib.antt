@@ -1,0 +1,3 @@
+pub mod Period
+pub mod Tuned
+pub mod Promise
