@@ -264,8 +264,8 @@ held() {
 }
 for signal in 1:HUP 2:INT 3:QUIT 10:USR1 12:USR2 13:PIPE 14:ALRM 15:TERM 24:XCPU 26:VTALRM 27:PROF; do
     number=${signal%:*} signal=${signal#*:}
-    # shellcheck disable=SC2086  # a shell's background commands ignore INT and QUIT
-    held env --default-signal=INT,QUIT ${RUN:-} ./program press example.xm precious
+    # shellcheck disable=SC2086  # a shell's background commands ignore INT and QUIT, and all under nohup ignore HUP
+    held env --default-signal=HUP,INT,QUIT ${RUN:-} ./program press example.xm precious
     ok "$signal: the program is held up with a temporary file" half_file
     kill -s "$signal" $held
     status=0
