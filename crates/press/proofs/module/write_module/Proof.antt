@@ -27,6 +27,20 @@ lies c =
     module-lies (s .args .file .now) (s .args .marks .now) (s .pre .0) (c .before .before .before .before .long .ensures .value) (c .before .before .before .word .ensures .value)
     (c .before .before .word2 .ensures .value) (c .before .word3 .ensures .value) (c .word4 .ensures .value)
 
+-- The bytes first: what has room are these
+returns : tie.Need-returns
+returns c =
+    let l = lies (c .before .before .before .before .before .before .before .before .before .before .before .before .before .before) in
+    let a = c .before .before .before .before .before .before .before .before .before .before .before .before .before .before .before .before .before .before .before .before .before .args in
+    let file = a .file .now in
+    let channels = c .before .before .before .before .before .before .before .before .before .before .before .before .before .before .before .before .word2 .result in
+    let patterns = c .before .before .before .before .before .before .before .before .before .before .before .before .before .before .before .word3 .result in
+    let at = ap Reached.place (c .before .before .before .before .before .before .before .write-patterns .ensures .0) in
+    let header =
+    laid-first (a .out .now) (pressedFile file) (writeHeader (headerWith patterns (take (80 + c .before .before .before .before .before .before .before .before .before .before .before .before .before .before .before .before .before .word .result - 80) (drop 80 file)) file)) _ (l .written) (c .before .before .before .before .before .before .before .before .before .before .before .before .before .before .before .before .before .before .before .before .before .pre .1) (sym (l .header-long)) (c .before .before .before .before .before .before .before .before .before .before .before .write-header .ensures) in
+    let rows = laid-part header (pressedAt (each patternFormat) (replicate patterns channels) file (c .before .before .before .before .before .before .before .before .before .before .before .before .before .before .before .before .before .before .long .result + 60)) _ {next = 336 + c .before .before .before .before .before .before .before .write-patterns .result .written} refl refl (omega (arith, ap Reached.written (c .before .before .before .before .before .before .before .write-patterns .ensures .0))) (c .before .before .before .before .before .before .before .write-patterns .ensures .1) in
+    laid-last rows (ap (pressedAt (each instrumentFormat) (replicate (c .before .before .before .before .before .before .before .before .before .before .before .before .before .before .word4 .result) tt) file) (sym at)) (c .before .before .write-instruments .ensures)
+
 long-requires : tie.Need-long-requires
 long-requires c κs = omega (arith, numbers-inside _ _ (c .before .before .pre .0))
 
@@ -97,19 +111,6 @@ write-instruments-requires c κs =
 
 same-length : tie.Need-same-length
 same-length c = search needs
-
-returns : tie.Need-returns
-returns c =
-    let l = lies (c .before .before .before .before .before .before .before .before .before .before .before .before .before .before) in
-    let a = c .before .before .before .before .before .before .before .before .before .before .before .before .before .before .before .before .before .before .before .before .before .args in
-    let file = a .file .now in
-    let channels = c .before .before .before .before .before .before .before .before .before .before .before .before .before .before .before .before .word2 .result in
-    let patterns = c .before .before .before .before .before .before .before .before .before .before .before .before .before .before .before .word3 .result in
-    let at = ap Reached.place (c .before .before .before .before .before .before .before .write-patterns .ensures .0) in
-    let header =
-    laid-first (a .out .now) (pressedFile file) (writeHeader (headerWith patterns (take (80 + c .before .before .before .before .before .before .before .before .before .before .before .before .before .before .before .before .before .word .result - 80) (drop 80 file)) file)) _ (l .written) (c .before .before .before .before .before .before .before .before .before .before .before .before .before .before .before .before .before .before .before .before .before .pre .1) (sym (l .header-long)) (c .before .before .before .before .before .before .before .before .before .before .before .write-header .ensures) in
-    let rows = laid-part header (pressedAt (each patternFormat) (replicate patterns channels) file (c .before .before .before .before .before .before .before .before .before .before .before .before .before .before .before .before .before .before .long .result + 60)) _ {next = 336 + c .before .before .before .before .before .before .before .write-patterns .result .written} refl refl (omega (arith, ap Reached.written (c .before .before .before .before .before .before .before .write-patterns .ensures .0))) (c .before .before .before .before .before .before .before .write-patterns .ensures .1) in
-    laid-last rows (ap (pressedAt (each instrumentFormat) (replicate (c .before .before .before .before .before .before .before .before .before .before .before .before .before .before .word4 .result) tt) file) (sym at)) (c .before .before .write-instruments .ensures)
 
 pub write-module-spec : {M : Type 1} → statement M
 write-module-spec =
