@@ -1,7 +1,7 @@
 /* fast.c: see fast.h. Eight bytes are looked at in one word, runs of empty cells are passed over at once, tables say what a lead byte
    means, and a pattern whose cells all have their shortest form is copied. Plain C for little-endian machines, no vectors.
 
-   Where eight bytes are not there any more, and where a cell is refused, a careful loop takes over, a cell at a time. */
+   Where eight bytes are not there any more a careful loop takes over, a cell at a time. */
 
 #include "fast.h"
 
@@ -11,7 +11,6 @@
 #define EMPTY 0x80u
 #define EMPTIES 0x8080808080808080u
 #define ONES 0x0101010101010101u
-#define NOTE_MOST 97u
 #define CELL 5u
 
 static inline uint64_t refuse(uint64_t number, uint64_t place)
@@ -67,14 +66,10 @@ static inline void put32(uint8_t *to, uint32_t number)
 static const uint8_t lengths[256] =
     LEADS(5, 1, 2, 2, 3, 2, 3, 3, 4, 2, 3, 3, 4, 3, 4, 4, 5, 2, 3, 3, 4, 3, 4, 4, 5, 3, 4, 4, 5, 4, 5, 5, 6);
 
-/* All ones where the first field is a note. */
-#define ODD_8 0, 255, 0, 255, 0, 255, 0, 255
-static const uint8_t note_masks[256] = LEADS(255, ODD_8, ODD_8, ODD_8, ODD_8);
-
-/* How many of its fields must be other than 0 for the cell to have its shortest form; 9 if it never has. */
+/* How many of its fields must be other than 0 for a cell of its shortest length to have its shortest form; 9 if it never has. */
 static const uint8_t shortest_at[256] = {
     PLAIN_32(5), PLAIN_32(5), PLAIN_32(5), PLAIN_32(5),
-    0, 1, 1, 2, 1, 2, 2, 3, 1, 2, 2, 3, 2, 3, 3, 4, 1, 2, 2, 3, 2, 3, 3, 4, 2, 3, 3, 4, 3, 4, 4, 9,
+    0, 1, 1, 2, 1, 2, 2, 3, 1, 2, 2, 3, 2, 3, 3, 4, 1, 2, 2, 3, 2, 3, 3, 4, 2, 3, 3, 4, 3, 4, 4, 5,
     PLAIN_32(9), PLAIN_32(9), PLAIN_32(9)};
 
 static const uint64_t low_bytes[7] = {0, 0xFF, 0xFFFF, 0xFFFFFF, 0xFFFFFFFF, 0xFFFFFFFFFF, 0xFFFFFFFFFFFF};
@@ -89,13 +84,6 @@ static inline uint64_t stored_fields(uint64_t cell)
 {
     unsigned lead = cell & 255, marked = is_marked(lead);
     return cell >> 8 * marked & low_bytes[lengths[lead] - marked];
-}
-
-/* A note above the highest has a bit above the low seven. */
-static inline unsigned note_tried(uint64_t cell)
-{
-    unsigned lead = cell & 255;
-    return (unsigned)(cell >> 8 * is_marked(lead) & note_masks[lead]) + (127 - NOTE_MOST);
 }
 
 /* One in the top bit of each byte that is not 0. */
@@ -115,9 +103,10 @@ static inline unsigned used_mask(uint64_t fields)
     return (unsigned)((used_bytes(fields) >> 7) * 0x0000000102040810u >> 32) & 31;
 }
 
-static inline unsigned shortest_length(unsigned used)
+/* Of fields that begin with the note if all five are used: a note from 128 up cannot lead them. */
+static inline unsigned shortest_length(uint64_t fields, unsigned used)
 {
-    return used + (used != CELL);
+    return used + ((used != CELL) | (fields >> 7 & 1));
 }
 
 /* Between fields one after the other and fields at their places: the ones of a mask are at most three groups, each with its shift */
@@ -168,10 +157,10 @@ static inline uint64_t cell_fields(uint64_t cell)
     return spread(cell >> 8 * marked, marked ? lead & 31 : 31) & low_bytes[CELL];
 }
 
-/* A cell in its shortest form, in a word; its length goes to *length. Five fields stand behind no lead byte. */
+/* A cell in its shortest form, in a word; its length goes to *length. Five fields stand behind no lead byte if their note can lead. */
 static inline uint64_t shortest_form(uint64_t fields, unsigned *length)
 {
-    unsigned mask = used_mask(fields), marked = mask != 31;
+    unsigned mask = used_mask(fields), marked = (mask != 31) | (fields >> 7 & 1);
     *length = lengths[EMPTY | mask] - !marked;
     return gathered(fields, mask) << 8 * marked | ((EMPTY | mask) & (0u - marked));
 }
@@ -189,7 +178,7 @@ static inline uint64_t word_of(const uint8_t *from, size_t count)
 struct scan {
     uint64_t refusal; /* 0 if there is none; its place counts from the data's start */
     size_t shortest;  /* bytes of all cells in their shortest form, if measured */
-    bool same;        /* each has its shortest form already */
+    bool same;        /* if as long, each has its shortest form already */
 };
 
 struct stored {
@@ -213,12 +202,13 @@ static inline unsigned empty_run(uint64_t cells)
 
 static inline void measure(struct scan *scan, uint64_t cell)
 {
-    unsigned used = used_count(stored_fields(cell));
-    scan->shortest += shortest_length(used);
+    uint64_t fields = stored_fields(cell);
+    unsigned used = used_count(fields);
+    scan->shortest += shortest_length(fields, used);
     scan->same &= used == shortest_at[cell & 255];
 }
 
-/* Two cells in a turn, or a run of empty ones; stops in front of a bad note. */
+/* Two cells in a turn, or a run of empty ones. */
 static inline void scan_quickly(struct stored *stored, struct scan *scan, bool measured)
 {
     while (has_words(stored)) {
@@ -234,8 +224,6 @@ static inline void scan_quickly(struct stored *stored, struct scan *scan, bool m
         }
         unsigned length = lengths[lead];
         uint64_t second = first >> 8 * length;
-        if ((note_tried(first) | note_tried(second)) > 127)
-            return;
         if (measured) {
             measure(scan, first);
             measure(scan, word(from + length));
@@ -254,8 +242,6 @@ static inline struct scan scan_cells(const uint8_t *data, size_t size, size_t co
         if (stored.at == size || lengths[data[stored.at]] > size - stored.at)
             return (struct scan){refuse(7, stored.at), 0, false};
         uint64_t cell = word_of(data + stored.at, size - stored.at);
-        if (note_tried(cell) > 127)
-            return (struct scan){refuse(9, stored.at), 0, false};
         measure(&scan, cell);
         stored.at += lengths[cell & 255];
     }
@@ -318,27 +304,15 @@ uint64_t fast_unpack(size_t rows, size_t channels, const uint8_t *data, size_t d
 
 /* Packing */
 
-/* Where the bad note is, if there is one. */
-static uint64_t try_notes(const uint8_t *cells, size_t count)
+static size_t measure_cells(const uint8_t *cells, size_t count)
 {
-    for (size_t i = 0; i < count; i++)
-        if (cells[i * CELL] > NOTE_MOST)
-            return refuse(9, i * CELL);
-    return 0;
-}
-
-static struct scan measure_cells(const uint8_t *cells, size_t count)
-{
-    unsigned notes = 0;
-    size_t shortest = 0, i = 0;
-    for (; i + 1 < count; i++) {
-        uint64_t fields = word(cells + i * CELL) & low_bytes[CELL];
-        notes |= (unsigned)(fields & 255) + (127 - NOTE_MOST);
-        shortest += shortest_length(used_count(fields));
+    size_t shortest = 0;
+    for (; count > 1; count--, cells += CELL) {
+        uint64_t fields = word(cells) & low_bytes[CELL];
+        shortest += shortest_length(fields, used_count(fields));
     }
-    notes |= cells[i * CELL] + (127 - NOTE_MOST);
-    shortest += shortest_length(used_count(word_of(cells + i * CELL, CELL)));
-    return (struct scan){notes > 127 ? try_notes(cells, count) : 0, shortest, false};
+    uint64_t last = word_of(cells, CELL);
+    return shortest + shortest_length(last, used_count(last));
 }
 
 /* Writes a word, or what there is room for. */
@@ -374,10 +348,7 @@ uint64_t fast_pack(size_t rows, size_t channels, const uint8_t *cells, size_t ce
     if (!rows_and_channels_fit(rows, channels) || cells_len != rows * channels * CELL)
         return refuse(16, 0);
     size_t count = rows * channels;
-    struct scan scan = measure_cells(cells, count);
-    if (scan.refusal != 0)
-        return scan.refusal;
-    size_t length = scan.shortest == count ? 0 : scan.shortest;
+    size_t shortest = measure_cells(cells, count), length = shortest == count ? 0 : shortest;
     if (length > 65535)
         return refuse(15, 0);
     if (length > out_len)
@@ -440,7 +411,7 @@ static inline uint64_t try_pattern(const uint8_t *file, size_t file_len, size_t 
     size_t count = (size_t)rows * channels;
     struct scan scan = scan_cells(file + pattern->data, size, count, measured);
     pattern->stored = scan.shortest == count ? 0 : (uint32_t)scan.shortest;
-    pattern->same = scan.same;
+    pattern->same = scan.same && scan.shortest == size;
     return scan.refusal == 0 ? 0 : scan.refusal + pattern->data;
 }
 

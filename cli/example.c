@@ -97,7 +97,7 @@ static void put_pattern(unsigned number)
     put_number(0, 1);
     put_number(ROWS, 2);
     put_number(sizeof cells, 2);
-    put(cells, sizeof cells); /* a cell whose first byte is a note is plain */
+    put(cells, sizeof cells); /* plain, as every note is below 128 */
 }
 
 /* A triangle that loses its edge and grows quieter, as differences. */

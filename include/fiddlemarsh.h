@@ -43,11 +43,11 @@
    Stack is what a call takes below its caller's, return address included: the most that was measured on x86-64.
 
        call       stack, bytes    time grows with
-       check               304    file_len: what stands in headers and patterns is read once, sample data are passed over
-       unpack              216    data_len + rows x channels
-       pack                120    cells_len
-       press               448    file_len: as the check, and once more what is written
-       tables              384    file_len: as the check, and once more the headers
+       check               384    file_len: what stands in headers and patterns is read once, sample data are passed over
+       unpack              304    data_len + rows x channels
+       pack                 72    cells_len
+       press               576    file_len: as the check, and once more what is written
+       tables              464    file_len: as the check, and once more the headers
        decode               24    bytes_len
        code                 24    values_len
        period              544    nothing: it is the same for all
@@ -80,10 +80,10 @@
 extern "C" {
 #endif
 
-#define FIDDLEMARSH_VERSION_MAJOR 2
-#define FIDDLEMARSH_VERSION_MINOR 1
+#define FIDDLEMARSH_VERSION_MAJOR 3
+#define FIDDLEMARSH_VERSION_MINOR 0
 #define FIDDLEMARSH_VERSION_PATCH 0
-#define FIDDLEMARSH_VERSION "2.1.0"
+#define FIDDLEMARSH_VERSION "3.0.0"
 
 /* The refusal numbers, and the place that comes with each. */
 enum fiddlemarsh_number {
@@ -105,7 +105,8 @@ enum fiddlemarsh_number {
     FIDDLEMARSH_CELL_CUT = 7,
     /* Bytes are left after a pattern's last cell. Place: the first of them. */
     FIDDLEMARSH_CELLS_LEFT_OVER = 8,
-    /* A note is above 97. Place: the cell's lead byte; in packing, the cell's first byte. */
+    /* No longer given: every note is kept. Before version 3.0.0, a note above 97; place: the cell's lead byte, in packing the cell's
+       first byte. The number stays for those who read old logs. */
     FIDDLEMARSH_NOTE = 9,
     /* An instrument's size is below 29, it has over 16 samples, or its size is below 263 and it has samples.
        Place: the instrument's start. */
@@ -118,7 +119,7 @@ enum fiddlemarsh_number {
     FIDDLEMARSH_SAMPLE_LOOP_OR_LENGTH = 13,
     /* The buffer lent for the answer is too short. Tried last of all: with a longer buffer the call would succeed. Place 0. */
     FIDDLEMARSH_ROOM = 14,
-    /* The packed pattern would exceed 65,535 bytes. Only packing gives it, and only from 52 channels up. Place 0. */
+    /* The packed pattern would exceed 65,535 bytes. Only packing gives it, and only from 43 channels up. Place 0. */
     FIDDLEMARSH_PACKED_TOO_LONG = 15,
     /* An argument is out of its range. Place 0. */
     FIDDLEMARSH_ARGUMENT = 16
@@ -134,7 +135,8 @@ enum fiddlemarsh_number {
 #define FIDDLEMARSH_SAMPLES_MOST 2048 /* of a module: 128 instruments with 16 each */
 #define FIDDLEMARSH_REAL_NOTE_MOST 118 /* of a period: A#9 */
 
-/* Cells: five bytes each (note, instrument, volume, effect, parameter), row by row and in a row channel by channel. */
+/* Cells: five bytes each (note, instrument, volume, effect, parameter), each of any value, row by row and in a row channel by
+   channel. Stored, a cell takes one byte to six. */
 #define FIDDLEMARSH_CELL_BYTES 5
 #define FIDDLEMARSH_CELLS_SIZE(rows, channels) ((size_t)(rows) * (size_t)(channels) * FIDDLEMARSH_CELL_BYTES) /* bytes */
 #define FIDDLEMARSH_CELLS_MOST 81920 /* bytes of the largest pattern's cells, 256 rows of 64 channels */
@@ -170,7 +172,7 @@ enum fiddlemarsh_number {
 
 /* Checks a whole module.
    Returns the end: the place behind the last structure. Bytes from there to file_len are no part of the module.
-   Refusals: 1 to 13. */
+   Refusals: 1 to 8, and 10 to 13. */
 uint64_t fiddlemarsh_check(const uint8_t *file, size_t file_len);
 
 /* Unpacks one pattern's stored data, as it stands in a module, into cells.
@@ -178,14 +180,14 @@ uint64_t fiddlemarsh_check(const uint8_t *file, size_t file_len);
    Returns the rows, and has filled FIDDLEMARSH_CELLS_SIZE(rows, channels) bytes of cells. With data_len 0 every cell is empty,
    and they are filled with 0.
    Room of FIDDLEMARSH_CELLS_MOST bytes is enough for every pattern.
-   Refusals, in this order: 16 (rows, channels or data_len), then 7, 9 and 8 over the data, then 14. */
+   Refusals, in this order: 16 (rows, channels or data_len), then 7 and 8 over the data, then 14. */
 uint64_t fiddlemarsh_unpack(size_t rows, size_t channels, const uint8_t *data, size_t data_len, uint8_t *cells, size_t cells_len);
 
 /* Packs cells, laid out as unpacking gives them, into the shortest stored data.
    rows 1..256, channels 1..64, and cells_len is exactly FIDDLEMARSH_CELLS_SIZE(rows, channels).
    Returns length + 65,536 x rows, and has filled length bytes of out. Where every cell is empty the length is 0.
    Room of FIDDLEMARSH_DATA_MOST bytes is enough for every pattern.
-   Refusals, in this order: 16 (rows, channels or cells_len), 9 over all cells, 15, 14. */
+   Refusals, in this order: 16 (rows, channels or cells_len), 15, 14. */
 uint64_t fiddlemarsh_pack(size_t rows, size_t channels, const uint8_t *cells, size_t cells_len, uint8_t *out, size_t out_len);
 
 /* Presses a module: writes the shortest file of the same content, in one fixed form (see 'Pressed files and players' above).
@@ -383,7 +385,8 @@ static inline const char *fiddlemarsh_refusal_words(uint32_t number)
     case FIDDLEMARSH_CELLS_LEFT_OVER:
         return "the pattern's stored size is too large for its rows: save the module with another tracker";
     case FIDDLEMARSH_NOTE:
-        return "there is no such note as the one at this place, 96 is the highest and 97 is key off: enter it again";
+        return "the note at this place is above 97, which older versions refused: every note is kept now, so check the module "
+               "again";
     case FIDDLEMARSH_INSTRUMENT:
         return "the instrument at this place has over 16 samples, or its header is cut: leave it 16, or save the module with "
                "another tracker";

@@ -12,7 +12,7 @@ words_of() { sed -n "s/^| $1 | .* | \(.*\) |\$/\1/p" "$readme"; }
 printf 'what stood here' >precious
 head -c 400 example.xm >cut.xm
 : >empty.xm
-with_byte badnote.xm 345 142 # the first cell's note: 98
+with_byte badloop.xm 4480 003 # both loop bits of its sample, whose header is at 4466
 
 # Help, version and usage
 fiddlemarsh --help
@@ -130,11 +130,14 @@ with_byte refused.xm 68 000 && refused 5 0 0 ''
 with_byte refused.xm 341 000 && refused 6 336 150 ''
 with_byte refused.xm 341 101 && refused 7 1625 659 ''
 with_byte refused.xm 341 077 && refused 8 1605 645 ''
-with_byte refused.xm 345 142 && refused 9 345 159 ''
 with_byte refused.xm 4230 021 && refused 10 4203 106B ''
 with_byte refused.xm 4232 047 && refused 11 4203 106B ''
 with_byte refused.xm 4483 255 && refused 12 4466 1172 ''
 with_byte refused.xm 4480 003 && refused 13 4466 1172 ''
+ok "number 9, which is no longer given, has words" [ -n "$(words_of 9)" ]
+with_byte high.xm 345 142 # the first cell's note: 98
+fiddlemarsh check high.xm
+ok "a note above 97" exits 0
 
 # The size limit
 cp example.xm limit.xm
@@ -168,11 +171,11 @@ run eval 'program check /dev/fd/4 4<empty.xm'
 ok "an empty file by its number" says '^/dev/fd/4: refused, number 1 at place 0'
 
 # Several files
-fiddlemarsh check example.xm badnote.xm example.xm
+fiddlemarsh check example.xm badloop.xm example.xm
 ok "several files: the worst counts" exits 1
-ok "several files: a line each, in their order, and the count" [ "$(sed 's/[ ,].*//' said | tr '\n' ' ')" = 'example.xm: badnote.xm: example.xm: 3 ' ]
+ok "several files: a line each, in their order, and the count" [ "$(sed 's/[ ,].*//' said | tr '\n' ' ')" = 'example.xm: badloop.xm: example.xm: 3 ' ]
 ok "the count of three" says '^3 files: 2 accepted, 1 refused, 0 troubles$'
-fiddlemarsh check badnote.xm missing.xm badnote.xm example.xm absent.xm
+fiddlemarsh check badloop.xm missing.xm badloop.xm example.xm absent.xm
 ok "trouble counts more than a refusal" exits 2
 ok "the others are checked all the same" says '^5 files: 1 accepted, 2 refused, 2 troubles$'
 run eval 'program check example.xm missing.xm example.xm 2>&1'
@@ -182,9 +185,9 @@ ok "lines and troubles come in the order of the files" [ "$(sed 's/: .*//; s/ .*
 fiddlemarsh check --quiet example.xm
 ok "--quiet of an accepted file" says_nothing
 ok "exits 0" exits 0
-fiddlemarsh check example.xm badnote.xm missing.xm -q
+fiddlemarsh check example.xm badloop.xm missing.xm -q
 ok "-q, behind the files" exits 2
-ok "has the refused one's line alone" [ "$(sed 's/[ ,].*//' said)" = 'badnote.xm:' ]
+ok "has the refused one's line alone" [ "$(sed 's/[ ,].*//' said)" = 'badloop.xm:' ]
 ok "and the trouble" complains '^fiddlemarsh: missing.xm: '
 
 # Names: one line stays one line, and nothing reaches the terminal that it would obey
@@ -219,17 +222,17 @@ ok "a strange OUT" no_control
 
 # Records for scripts
 record() { printf '%s\t' "$1" "$2" "$3" "$4" "$5" "$6" "$7" "$8" && printf '%s' "$9"; }
-fiddlemarsh check --tsv example.xm badnote.xm cut.xm missing.xm behind.xm - <example.xm
+fiddlemarsh check --tsv example.xm badloop.xm cut.xm missing.xm behind.xm - <example.xm
 ok "a record a file, and no count" says_only "$(record accepted 0 accepted - - - 6042 6042 example.xm)
-$(record refused 9 note 345 - - - 6042 badnote.xm)
+$(record refused 13 sample_loop_or_length 4466 - - - 6042 badloop.xm)
 $(record refused 1 cut 336 - 400 - 400 cut.xm)
 $(record trouble - - - - - - - missing.xm)
 $(record accepted 0 accepted - - - 6042 6057 behind.xm)
 $(record accepted 0 accepted - - - 6042 6042 -)"
 ok "the trouble is told as well" complains '^fiddlemarsh: missing.xm: cannot be opened: '
 ok "records leave the status alone" exits 2
-fiddlemarsh check -tq example.xm badnote.xm missing.xm
-ok "--tsv --quiet" says_only "$(record refused 9 note 345 - - - 6042 badnote.xm)
+fiddlemarsh check -tq example.xm badloop.xm missing.xm
+ok "--tsv --quiet" says_only "$(record refused 13 sample_loop_or_length 4466 - - - 6042 badloop.xm)
 $(record trouble - - - - - - - missing.xm)"
 fiddlemarsh check --tsv "$name"
 ok "a strange name in a record" says_only "$(record accepted 0 accepted - - - 6042 6042 "l\"'\\0134 t\\0012\\0033\\0011\\0233[31m\\0302\\0233.xm")"
@@ -253,9 +256,9 @@ fi
 mkdir -p morning/b morning/a/deep morning/c.xm empty
 cp example.xm morning/song.xm
 cp example.xm morning/a/LOUD.XM
-cp badnote.xm morning/a/deep/bad.xm
-cp badnote.xm morning/b/notes.txt
-cp badnote.xm morning/b/xm
+cp badloop.xm morning/a/deep/bad.xm
+cp badloop.xm morning/b/notes.txt
+cp badloop.xm morning/b/xm
 cp example.xm morning/c.xm/in.xm
 ln -s ../../example.xm morning/b/linked.xm
 ln -s .. morning/b/up
@@ -289,7 +292,7 @@ ok "a line that cannot be written" exits 2
 ok "is told" complains '^fiddlemarsh: standard output: cannot be written: No space left on device$'
 run eval 'program --help >/dev/full'
 ok "help that cannot be written" exits 2
-run eval 'program check --quiet badnote.xm missing.xm >/dev/full'
+run eval 'program check --quiet badloop.xm missing.xm >/dev/full'
 ok "a line that could not be written early" complains '^fiddlemarsh: standard output: cannot be written: lines are missing$'
 run eval 'program check example.xm >&-'
 ok "standard output that is closed" exits 2

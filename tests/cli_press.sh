@@ -8,7 +8,7 @@ failing_program=$(realpath "$3") || exit 2
 . ./cli_tools.sh
 
 cp "$failing_program" failing && chmod 755 failing
-with_byte badnote.xm 345 142 # the first cell's note: 98
+with_byte badloop.xm 4480 003 # both loop bits of its sample, whose header is at 4466
 printf 'what stood here' >precious
 cp precious precious.copy
 
@@ -42,15 +42,25 @@ fiddlemarsh press -- -x -y
 ok "names that look like options" is_same pressed.xm ./-y
 ok "no half file" no_half_file
 
+# Every note is kept: 98 as the example stores it, 128 and 255 marked
+with_byte high.xm 345 142 # the first cell's note
+fiddlemarsh press high.xm again.xm
+ok "a note of 98" [ "$(od -A n -t x1 -j 345 -N 4 again.xm)" = ' 87 62 01 50' ]
+for note in 200 377; do
+    with_byte high.xm 346 $note pressed.xm
+    fiddlemarsh press high.xm again.xm
+    ok "a note of $note, octal" is_same again.xm high.xm
+done
+
 # A refusal changes nothing
-fiddlemarsh press badnote.xm precious
+fiddlemarsh press badloop.xm precious
 ok "a refused press" exits 1
-ok "a refused press says why" complains '^badnote.xm: refused, number 9 at place 345 (0x159): there is no such note'
+ok "a refused press says why" complains '^badloop.xm: refused, number 13 at place 4466 (0x1172): the loop of the sample'
 ok "a refused press leaves OUT" is_same precious precious.copy
-fiddlemarsh press badnote.xm new.xm
+fiddlemarsh press badloop.xm new.xm
 ok "a refused press makes no OUT" is_missing new.xm
-fiddlemarsh press badnote.xm badnote.xm
-ok "a refused press in place" [ "$(wc -c <badnote.xm)" -eq 6042 ]
+fiddlemarsh press badloop.xm badloop.xm
+ok "a refused press in place" [ "$(wc -c <badloop.xm)" -eq 6042 ]
 head -c 400 example.xm >cut.xm
 fiddlemarsh press cut.xm precious
 ok "a cut file's length is told" complains '^cut.xm: refused, number 1 at place 336 (0x150) of 400 bytes: '
@@ -122,7 +132,7 @@ ok "a full disk makes no OUT" is_missing new.xm
 mkdir -p morning/a morning/out
 cp example.xm morning/song.xm
 cp example.xm morning/a/other.xm
-cp badnote.xm morning/bad.xm
+cp badloop.xm morning/bad.xm
 cp precious into/bad.xm
 cp precious into/song.xm
 fiddlemarsh press --into into morning/song.xm morning/bad.xm morning/missing.xm morning/a/other.xm
@@ -133,12 +143,12 @@ morning/a/other.xm: 6042 bytes pressed into 2862, written to into/other.xm
 ok "press --into: each file" is_same into/song.xm pressed.xm
 ok "press --into: each file under its own name" is_same into/other.xm pressed.xm
 ok "press --into: a refused one leaves what was there" is_same into/bad.xm precious.copy
-ok "press --into: a refused one is told" complains '^morning/bad.xm: refused, number 9 '
+ok "press --into: a refused one is told" complains '^morning/bad.xm: refused, number 13 '
 ok "press --into: a missing one is told" complains '^fiddlemarsh: morning/missing.xm: cannot be opened: '
 ok "press --into: nothing else is there" [ "$(find into -type f | wc -l)" -eq 3 ]
 fiddlemarsh press -qi into morning/song.xm morning/bad.xm
 ok "press --into --quiet: only what needs a person" [ ! -s said ]
-ok "which is told" complains '^morning/bad.xm: refused, number 9 '
+ok "which is told" complains '^morning/bad.xm: refused, number 13 '
 rm morning/bad.xm
 fiddlemarsh press --into morning/out/ morning
 ok "press --into of a directory" exits 0

@@ -36,6 +36,7 @@ write('renamed.xm', put(example, 17, b'Marsh Lights'))
 write('tracker.xm', put(example, 38, b'fiddlemarsh'))
 write('tempo.xm', put(example, 76, [7]))
 write('sample.xm', put(example, len(example) - 1, [example[-1] ^ 1]))
+write('high.xm', put(pressed, 346, [255]))  # the first cell's note, which is stored marked
 # 31 * 'A' + 'a' and 31 * 'B' + 'B' are one number, so that the sums of the pressed bytes agree
 write('Aa.xm', put(example, 17, b'Aa'))
 write('BB.xm', put(example, 17, b'BB'))
@@ -48,7 +49,7 @@ for name, data in ('silent.xm', b''), ('marked.xm', b'\x80' * 32 * 4), ('zeros.x
     numbers = (32).to_bytes(2, 'little') + len(data).to_bytes(2, 'little')
     write(name, pressed[:silent + 5] + numbers + data + pressed[silent + 9:])
 END
-with_byte badnote.xm 345 142 # the first cell's note: 98
+with_byte badloop.xm 4480 003 # both loop bits of its sample, whose header is at 4466
 head -c 400 example.xm >cut.xm
 
 # Usage
@@ -82,7 +83,7 @@ ok "one file" says_only 'example.xm: alone
 1 file: 1 accepted as 1 song, 0 refused, 0 troubles'
 
 # Other songs: their pressed files are as long
-for name in renamed tracker tempo sample; do
+for name in renamed tracker tempo sample high; do
     fiddlemarsh press $name.xm again.xm
     ok "$name.xm presses to the same length" [ "$(wc -c <again.xm)" -eq 2862 ]
     fiddlemarsh same example.xm $name.xm
@@ -110,43 +111,43 @@ for name in silent marked zeros; do
 done
 
 # Groups, those that are alone, and refused ones
-fiddlemarsh same tempo.xm badnote.xm renamed.xm example.xm sample.xm behind.xm cut.xm header.xm renamed.xm
+fiddlemarsh same tempo.xm badloop.xm renamed.xm example.xm sample.xm behind.xm cut.xm header.xm renamed.xm
 ok "refused ones among others" exits 1
 ok "groups by their first, then the lone, then the refused" [ "$(sed 's/, number.*//' said)" = 'renamed.xm: one song with renamed.xm
 example.xm: one song with behind.xm, header.xm
 tempo.xm: alone
 sample.xm: alone
-badnote.xm: refused
+badloop.xm: refused
 cut.xm: refused
 9 files: 7 accepted as 4 songs, 2 refused, 0 troubles' ]
 ok "a refusal is told as check does" says '^cut.xm: refused, number 1 at place 336 (0x150) of 400 bytes: the file ends before'
-fiddlemarsh same badnote.xm badnote.xm
+fiddlemarsh same badloop.xm badloop.xm
 ok "refused files are no song" says '^2 files: 0 accepted as 0 songs, 2 refused, 0 troubles$'
-ok "each is told" [ "$(grep -c '^badnote.xm: refused, number 9 at place 345' said)" -eq 2 ]
-fiddlemarsh same example.xm missing.xm behind.xm badnote.xm
+ok "each is told" [ "$(grep -c '^badloop.xm: refused, number 13 at place 4466' said)" -eq 2 ]
+fiddlemarsh same example.xm missing.xm behind.xm badloop.xm
 ok "a missing file counts more than a refused one" exits 2
 ok "a missing file is told" complains_only 'fiddlemarsh: missing.xm: cannot be opened: No such file or directory'
 ok "and the others are compared" says '^example.xm: one song with behind.xm$'
-fiddlemarsh same --quiet tempo.xm badnote.xm example.xm behind.xm
+fiddlemarsh same --quiet tempo.xm badloop.xm example.xm behind.xm
 ok "--quiet: what comes twice, and what is refused" [ "$(sed 's/, number.*//' said)" = 'example.xm: one song with behind.xm
-badnote.xm: refused' ]
+badloop.xm: refused' ]
 fiddlemarsh same -q tempo.xm example.xm
 ok "--quiet of other songs" says_nothing
 
 # Records for scripts
 tab=$(printf '\t')
 record() { printf '%s\t' "$1" "$2" "$3" "$4" "$5" "$6" "$7" "$8" "$9" && printf '%s' "${10}"; }
-fiddlemarsh same --tsv tempo.xm badnote.xm example.xm missing.xm sample.xm behind.xm tempo.xm
+fiddlemarsh same --tsv tempo.xm badloop.xm example.xm missing.xm sample.xm behind.xm tempo.xm
 ok "a record a file, in the order given, and no count" says_only "$(record 1 accepted 0 accepted - - - 6042 6042 tempo.xm)
-$(record - refused 9 note 345 - - - 6042 badnote.xm)
+$(record - refused 13 sample_loop_or_length 4466 - - - 6042 badloop.xm)
 $(record 2 accepted 0 accepted - - - 6042 6042 example.xm)
 $(record - trouble - - - - - - - missing.xm)
 $(record 3 accepted 0 accepted - - - 6042 6042 sample.xm)
 $(record 2 accepted 0 accepted - - - 2862 3612 behind.xm)
 $(record 1 accepted 0 accepted - - - 6042 6042 tempo.xm)"
 ok "records leave the status alone" exits 2
-fiddlemarsh same --tsv --quiet tempo.xm badnote.xm example.xm behind.xm missing.xm
-ok "--tsv --quiet leaves out what is alone" [ "$(cut -f 1,2,10 said | tr '\t' ' ')" = '- refused badnote.xm
+fiddlemarsh same --tsv --quiet tempo.xm badloop.xm example.xm behind.xm missing.xm
+ok "--tsv --quiet leaves out what is alone" [ "$(cut -f 1,2,10 said | tr '\t' ' ')" = '- refused badloop.xm
 2 accepted example.xm
 2 accepted behind.xm
 - trouble missing.xm' ]
@@ -235,7 +236,7 @@ if [ -d /proc/self/fd ]; then
     changing cp tempo.xm two.xm
     ok "another that changes is trouble" complains '^fiddlemarsh: two.xm: was changed while files were compared$'
     ok "and the first is one song with the third" says '^one.xm: one song with three.xm$'
-    changing cp badnote.xm two.xm
+    changing cp badloop.xm two.xm
     ok "one that is refused by then" complains '^fiddlemarsh: two.xm: was changed while files were compared$'
     ok "is counted as trouble" says '^4 files: 2 accepted as 1 song, 0 refused, 2 troubles$'
     changing rm three.xm

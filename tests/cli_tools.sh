@@ -62,9 +62,9 @@ is_same() { cmp -s "$1" "$2"; }
 is_missing() { [ ! -e "$1" ]; }
 no_half_file() { [ -z "$(find . -name '.fiddlemarsh*')" ]; }
 
-# A copy of the example with one byte changed: with_byte NAME PLACE OCTAL
+# A copy of the example, or of another file, with one byte changed: with_byte NAME PLACE OCTAL [FILE]
 with_byte() {
-    cp example.xm "$1"
+    cp "${4:-example.xm}" "$1"
     # shellcheck disable=SC2059
     printf "\\$3" | dd of="$1" bs=1 seek="$2" conv=notrunc 2>/dev/null
 }

@@ -50,7 +50,7 @@ static const struct refusal refusals[] = {
     {8, FIDDLEMARSH_CELLS_LEFT_OVER, "cells_left_over",
      "the pattern's stored size is too large for its rows: save the module with another tracker"},
     {9, FIDDLEMARSH_NOTE, "note",
-     "there is no such note as the one at this place, 96 is the highest and 97 is key off: enter it again"},
+     "the note at this place is above 97, which older versions refused: every note is kept now, so check the module again"},
     {10, FIDDLEMARSH_INSTRUMENT, "instrument",
      "the instrument at this place has over 16 samples, or its header is cut: leave it 16, or save the module with another tracker"},
     {11, FIDDLEMARSH_SAMPLE_HEADER_SIZE, "sample_header_size",
@@ -141,7 +141,7 @@ static void test_constants(void)
     MUST(FIDDLEMARSH_SAMPLE_FINETUNE == 0 && FIDDLEMARSH_SAMPLE_RELATIVE_NOTE == 1);
     MUST(strcmp(FIDDLEMARSH_VERSION, TEXT(FIDDLEMARSH_VERSION_MAJOR) "." TEXT(FIDDLEMARSH_VERSION_MINOR) "." TEXT(
                                          FIDDLEMARSH_VERSION_PATCH)) == 0);
-    MUST(FIDDLEMARSH_VERSION_MAJOR == 2 && FIDDLEMARSH_VERSION_MINOR == 1 && FIDDLEMARSH_VERSION_PATCH == 0);
+    MUST(FIDDLEMARSH_VERSION_MAJOR == 3 && FIDDLEMARSH_VERSION_MINOR == 0 && FIDDLEMARSH_VERSION_PATCH == 0);
 }
 
 /* README has a row for each number, which ends with its sentence. */

@@ -113,10 +113,8 @@ void module_put_noise(struct module *module, size_t count, struct chance *chance
 
 void cells_by_chance(uint8_t *cells, size_t count, uint32_t percent, struct chance *chance)
 {
-    for (size_t i = 0; i < 5 * count; i++) {
-        uint32_t most = i % 5 == 0 ? 97 : 255;
-        cells[i] = chance_percent(chance, percent) ? (uint8_t)chance_between(chance, 1, most) : 0;
-    }
+    for (size_t i = 0; i < 5 * count; i++)
+        cells[i] = chance_percent(chance, percent) ? (uint8_t)chance_between(chance, 1, 255) : 0;
 }
 
 static unsigned needed_mask(const uint8_t *cell)
@@ -135,10 +133,16 @@ static void put_marked(struct module *module, const uint8_t *cell, unsigned mask
             *module_extend(module, 1) = cell[field];
 }
 
+/* A note from 128 up would be read as a marked cell's lead byte. */
+static bool can_be_plain(const uint8_t *cell)
+{
+    return cell[0] < 128;
+}
+
 static void put_cell_any_form(struct module *module, const uint8_t *cell, struct chance *chance)
 {
     unsigned high_bits = PICK(chance, 0, 0, 32, 64, 96);
-    switch (chance_below(chance, 4)) {
+    switch (chance_between(chance, can_be_plain(cell) ? 0 : 1, 3)) {
     case 0:
         memcpy(module_extend(module, 5), cell, 5);
         break;
@@ -155,7 +159,7 @@ static void put_cell_any_form(struct module *module, const uint8_t *cell, struct
 
 static void put_cell_shortest(struct module *module, const uint8_t *cell)
 {
-    if (needed_mask(cell) == 31)
+    if (needed_mask(cell) == 31 && can_be_plain(cell))
         memcpy(module_extend(module, 5), cell, 5);
     else
         put_marked(module, cell, needed_mask(cell), 0);
@@ -329,7 +333,7 @@ struct shape shape_by_chance(struct chance *chance, bool large)
     struct shape shape = {0};
     shape.song_length = PICK(chance, 1, 1, 2, 8, 127, 128, 255, 256);
     shape.restart = PICK(chance, 0, 1, shape.song_length - 1, shape.song_length, shape.song_length + 1, 256, 65535);
-    shape.channels = large ? PICK(chance, 1, 4, 31, 32, 33, 51, 52, 63, 64) : PICK(chance, 1, 1, 2, 3, 4, 8);
+    shape.channels = large ? PICK(chance, 1, 4, 31, 32, 33, 42, 43, 63, 64) : PICK(chance, 1, 1, 2, 3, 4, 8);
     shape.patterns = large ? PICK(chance, 1, 2, 5, 255, 256) : PICK(chance, 1, 1, 2, 3, 5);
     shape.instruments = large ? PICK(chance, 0, 1, 16, 127, 128) : PICK(chance, 0, 0, 1, 2, 3);
     shape.header_extra_most = PICK(chance, 0, 0, 1, 60);

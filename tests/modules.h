@@ -73,7 +73,7 @@ void module_put_cells(struct module *module, size_t count, int cells, struct cha
 
 void module_put_noise(struct module *module, size_t count, struct chance *chance);
 
-/* Five bytes to a cell, notes 0..97; 'percent' of the fields are not 0. */
+/* Five bytes to a cell; 'percent' of the fields are not 0. */
 void cells_by_chance(uint8_t *cells, size_t count, uint32_t percent, struct chance *chance);
 
 uint32_t field_get(const uint8_t *bytes, struct field field);

@@ -82,6 +82,13 @@ def every_cell(make):
     return make.header(song=4, restart=4, channels=8) + make.pattern(9, b''.join(forms))
 
 
+def every_note(make):
+    """Each note alone, in a full marked cell, and if it can lead in a full plain one, in one pattern of 64 channels."""
+    forms = [bytes([0x81, note]) for note in range(256)] + [bytes([0x9F, note, 1, 2, 3, 4]) for note in range(256)]
+    forms += [bytes([note, 1, 2, 3, 4]) for note in range(128)]
+    return make.header(channels=64) + make.pattern(10, b''.join(forms))
+
+
 def every_empty(make):
     """64 and 32 empty rows, stored in each way that there is."""
     ways = [b'\x80', b'\xE0', bytes(5), bytes([0x9F, 0, 0, 0, 0, 0])]
@@ -134,7 +141,7 @@ def largest_pattern(make):
     cells = [cell(seed) for seed in make.noise(256 * 64)]
     at, left = 0, 65535 - sum(map(len, cells))
     while left > 0:
-        longer = bytes([0x9F, 1, 0, 0, 0, 0][:min(6, len(cells[at]) + left)])
+        longer = bytes([0x9F, 128 + at % 128, 1, 2, 3, 4][:min(6, len(cells[at]) + left)])
         if len(cells[at]) == 1 and len(longer) == 6:
             left -= 5
             cells[at] = longer
@@ -156,6 +163,10 @@ def most_structures(make):
 VALID = {
     'rows_256_stored': lambda make: make.header(restart=1) + make.pattern(256, [0x80] * 256),
     'every_cell': every_cell,
+    'every_note': every_note,
+    'note_98': lambda make: make.header() + make.pattern(2, [0x80, 0x81, 0x62]),
+    'note_98_plain': lambda make: make.header() + make.pattern(3, [0x62, 0, 0, 0, 0, 0x80, 0x80]),
+    'note_127_plain': lambda make: make.header() + make.pattern(1, [0x7F, 0, 0, 0, 0]),
     'note_98_out_of_step': lambda make: make.header() + make.pattern(2, [0x82, 0x62, 0x8E, 1, 2, 3]),
     'every_empty': every_empty,
     'three_patterns': three_patterns,
@@ -203,10 +214,9 @@ DAMAGED_PATTERN = {
     'cut_marked_cell': lambda make: make.header() + make.pattern(1, [0x83, 0x62]),
     'cut_plain_cell': lambda make: make.header() + make.pattern(1, [0x62, 0, 0, 0]),
     'bytes_left': lambda make: make.header() + make.pattern(1, [0x80, 0x80]),
-    'note_98': lambda make: make.header() + make.pattern(2, [0x80, 0x81, 0x62]),
-    'note_98_plain': lambda make: make.header() + make.pattern(2, [0x62, 0, 0, 0, 0, 0x80, 0x80]),
-    'note_127_plain': lambda make: make.header() + make.pattern(1, [0x7F, 0, 0, 0, 0]),
-    'note_before_header': lambda make: make.header(patterns=2) + make.pattern(1, [0x81, 0x62]) + make.pattern(0),
+    'note_98_left': lambda make: make.header() + make.pattern(2, [0x62, 0, 0, 0, 0, 0x80, 0x80]),
+    'note_98_cut': lambda make: make.header() + make.pattern(3, [0x80, 0x81, 0x62]),
+    'rows_0_behind_a_note': lambda make: make.header(patterns=2) + make.pattern(1, [0x81, 0x62]) + make.pattern(0),
     'second_pattern_cut': lambda make: make.header(patterns=2) + make.pattern(1, [0x80]) + make.pattern(1)[:8],
 }
 

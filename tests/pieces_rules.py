@@ -95,9 +95,7 @@ def read_cells(data, count, base):
         lead = data[at]
         used = 5 if lead < 128 else 1 + bin(lead & 31).count('1')
         need(at + used <= len(data), 7, base + at)
-        fields = fields_of(lead, data[at + 1:at + used])
-        need(fields[0] <= 97, 9, base + at)
-        cells += fields
+        cells += fields_of(lead, data[at + 1:at + used])
         at += used
     need(at == len(data), 8, base + at)
     return bytes(cells)
@@ -112,7 +110,7 @@ def read_stored(rows, channels, data, base):
 
 def shortest_cell(fields):
     kept = bytes(field for field in fields if field)
-    if len(kept) == 5:
+    if len(kept) == 5 and fields[0] < 128:
         return fields
     return bytes([128 + sum(1 << bit for bit in range(5) if fields[bit])]) + kept
 

@@ -20,7 +20,6 @@ enum {
     DATA_MOST = 65535,
     CELL = 5,
     EMPTY_CELL = 128,       /* the lead byte of a marked cell without fields */
-    NOTE_MOST = 97,
     INSTRUMENTS_MOST = 128,
     INSTRUMENT_LEAST = 29,  /* with no samples */
     INSTRUMENT_FULL = 263,  /* with samples */
@@ -103,11 +102,6 @@ static inline uint8_t stored_field(const uint8_t *stored, size_t place, unsigned
     return (uint8_t)(stored[place * there] * there);
 }
 
-static inline uint8_t stored_note(const uint8_t *stored)
-{
-    return stored_field(stored, first_field(stored[0]), stored_mask(stored[0]) & 1);
-}
-
 /* Reads a whole cell into five bytes and returns what it takes. */
 static inline size_t read_cell(const uint8_t *stored, uint8_t *cell)
 {
@@ -129,10 +123,17 @@ static inline unsigned fields_used(const uint8_t *cell)
     return used;
 }
 
-/* A marked cell takes its lead byte too; five fields are shorter plain. */
-static inline size_t shortest_length(unsigned used)
+/* A note from 128 up cannot lead its cell: it would be read as marked. */
+static inline bool can_lead(uint8_t note)
 {
-    return used == CELL ? CELL : 1 + used;
+    return !is_marked(note);
+}
+
+/* A marked cell takes its lead byte too; five fields are shorter plain, if the note can lead them. */
+static inline size_t shortest_length(const uint8_t *cell)
+{
+    unsigned used = fields_used(cell);
+    return used == CELL && can_lead(cell[0]) ? CELL : 1 + used;
 }
 
 /* Writes a cell in its shortest form and returns what it takes. May write a 0 behind that, if 'spare' says there is room. */
@@ -141,7 +142,7 @@ static inline size_t write_cell(const uint8_t *cell, uint8_t *out, bool spare)
     unsigned mask = 0;
     for (unsigned field = 0; field < CELL; field++)
         mask |= (unsigned)(cell[field] != 0) << field;
-    if (mask == 31) {
+    if (mask == 31 && can_lead(cell[0])) {
         memcpy(out, cell, CELL);
         return CELL;
     }
@@ -165,7 +166,7 @@ static inline struct scan scan_refused(uint32_t number, size_t place)
     return (struct scan){refuse(number, place), 0};
 }
 
-/* Tries every cell for 7 and 9, and what is left for 8. 'measure' is always a constant: two loops come of it. */
+/* Tries every cell for 7, and what is left for 8. 'measure' is always a constant: two loops come of it. */
 static inline struct scan scan_cells(const uint8_t *data, size_t size, size_t count, bool measure)
 {
     size_t at = 0;
@@ -181,12 +182,10 @@ static inline struct scan scan_cells(const uint8_t *data, size_t size, size_t co
         size_t length = stored_length(data[at]);
         if (length > size - at)
             return scan_refused(7, at);
-        if (stored_note(data + at) > NOTE_MOST)
-            return scan_refused(9, at);
         if (measure) {
             uint8_t fields[CELL];
             read_cell(data + at, fields);
-            shortest += shortest_length(fields_used(fields));
+            shortest += shortest_length(fields);
         }
         at += length;
     }
@@ -597,17 +596,13 @@ REFERENCE_CALL struct reference_count reference_unpack(size_t rows, size_t chann
     return (struct reference_count){accepted, (uint32_t)rows};
 }
 
-/* Tries every cell for 9; counts the bytes of all cells, each in its shortest form. */
-static struct scan measure_cells(const uint8_t *cells, size_t count)
+/* The bytes of all cells, each in its shortest form. */
+static size_t measure_cells(const uint8_t *cells, size_t count)
 {
     size_t shortest = 0;
-    for (size_t cell = 0; cell < count; cell++) {
-        const uint8_t *fields = cells + cell * CELL;
-        if (fields[0] > NOTE_MOST)
-            return scan_refused(9, cell * CELL);
-        shortest += shortest_length(fields_used(fields));
-    }
-    return (struct scan){accepted, shortest};
+    for (; count > 0; count--, cells += CELL)
+        shortest += shortest_length(cells);
+    return shortest;
 }
 
 /* The last cell is the only one with perhaps no room behind it. */
@@ -624,10 +619,7 @@ REFERENCE_CALL struct reference_packed reference_pack(size_t rows, size_t channe
     if (!rows_and_channels_fit(rows, channels) || cells_len != rows * channels * CELL)
         return (struct reference_packed){.refusal = refuse(16, 0)};
     size_t count = rows * channels;
-    struct scan scan = measure_cells(cells, count);
-    if (scan.refusal.number != 0)
-        return (struct reference_packed){.refusal = scan.refusal};
-    uint32_t length = pattern_stored(count, scan.shortest);
+    uint32_t length = pattern_stored(count, measure_cells(cells, count));
     if (length > DATA_MOST)
         return (struct reference_packed){.refusal = refuse(15, 0)};
     if (length > out_len)

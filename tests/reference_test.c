@@ -123,6 +123,50 @@ static void silence_packs_to_nothing(void)
     cells[1] = 0;
 }
 
+/* One cell: what it packs to, and that this reads as it. */
+static void cell_packs_to(const uint8_t cell[5], const uint8_t *stored, size_t length)
+{
+    uint8_t out[6], read[5];
+    must(reference_pack(1, 1, cell, 5, out, length - 1).refusal.number == 14);
+    must(reference_pack(1, 1, cell, 5, out, length).length == length && memcmp(out, stored, length) == 0);
+    must(reference_unpack(1, 1, stored, length, read, 5).count == 1 && memcmp(read, cell, 5) == 0);
+}
+
+static void every_note_is_kept(void)
+{
+    for (unsigned note = 1; note < 256; note++) {
+        const uint8_t alone[] = {(uint8_t)note, 0, 0, 0, 0}, alone_stored[] = {0x81, (uint8_t)note};
+        const uint8_t tie[] = {(uint8_t)note, 2, 3, 4, 0}, tie_stored[] = {0x8F, (uint8_t)note, 2, 3, 4};
+        const uint8_t full[] = {(uint8_t)note, 2, 3, 4, 5}, full_stored[] = {0x9F, (uint8_t)note, 2, 3, 4, 5};
+        uint8_t read[5];
+        cell_packs_to(alone, alone_stored, 2);
+        cell_packs_to(tie, tie_stored, 5);
+        cell_packs_to(full, note < 128 ? full : full_stored, note < 128 ? 5 : 6);
+        must(reference_unpack(1, 1, full_stored, 6, read, 5).count == 1 && memcmp(read, full, 5) == 0);
+        if (note < 128)
+            must(reference_unpack(1, 1, alone, 5, read, 5).count == 1 && memcmp(read, alone, 5) == 0);
+    }
+    const uint8_t none[] = {0, 2, 3, 4, 5}, none_stored[] = {0x9E, 2, 3, 4, 5};
+    cell_packs_to(none, none_stored, 5);
+}
+
+/* 256 rows of full cells, of six bytes each: 64,512 at 42 channels, 66,048 at 43. */
+static void fifteen_starts_at_43_channels(void)
+{
+    static uint8_t cells[256 * 64 * 5], out[65535];
+    memset(cells, 255, sizeof cells);
+    struct reference_packed most = reference_pack(256, 42, cells, 256 * 42 * 5, out, 64512);
+    must(most.refusal.number == 0 && most.length == 64512 && most.rows == 256 && out[64506] == 0x9F && out[64511] == 255);
+    must(reference_pack(256, 42, cells, 256 * 42 * 5, out, 64511).refusal.number == 14);
+    must(reference_pack(256, 43, cells, 256 * 43 * 5, out, sizeof out).refusal.number == 15);
+    must(reference_pack(256, 43, cells, 256 * 43 * 5, NULL, 0).refusal.number == 15);
+    for (size_t cell = 0; cell < 513; cell++) /* 66,048 - 513 = 65,535 */
+        cells[5 * cell] = 127;
+    must(reference_pack(256, 43, cells, 256 * 43 * 5, out, sizeof out).length == 65535);
+    cells[0] = 128;
+    must(reference_pack(256, 43, cells, 256 * 43 * 5, out, sizeof out).refusal.number == 15);
+}
+
 /* A module laid out by hand */
 
 #define PUT(place, width, number) field_put(file, (struct field){place, width}, number)
@@ -381,6 +425,8 @@ int main(void)
     deltas_have_a_limit();
     no_data_keep_their_rows();
     silence_packs_to_nothing();
+    every_note_is_kept();
+    fifteen_starts_at_43_channels();
     tables_of_the_hand_module();
     flat_tables_of_the_hand_module();
     a_short_table_leaves_all_alone();

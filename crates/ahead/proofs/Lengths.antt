@@ -1,19 +1,16 @@
--- Laws of a cell's length by sixteen lengths in one number, and of its note by its first two bytes. Assumes nothing.
+-- Laws of a cell's length by sixteen lengths in one number. Assumes nothing.
 use Prim.Native.Nat.{ℕ, zero, suc, _+_, _*_, _/_, _%_, _^_, _≤_, _<_}
 use mathlib.Core.Bool.{Bool, true, false, cond}
 use mathlib.Core.List.{List, [], _∷_}
-use mathlib.Core.Path.{_≡_, refl, sym, ap, ap₂, _∙_}
+use mathlib.Core.Path.{_≡_, refl, sym, ap, _∙_}
 use native.Mathlib.Nat.{add-zero, zero-add, add-suc, suc-add, le-of-suc-le-suc, not-suc-le-zero}
 use native.Mathlib.Omega.{arith}
-use borrow.Author.Tests.{ltb-true, ltb-false, eqb-true, eqb-false}
+use borrow.Author.Tests.{eqb-true, eqb-false}
 use lib.Count.{ones, onesIn, ones-le}
 use lib.Dec.{ltb, eqb}
-use lib.ListN.{getD, drop}
-use lib.Seq.{drop-drop}
-use Rattle.xm.specs.Cell.{lengthBy, cellAt}
-use Rattle.xm.proofs.Cell.{cell-plain, cell-marked, fields-five}
-use Rattle.xm.proofs.Lay.{head-at}
-use Rattle.ahead.specs.Ahead.{lengthsBy, noteBy}
+use lib.ListN.{getD}
+use Rattle.xm.specs.Cell.{lengthBy}
+use Rattle.ahead.specs.Ahead.{lengthsBy}
 
 -- Two rules with the same first values
 tabulate : (ℕ → ℕ) → (from count : ℕ) → List ℕ
@@ -66,19 +63,3 @@ length-six lead = go (ltb lead 128)
     go : (t : Bool) → cond t 5 (1 + ones (lead % 32)) ≤ 6
     go true = omega arith
     go false = omega (arith, ones-le 5 (lead % 32) (omega arith))
-
--- The note
-pub note-at : (place : ℕ) (s : List ℕ) → noteBy (getD s place 0) (getD s (place + 1) 0) ≡ getD (cellAt (drop place s)) 0 0
-unfolding noteBy
-note-at place s = go (ltb (getD s place 0) 128) refl
-  where
-    lead : getD (drop place s) 0 0 ≡ getD s place 0
-    lead = head-at place s 0
-
-    go : (t : Bool) → ltb (getD s place 0) 128 ≡ t
-        → cond t (getD s place 0) (cond (eqb (getD s place 0 % 2) 0) 0 (getD s (place + 1) 0)) ≡ getD (cellAt (drop place s)) 0 0
-    go true p =
-        sym (ap (λ (l : List ℕ). getD l 0 0) (cell-plain (drop place s) (omega (arith, lead, ltb-true (getD s place 0) 128 p))) ∙ lead)
-    go false p =
-        sym (ap (λ (l : List ℕ). getD l 0 0) (cell-marked (drop place s) (omega (arith, lead, ltb-false (getD s place 0) 128 p)) ∙ fields-five (getD (drop place s) 0 0) (drop place s))
-        ∙ ap₂ (λ (x y : ℕ). cond (eqb (x % 2) 0) 0 y) lead (ap (λ (l : List ℕ). getD l 0 0) (drop-drop 1 place s) ∙ head-at (place + 1) s 0))

@@ -1,2 +1,4 @@
 pub mod Lengths
 pub mod Run
+pub mod Fill
+pub mod Walk

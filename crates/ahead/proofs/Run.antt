@@ -10,10 +10,10 @@ use lib.Count.{under, trailingZeros}
 use lib.Dec.{ltb}
 use lib.ListN.{length, getD, drop}
 use Rattle.xm.specs.Got.{got}
-use Rattle.xm.specs.Cell.{noteMost, lengthBy, cellAt, readCell}
-use Rattle.cell.proofs.ReadLaws.{read-got-at, empty-length, empty-cell}
-use Rattle.ahead.specs.Ahead.{eightAt, byteIn, Empties, EmptyRun, behind, AheadOf, noteBy}
-use Rattle.ahead.proofs.Lengths.{length-six, note-at}
+use Rattle.xm.specs.Cell.{lengthBy, cellAt, readCell}
+use Rattle.cell.proofs.ReadLaws.{read-got-at, empty-length}
+use Rattle.ahead.specs.Ahead.{eightAt, byteIn, Empties, EmptyRun, behind, AheadOf}
+use Rattle.ahead.proofs.Lengths.{length-six}
 
 -- A number whose lowest binary digits are 0
 trailing-times : (j k n : ℕ) → j ≤ trailingZeros k n → (q : ℕ) × (n ≡ 2 ^ j * q)
@@ -84,7 +84,7 @@ run-of word x e = record { few = few (ltb (trailingZeros 64 x) 64) refl; all = b
         omega arith
     byte (suc (suc (suc (suc (suc (suc (suc i))))))) h = absurd (omega (arith, few (ltb (trailingZeros 64 x) 64) refl))
 
-pub run-at : (s : List ℕ) (place word count : ℕ) → ((i : ℕ) → getD s i 0 ≤ 255) → word ≡ eightAt s place → Empties word count → EmptyRun s place count
+run-at : (s : List ℕ) (place word count : ℕ) → ((i : ℕ) → getD s i 0 ≤ 255) → word ≡ eightAt s place → Empties word count → EmptyRun s place count
 run-at s place word count small e r =
     let few = r .few in
     record { few = few; all = λ i h. sym (byte-at s place word small e i (omega arith)) ∙ r .all i h }
@@ -93,9 +93,6 @@ run-at s place word count small e r =
 module _ (s : List ℕ) (place word : ℕ) (small : (i : ℕ) → getD s i 0 ≤ 255) (e : word ≡ eightAt s place) where
   pub lead-at : word % 256 ≡ getD s place 0
   lead-at = omega (arith, small place, small (place + 1), small (place + 2), small (place + 3), small (place + 4), small (place + 5), small (place + 6), small (place + 7))
-
-  pub second-at : word / 256 % 256 ≡ getD s (place + 1) 0
-  second-at = omega (arith, small place, small (place + 1), small (place + 2), small (place + 3), small (place + 4), small (place + 5), small (place + 6), small (place + 7))
 
   last-at : (k bits : ℕ) → k ≤ 7 → bits ≡ 8 * k → place + bits / 8 + lengthBy (word / 2 ^ bits % 256) ≡ place + bits / 8 + lengthBy (getD s (place + bits / 8) 0)
   last-at k bits h b =
@@ -130,12 +127,11 @@ module _ (s : List ℕ) (place word : ℕ) (small : (i : ℕ) → getD s i 0 ≤
 pub read-empty : (place : ℕ) (s : List ℕ) → getD s place 0 ≡ 128 → place < length s → readCell place (drop place s) ≡ got (cellAt (drop place s)) 1
 read-empty place s e h =
     let one = empty-length place s e in
-    read-got-at place s (omega arith) (rw (empty-cell place s e) (omega arith)) ∙ ap (got (cellAt (drop place s))) one
+    read-got-at place s (omega arith) ∙ ap (got (cellAt (drop place s))) one
 
 -- A cell where six bytes stand
-pub read-six : (place : ℕ) (s : List ℕ) → place + 6 ≤ length s → noteBy (getD s place 0) (getD s (place + 1) 0) ≤ noteMost
-    → readCell place (drop place s) ≡ got (cellAt (drop place s)) (lengthBy (getD s place 0))
-read-six place s wide note = read-got-at place s (omega (arith, length-six (getD s place 0))) (omega (arith, note-at place s))
+pub read-six : (place : ℕ) (s : List ℕ) → place + 6 ≤ length s → readCell place (drop place s) ≡ got (cellAt (drop place s)) (lengthBy (getD s place 0))
+read-six place s wide = read-got-at place s (omega (arith, length-six (getD s place 0)))
 
 -- What holds in front of empty cells, and then behind each of them, holds behind all
 pub run-over : (P : ℕ → Type 0) (s : List ℕ) (place k : ℕ) → ((i : ℕ) → i < k → getD s (place + i) 0 ≡ 128) → P 0

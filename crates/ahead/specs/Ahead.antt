@@ -1,5 +1,5 @@
--- For the fast loops: eight bytes at once, empty cells in a row, two cells ahead, and a cell's note.
-use Prim.Native.Nat.{ℕ, _+_, _*_, _/_, _%_, _^_, _<_, _≤_}
+-- For the fast loops: eight bytes at once, empty cells in a row, and two cells ahead; and the cells that begin in a block of bytes.
+use Prim.Native.Nat.{ℕ, zero, suc, _+_, _*_, _/_, _%_, _^_, _<_, _≤_}
 use mathlib.Core.Bool.{cond}
 use mathlib.Core.List.{List}
 use mathlib.Core.Path.{_≡_}
@@ -51,6 +51,32 @@ pub record AheadOf (s : List ℕ) (place : ℕ) (r : Ahead) : Type 0 where
   pub next : r .next ≡ r .last + lengthBy (getD s (r .last) 0)
   pub reach : r .next ≤ place + 13
 
--- A cell's note, of its lead byte and the next one.
-abbrev pub noteBy : (lead second : ℕ) → ℕ
-noteBy lead second = cond (ltb lead markedFrom) lead (cond (eqb (lead % 2) 0) 0 second)
+-- A block of bytes, or what there is of one.
+abbrev pub blockSize : ℕ
+blockSize = 64
+
+pub record BlockOf (rest size : ℕ) : Type 0 where
+  pub most : size ≤ blockSize
+  pub inside : size ≤ rest
+  pub some : 0 < rest → 0 < size
+
+-- Of a block's row so many numbers, from the first on, are those of a rule.
+pub record Follows (rule : ℕ → ℕ) (size : ℕ) (row : List ℕ) : Type 0 where
+  pub long : length row ≡ blockSize
+  pub right : (i : ℕ) → i < size → getD row i 0 ≡ rule i
+
+-- The lengths of the cells that the bytes from a place on would lead.
+abbrev pub lengthsFrom : List ℕ → (place : ℕ) → ℕ → ℕ
+lengthsFrom s place i = lengthBy (getD s (place + i) 0)
+
+-- Where a walk through a block ended: how far in, how many cells are left, and what those passed came to.
+pub record Walked (S : Type 0) : Type 0 where
+  pub at : ℕ
+  pub left : ℕ
+  pub state : S
+
+-- From one cell to the next, as long as one begins in the block and there are cells left.
+unfoldable pub walked : {S : Type 0} → (pass : (at : ℕ) → S → S) (lengths : List ℕ) (size left at : ℕ) → S → Walked S
+walked pass lengths size zero at state = record { at = at; left = 0; state = state }
+walked pass lengths size (suc left) at state =
+    cond (ltb at size) (walked pass lengths size left (at + getD lengths at 0) (pass at state)) (record { at = at; left = suc left; state = state })

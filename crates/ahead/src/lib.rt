@@ -1,11 +1,11 @@
-// What the fast loops stand on: eight bytes at once, empty cells among them, and two cells ahead.
+// What the fast loops stand on: eight bytes at once, empty cells among them, and two cells ahead; and the lengths of a block of bytes.
 use cell::read::chosen;
 use slices::read::wide;
 ghost use mathlib.Core.Path.{_≡_};
 ghost use Prim.Native.Nat.{_+_, _*_, _/_, _%_, _≤_};
-ghost use lib.ListN.{length, getD};
+ghost use lib.ListN.{length};
 ghost use Rattle.xm.specs.Cell.{lengthBy};
-ghost use Rattle.ahead.specs.Ahead.{eightAt, WordAt, Empties, AheadOf, behind, lengthsBy, noteBy};
+ghost use Rattle.ahead.specs.Ahead.{eightAt, WordAt, Empties, AheadOf, behind, lengthsBy, blockSize, BlockOf, Follows, lengthsFrom};
 
 // Of cells from a place on: how many stand in front of the last one, where that stands, and what follows it.
 pub struct Ahead {
@@ -48,7 +48,7 @@ pub fn first_word(stored: &[u8]) -> u64
 }
 
 // How many of a word's first seven bytes, from the first on, are empty cells: less seven times 128, they are the zero bytes below.
-pub fn empty_run(word: u64) -> usize
+fn empty_run(word: u64) -> usize
     ensures { λ r. ⌜ Empties word r ⌝ }
 {
     let rest = word % 72057594037927936 + 9187201950435737472;
@@ -75,14 +75,6 @@ fn cell_bits(word: u64) -> u64
 {
     let lengths = lengths_by(word);
     (lengths >> (word % 16 * 4)) % 16 * 8
-}
-
-// The bytes that a cell takes.
-pub fn length_by(lead: u8) -> usize
-    ensures { λ r. ⌜ r ≡ lengthBy lead ⌝ }
-{
-    let bits = cell_bits(wide(lead));
-    (bits / 8) as usize
 }
 
 // The cell behind some bits of a word, and what follows it.
@@ -113,23 +105,31 @@ pub fn look_ahead(stored: &[u8], place: usize, word: u64) -> Ahead
     ahead_by(word, place, 1, cell_bits(word))
 }
 
-// A cell's note, of its lead byte and the next one.
-fn note_by(lead: u8, second: u8) -> u8
-    ensures { λ r. ⌜ r ≡ noteBy lead second ⌝ }
+// The bytes of a block, of which there are not always so many.
+pub fn block_of(rest: usize) -> usize
+    ensures { λ r. ⌜ BlockOf rest r ⌝ }
 {
-    chosen(lead < 128, lead, chosen(lead % 2 == 0, 0, second))
+    if rest < 64 { rest } else { 64 }
 }
 
-// The note of a word's first cell, and of the cell at a place.
-pub fn first_note(word: u64) -> u8
-    ensures { λ r. ⌜ r ≡ noteBy (word % 256) (word / 256 % 256) ⌝ }
+// The length of the cell that a byte would lead, in a byte: so that many are worked out at once.
+fn length_in_byte(lead: u8) -> u8
+    ensures { λ r. ⌜ r ≡ lengthBy lead ⌝ }
 {
-    note_by((word % 256) as u8, (word / 256 % 256) as u8)
+    let marked = 1 + u8::count_ones(lead & 31) as u8;
+    chosen(lead < 128, 5, marked)
 }
 
-pub fn note_at(stored: &[u8], place: usize) -> u8
-    requires { ⌜ place + 2 ≤ length (now stored) ⌝ }
-    ensures { λ r. ⌜ r ≡ noteBy (getD (now (stored .entry)) place 0) (getD (now (stored .entry)) (place + 1) 0) ⌝ }
+// The lengths of the cells that the bytes from a place on would lead, whatever they are.
+pub fn fill_lengths(stored: &[u8], place: usize, size: usize, lengths: &mut [u8; 64])
+    requires { ⌜ place + size ≤ length (now stored) ⌝ }
+    requires { ⌜ size ≤ blockSize ⌝ }
+    requires { ⌜ length (now lengths) ≡ blockSize ⌝ }
+    ensures { λ _. ⌜ Follows (lengthsFrom (now (stored .entry)) place) size (now (lengths .exit)) ⌝ }
 {
-    note_by(stored[place], stored[place + 1])
+    let mut i: usize = 0;
+    while i < size {
+        lengths[i] = length_in_byte(stored[place + i]);
+        i += 1;
+    }
 }

@@ -7,17 +7,15 @@ use mathlib.Core.List.{List, [], _∷_, _++_, append-assoc, append-nil}
 use native.Mathlib.Nat.{add-zero}
 use native.Mathlib.Numerals.{add-one}
 use native.Mathlib.Omega.{arith}
-use borrow.Author.Tests.{eqb-true, eqb-false}
 use borrow.Rule.Slice.PartMut.{putMid}
-use lib.Dec.{eqb}
 use lib.ListN.{length, take, drop, set, length-append, length-drop, length-set}
 use lib.Seq.{drop-drop, length-take-le, take-set-le, drop-set-lt, take-suc-set, take-append-add, drop-append-add}
 use Rattle.xm.specs.Lay.{lay}
-use Rattle.xm.specs.Cell.{bit, kept, marks, kepts, marked, writeCell}
+use Rattle.xm.specs.Cell.{bit, kept, marks, kepts, marked, plainBy, writeCell}
 use Rattle.xm.proofs.Cell.{kept-length}
 use Rattle.xm.proofs.Lay.{part-back, part-all, Laid}
 use Rattle.cell.specs.Over.{overMost, Over}
-use Rattle.cell.proofs.WriteLaws.{count-plain, count-marked, kepts-full, lead-full, lead-less}
+use Rattle.cell.proofs.WriteLaws.{count-plain, count-marked, plain-kept}
 
 -- What stands in front, up to `to`, and what is still to come make up the goal
 pub record PutOver (lent goal out : List ℕ) (to : ℕ) (rest : List ℕ) : Type 0 where
@@ -47,14 +45,15 @@ over-done {goal = goal} {out} {to} p =
     let all : to ≡ length goal = omega (arith, p .ends) in
     (all, record { front = ap (λ (n : ℕ). take n out) (sym all) ∙ sym (append-nil (take to out)) ∙ p .holds; beyond = p .beyond })
 
--- The first field goes over the lead byte if all five bits are set there, else behind it
-module _ (lent : List ℕ) (a b c d e lead place : ℕ) (isLead : lead ≡ 128 + marks (a ∷ b ∷ c ∷ d ∷ e ∷ [])) (isPlace : place ≡ cond (eqb lead 159) 0 1) where
+-- The note goes over the lead byte if the cell goes plain, else behind it
+module _ (lent : List ℕ) (a b c d e lead place : ℕ) (isLead : lead ≡ 128 + marks (a ∷ b ∷ c ∷ d ∷ e ∷ []))
+    (isPlace : place ≡ cond (plainBy a (length (kepts (a ∷ b ∷ c ∷ d ∷ e ∷ [])))) 0 1) where
   abbrev cell : List ℕ
   cell = a ∷ b ∷ c ∷ d ∷ e ∷ []
 
   pub over-first : overMost ≤ length lent → PutOver lent (writeCell cell) (set lent 0 lead) place (kepts cell)
   unfolding marked
-  over-first room = go (eqb lead 159) refl isPlace
+  over-first room = go (plainBy a (length (kepts cell))) refl isPlace
     where
       put : take place (set lent 0 lead) ++ kepts cell ≡ writeCell cell → place ≤ 1 → PutOver lent (writeCell cell) (set lent 0 lead) place (kepts cell)
       put same h = record {
@@ -64,13 +63,11 @@ module _ (lent : List ℕ) (a b c d e lead place : ℕ) (isLead : lead ≡ 128 +
         long = length-set lent 0 lead;
       }
 
-      go : (t : Bool) → eqb lead 159 ≡ t → place ≡ cond t 0 1 → PutOver lent (writeCell cell) (set lent 0 lead) place (kepts cell)
-      go true t z =
-          let full = lead-full a b c d e lead isLead (eqb-true lead 159 t) in
-          put (rw z (kepts-full cell full ∙ sym (count-plain cell full))) (omega arith)
+      go : (t : Bool) → plainBy a (length (kepts cell)) ≡ t → place ≡ cond t 0 1 → PutOver lent (writeCell cell) (set lent 0 lead) place (kepts cell)
+      go true t z = put (rw z (plain-kept cell refl t ∙ sym (count-plain cell t))) (omega arith)
       go false t z =
           put (ap (λ (n : ℕ). take n (set lent 0 lead) ++ kepts cell) z ∙ ap (λ (l : List ℕ). l ++ kepts cell) (take-suc-set lent 0 lead (omega arith))
-          ∙ ap (λ (v : ℕ). v ∷ kepts cell) isLead ∙ sym (count-marked cell (lead-less a b c d e lead isLead (eqb-false lead 159 t)))) (omega arith)
+          ∙ ap (λ (v : ℕ). v ∷ kepts cell) isLead ∙ sym (count-marked cell t)) (omega arith)
 
 -- A piece written so in front of a lent part, by a writer that has six bytes and more to write
 pub laid-over : {lent goal out rest : List ℕ} {to : ℕ} → Laid lent goal out to rest → (w rest′ : List ℕ) {ys : List ℕ} {next : ℕ}

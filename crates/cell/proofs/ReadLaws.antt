@@ -12,8 +12,8 @@ use lib.Dec.{ltb}
 use lib.ListN.{length, getD, drop, replicate, length-drop}
 use lib.Seq.{drop-drop, getD-drop}
 use Rattle.xm.specs.Got.{got, refused, _at_}
-use Rattle.xm.specs.Cell.{noteMost, five, lengthBy, fieldBy, fieldsBy, needed, cellAt, readCell, kepts}
-use Rattle.xm.proofs.Cell.{five-same, kepts-sum, ones-five, length-plain, length-marked, cell-plain, cell-marked, length-some, cell-length, fields-at, read-short, read-note, read-got, cell-read}
+use Rattle.xm.specs.Cell.{five, lengthBy, fieldBy, fieldsBy, needed, cellAt, readCell, kepts}
+use Rattle.xm.proofs.Cell.{five-same, kepts-sum, ones-five, length-plain, length-marked, cell-plain, cell-marked, length-some, cell-length, fields-at, read-short, read-got, cell-read}
 use Rattle.xm.proofs.Lay.{head-at}
 use Rattle.xm.proofs.Got.{got-both}
 use Rattle.refusal.specs.declared.Step.{Step}
@@ -41,7 +41,7 @@ kept-fields cell = sym (kepts-sum (cell .note) (cell .instrument) (cell .volume)
 pub kept-of : (s : List ℕ) {cell : Cell} → cell ≡ cellOf (cellAt s) → keptCount cell ≡ length (kepts (cellAt s))
 kept-of s {cell} e = kept-fields cell ∙ ap (λ (l : List ℕ). length (kepts l)) (fields-of s e)
 
--- The three answers of reading the cell at a place
+-- The two answers of reading the cell at a place
 module _ (place : ℕ) (s : List ℕ) where
   needed-at : needed (drop place s) ≡ lengthBy (getD s place 0)
   needed-at = ap lengthBy (head-at place s 0)
@@ -49,12 +49,8 @@ module _ (place : ℕ) (s : List ℕ) where
   pub read-short-at : length s < place + lengthBy (getD s place 0) → readCell place (drop place s) ≡ refused (7 at place)
   read-short-at h = read-short place (drop place s) (omega (arith, needed-at, length-drop place s, length-some (getD s place 0)))
 
-  module _ (fits : place + lengthBy (getD s place 0) ≤ length s) where
-    pub read-note-at : noteMost < getD (cellAt (drop place s)) 0 0 → readCell place (drop place s) ≡ refused (9 at place)
-    read-note-at n = read-note place (drop place s) (omega (arith, needed-at, length-drop place s)) n
-
-    pub read-got-at : getD (cellAt (drop place s)) 0 0 ≤ noteMost → readCell place (drop place s) ≡ got (cellAt (drop place s)) (lengthBy (getD s place 0))
-    read-got-at n = read-got place (drop place s) (omega (arith, needed-at, length-drop place s)) n ∙ ap (got (cellAt (drop place s))) needed-at
+  pub read-got-at : place + lengthBy (getD s place 0) ≤ length s → readCell place (drop place s) ≡ got (cellAt (drop place s)) (lengthBy (getD s place 0))
+  read-got-at fits = read-got place (drop place s) (omega (arith, needed-at, length-drop place s)) ∙ ap (got (cellAt (drop place s))) needed-at
 
 -- An empty cell: one byte, five zeros
 module _ (place : ℕ) (s : List ℕ) (e : getD s place 0 ≡ 128) where
@@ -162,9 +158,6 @@ last-field bits s = refl
 module _ (place : ℕ) (s : List ℕ) {first : Field} (f : FirstField (getD s place 0) place first) where
   pub cell-first : cellAt (drop place s) ≡ fieldsBy 5 (first .bits) (drop (first .place) s)
   cell-first = rw (f .bits, f .place) (cell-bits place s)
-
-  pub note-first : getD (cellAt (drop place s)) 0 0 ≡ fieldBy (first .bits) (drop (first .place) s)
-  note-first = ap (λ (l : List ℕ). getD l 0 0) (cell-first ∙ fields-at 4 (first .bits) (first .place) s)
 
   pub cell-fields : {second third fourth fifth : Field} → NextField first second → NextField second third → NextField third fourth → NextField fourth fifth
       → cellAt (drop place s)

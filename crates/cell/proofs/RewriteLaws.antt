@@ -12,14 +12,14 @@ use lib.ListN.{length, getD, take, drop, set, length-append}
 use lib.Seq.{length-take-le, take-set-le, drop-set-lt}
 use Rattle.xm.specs.Answer.{inFront}
 use Rattle.xm.specs.Lay.{lay}
-use Rattle.xm.specs.Cell.{five, bit, fieldBy, fieldsBy, cellAt, marks, kepts, marked, writeCell}
-use Rattle.xm.proofs.Cell.{kept-length, marks-sum, kepts-most, fields-at, fields-stored, cell-length}
-use Rattle.xm.proofs.Lay.{Laid, laid-done, laid-long}
+use Rattle.xm.specs.Cell.{five, bit, fieldBy, fieldsBy, cellAt, marks, kepts, marked, plainBy, writeCell}
+use Rattle.xm.proofs.Cell.{kept-length, marks-sum, fields-at, fields-stored, few-marked}
+use Rattle.xm.proofs.Lay.{head-at, Laid, laid-done, laid-long}
 use Rattle.cell.specs.declared.read.Field.{Field}
 use Rattle.cell.specs.Read.{FirstField, NextField}
 use Rattle.cell.specs.Over.{overMost, Over}
 use Rattle.cell.proofs.ReadLaws.{plain-fields, cell-first, Inside}
-use Rattle.cell.proofs.WriteLaws.{count-plain, count-marked, kepts-full}
+use Rattle.cell.proofs.WriteLaws.{count-plain, count-marked, plain-kept}
 use Rattle.cell.proofs.Over.{PutOver, over-done}
 
 -- Five bits that are all set, one by one
@@ -63,7 +63,7 @@ ones-more : (count b : ℕ) → suc count ≤ onesIn (suc count) b → (b % 2 �
 unfolding onesIn
 ones-more count b h = let m = ones-most count (b / 2) in (omega arith, omega arith)
 
-ones-all : (b : ℕ) → 5 ≤ onesIn 5 b → b % 32 ≡ 31
+pub ones-all : (b : ℕ) → 5 ≤ onesIn 5 b → b % 32 ≡ 31
 ones-all b h =
     let q₁ = ones-more 4 b h in
     let q₂ = ones-more 3 (b / 2) (q₁ .1) in
@@ -98,21 +98,16 @@ ones-none : (b : ℕ) → onesIn 0 b ≡ 0
 unfolding onesIn
 ones-none b = refl
 
-pub five-inside : {field : Field} {n : ℕ} → Inside 5 field n → field .bits % 32 ≡ 31 → field .place + 5 ≤ n
-five-inside {field} i h =
-    let b = field .bits in
+pub all-ones : (b : ℕ) → b % 32 ≡ 31 → onesIn 5 b ≡ 5
+all-ones b h =
     let q₁ = odd₃₂ b h in
     let q₂ = odd₁₆ (b / 2) (q₁ .1) in
     let q₃ = odd₈ (b / 2 / 2) (q₂ .1) in
     let q₄ = odd₄ (b / 2 / 2 / 2) (q₃ .1) in
-    let all : onesIn 5 b ≡ 1 + (1 + (1 + (1 + (1 + 0)))) =
-    rw (ones-next 4 b (q₁ .0), ones-next 3 (b / 2) (q₂ .0), ones-next 2 (b / 2 / 2) (q₃ .0), ones-next 1 (b / 2 / 2 / 2) (q₄ .0), ones-next 0 (b / 2 / 2 / 2 / 2) (q₄ .1), ones-none) in
-    omega (arith, i .ends)
+    rw (ones-next 4 b (q₁ .0), ones-next 3 (b / 2) (q₂ .0), ones-next 2 (b / 2 / 2) (q₃ .0), ones-next 1 (b / 2 / 2 / 2) (q₄ .0), ones-next 0 (b / 2 / 2 / 2 / 2) (q₄ .1), ones-none) (omega arith)
 
--- Whether a cell goes plain
-pub record Plain (cell : List ℕ) (plain : Bool) : Type 0 where
-  pub full : plain ≡ true → 5 ≤ length (kepts cell)
-  pub less : plain ≡ false → length (kepts cell) < 5
+pub five-inside : {field : Field} {n : ℕ} → Inside 5 field n → field .bits % 32 ≡ 31 → field .place + 5 ≤ n
+five-inside {field} i h = omega (arith, i .ends, all-ones (field .bits) h)
 
 -- The stored cell at a place: if all five fields are stored they are the five bytes from the first one on; else fewer than five are kept
 module _ (place : ℕ) (s : List ℕ) {first : Field} (f : FirstField (getD s place 0) place first) where
@@ -124,20 +119,16 @@ module _ (place : ℕ) (s : List ℕ) {first : Field} (f : FirstField (getD s pl
       rw (cell-first place s f) (below (omega (arith, fields-stored 5 (first .bits) (drop (first .place) s), ones-most 5 (first .bits))) λ z.
       h (ones-all (first .bits) (omega (arith, fields-stored 5 (first .bits) (drop (first .place) s)))))
 
-  pub stored-plain : Plain (cellAt (drop place s)) (eqb (first .bits % 32) 31 && eqb (length (kepts (five (drop (first .place) s)))) 5)
-  stored-plain = go (eqb (first .bits % 32) 31) refl (eqb (length (kepts (five (drop (first .place) s)))) 5) refl
+  pub stored-plain : (eqb (first .bits % 32) 31 && plainBy (getD s (first .place) 0) (length (kepts (five (drop (first .place) s)))))
+      ≡ plainBy (getD (cellAt (drop place s)) 0 0) (length (kepts (cellAt (drop place s))))
+  stored-plain = go (eqb (first .bits % 32) 31) refl
     where
-      go : (t : Bool) → eqb (first .bits % 32) 31 ≡ t → (u : Bool) → eqb (length (kepts (five (drop (first .place) s)))) 5 ≡ u → Plain (cellAt (drop place s)) (t && u)
-      go true t true u =
-          let same = ap (λ (l : List ℕ). length (kepts l)) (stored-five (eqb-true _ 31 t)) in
-          record { full = λ q. omega (arith, same, eqb-true (length (kepts (five (drop (first .place) s)))) 5 u); less = λ q. absurd (let z : _≡_ {A = ℕ} 0 1 = cc in omega arith) }
-      go true t false u =
-          let same = ap (λ (l : List ℕ). length (kepts l)) (stored-five (eqb-true _ 31 t)) in
-          record {
-            full = λ q. absurd (let z : _≡_ {A = ℕ} 0 1 = cc in omega arith);
-            less = λ q. below (omega (arith, kepts-most (cellAt (drop place s)), cell-length (drop place s))) (λ z. eqb-false _ 5 u (sym same ∙ z));
-          }
-      go false t u v = record { full = λ q. absurd (let z : _≡_ {A = ℕ} 0 1 = cc in omega arith); less = λ q. stored-few (eqb-false _ 31 t) }
+      go : (t : Bool) → eqb (first .bits % 32) 31 ≡ t
+          → (t && plainBy (getD s (first .place) 0) (length (kepts (five (drop (first .place) s))))) ≡ plainBy (getD (cellAt (drop place s)) 0 0) (length (kepts (cellAt (drop place s))))
+      go true t =
+          ap (λ (n : ℕ). plainBy n (length (kepts (five (drop (first .place) s))))) (sym (head-at (first .place) s 0))
+          ∙ ap (λ (l : List ℕ). plainBy (getD l 0 0) (length (kepts l))) (sym (stored-five (eqb-true _ 31 t)))
+      go false t = sym (few-marked (getD (cellAt (drop place s)) 0 0) (length (kepts (cellAt (drop place s)))) (omega (arith, stored-few (eqb-false _ 31 t))))
 
 -- The lead byte by the places behind each field
 pub lead-moved : (a b c d e p₀ : ℕ) {p₁ p₂ p₃ p₄ p₅ lead : ℕ} → p₁ ≡ p₀ + bit a → p₂ ≡ p₁ + bit b → p₃ ≡ p₂ + bit c → p₄ ≡ p₃ + bit d → p₅ ≡ p₄ + bit e
@@ -175,14 +166,14 @@ set-front [] n lead x xs e = absurd (let z : _≡_ {A = ℕ} 0 1 = cc in omega a
 set-front (y ∷ out) n lead x xs e = let same : take n out ≡ xs = cc in ap (λ (l : List ℕ). lead ∷ l) same
 
 module _ (cell : List ℕ) (size : length cell ≡ 5) (lead : ℕ) (isLead : lead ≡ 128 + marks cell) where
-  pub over-lead : (lent : List ℕ) → overMost ≤ length lent → (plain : Bool) → Plain cell plain → {place : ℕ} → place ≡ cond plain 0 1 → {out : List ℕ} {to : ℕ} → PutOver lent (take place lent ++ kepts cell) out to (kepts [])
+  pub over-lead : (lent : List ℕ) → overMost ≤ length lent → (plain : Bool) → plain ≡ plainBy (getD cell 0 0) (length (kepts cell)) → {place : ℕ} → place ≡ cond plain 0 1 → {out : List ℕ} {to : ℕ} → PutOver lent (take place lent ++ kepts cell) out to (kepts [])
       → (to ≡ length (writeCell cell)) × Over (writeCell cell) lent (set out (5 - 5 * place) lead)
   unfolding marked
   over-lead [] six plain k isPlace p = absurd (omega arith)
   over-lead (x ∷ lent) six true k {place} isPlace {out} {to} p =
-      let same : kepts cell ≡ writeCell cell = kepts-full cell (omega (arith, k .full refl)) ∙ sym (count-plain cell (k .full refl)) in
+      let same : kepts cell ≡ writeCell cell = plain-kept cell size (sym k) ∙ sym (count-plain cell (sym k)) in
       let d = over-done (rw isPlace at p) in
-      let long : length (kepts cell) ≡ 5 = ap length (kepts-full cell (omega (arith, k .full refl))) ∙ size in (
+      let long : length (kepts cell) ≡ 5 = ap length (plain-kept cell size (sym k)) ∙ size in (
         d .0 ∙ ap length same,
         rw (isPlace, ← same) (record {
           front = take-set-le (length (kepts cell)) out 5 lead (omega arith) ∙ d .1 .front;
@@ -190,7 +181,7 @@ module _ (cell : List ℕ) (size : length cell ≡ 5) (lead : ℕ) (isLead : lea
         }),
       )
   over-lead (x ∷ lent) six false k {place} isPlace {out} {to} p =
-      let w = count-marked cell (k .less refl) in
+      let w = count-marked cell (sym k) in
       let d = over-done (rw isPlace at p) in
       (d .0 ∙ ap length (sym w), rw (isPlace, w) (over-marked out (d .1)))
     where
@@ -200,10 +191,10 @@ module _ (cell : List ℕ) (size : length cell ≡ 5) (lead : ℕ) (isLead : lea
         beyond = drop-set-lt overMost out 0 lead (omega arith) ∙ o .beyond;
       }
 
-  pub laid-lead : (lent : List ℕ) → 1 ≤ length lent → length (kepts cell) < 5 → {out : List ℕ} {to : ℕ} → Laid lent (take 1 lent ++ kepts cell) out to (kepts [])
+  pub laid-lead : (lent : List ℕ) → 1 ≤ length lent → plainBy (getD cell 0 0) (length (kepts cell)) ≡ false → {out : List ℕ} {to : ℕ} → Laid lent (take 1 lent ++ kepts cell) out to (kepts [])
       → (to ≡ length (writeCell cell)) × (set out 0 lead ≡ inFront (writeCell cell) lent)
   unfolding kepts marked
-  laid-lead [] h few l = absurd (omega arith)
-  laid-lead (x ∷ lent) h few l =
-      let w = count-marked cell few in
+  laid-lead [] h mark l = absurd (omega arith)
+  laid-lead (x ∷ lent) h mark l =
+      let w = count-marked cell mark in
       rw w (laid-long l refl, ap (λ (out : List ℕ). set out 0 lead) (laid-done l refl) ∙ ap (λ (y : ℕ). y ∷ (kepts cell ++ drop (suc (length (kepts cell))) (x ∷ lent))) isLead)

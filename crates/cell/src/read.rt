@@ -2,16 +2,13 @@
 use refusal::Fault;
 use refusal::Step;
 ghost use mathlib.Core.Path.{_≡_};
-ghost use Prim.Native.Nat.{ℕ, _+_, _%_, _<_, _≤_};
+ghost use Prim.Native.Nat.{_+_, _%_, _<_, _≤_};
 ghost use mathlib.Core.Bool.{cond};
 ghost use lib.ListN.{length, getD, drop};
-ghost use Rattle.xm.specs.Cell.{five, lengthBy, fieldBy, cellAt, readCell, bit, kepts};
+ghost use Rattle.xm.specs.Cell.{five, lengthBy, fieldBy, cellAt, readCell, bit, kepts, plainBy};
 ghost use Rattle.xm.specs.Short.{shortestBy};
 ghost use Rattle.refusal.specs.Fault.{placeStep};
 ghost use Rattle.cell.specs.Read.{bitsBy, fieldsFrom, FirstField, NextField, cellOf, keptCount};
-
-// "Only the note is limited (0..97)"
-pub const NOTE_MOST: u8 = 97;
 
 pub struct Cell {
     pub note: u8,
@@ -152,7 +149,7 @@ pub fn take_over(stored: &[u8], place: usize) -> Cell
     }
 }
 
-// The cell at a place, tried for 7, then 9: where it ends.
+// The cell at a place, tried for 7: where it ends.
 pub fn try_cell(stored: &[u8], place: usize) -> Step
     requires { ⌜ place ≤ length (now stored) ⌝ }
     ensures { λ r. ⌜ r ≡ placeStep place (readCell place (drop place (now (stored .entry)))) ⌝ }
@@ -169,14 +166,6 @@ pub fn try_cell(stored: &[u8], place: usize) -> Step
     if left < used {
         return Step::Refused(Fault {
             number: 7,
-            place: place,
-        });
-    }
-    let first = first_field(lead, place);
-    let note = field_at(stored, first.place, first.bits);
-    if NOTE_MOST < note {
-        return Step::Refused(Fault {
-            number: 9,
             place: place,
         });
     }
@@ -219,12 +208,17 @@ pub fn kept_in(cells: &[u8], place: usize) -> usize
     note + (instrument + (volume + (effect + parameter)))
 }
 
-// The length of a cell's shortest form, whatever its note.
-pub fn shortest_by(kept: usize) -> usize
-    ensures { λ r. ⌜ ((note : ℕ) → r ≡ shortestBy note kept) ⌝ }
+// Whether a cell goes plain, by its note and by how many fields its marked form keeps: "A note of 128 or more can only be stored marked".
+pub fn plain_by(note: u8, kept: usize) -> bool
+    ensures { λ r. ⌜ r ≡ plainBy note kept ⌝ }
 {
-    if 4 < kept {
-        return 5;
-    }
-    1 + kept
+    note < 128 && 4 < kept
+}
+
+// The length of a cell's shortest form.
+pub fn shortest_by(note: u8, kept: usize) -> usize
+    requires { ⌜ kept ≤ 5 ⌝ }
+    ensures { λ r. ⌜ r ≡ shortestBy note kept ⌝ }
+{
+    if plain_by(note, kept) { 5 } else { 1 + kept }
 }

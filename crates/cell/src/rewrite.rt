@@ -6,6 +6,7 @@ use crate::read::field_over;
 use crate::read::first_field;
 use crate::read::kept_in;
 use crate::read::next_field;
+use crate::read::plain_by;
 use crate::write::first_place;
 use crate::write::put;
 use crate::write::put_over;
@@ -17,7 +18,7 @@ ghost use lib.Dec.{eqb};
 ghost use lib.ListN.{length, getD, drop, set};
 ghost use Rattle.xm.specs.Answer.{inFront};
 ghost use Rattle.xm.specs.Lay.{lay};
-ghost use Rattle.xm.specs.Cell.{five, lengthBy, fieldBy, cellAt, bit, kept, kepts, writeCell};
+ghost use Rattle.xm.specs.Cell.{five, lengthBy, fieldBy, cellAt, bit, kept, kepts, plainBy, writeCell};
 ghost use Rattle.cell.specs.Over.{overMost, Over};
 ghost use Rattle.cell.specs.Rewrite.{Moved};
 
@@ -86,13 +87,14 @@ fn both(a: bool, b: bool) -> bool
     a && b
 }
 
-// Whether a stored cell goes plain: all five fields are stored, and none is 0.
+// Whether a stored cell goes plain: all five fields are stored, and go so.
 fn stored_plain(stored: &[u8], first: Field) -> bool
     requires { ⌜ first .place + 5 ≤ length (now stored) ⌝ }
-    ensures { λ r. ⌜ r ≡ (eqb (first .bits % 32) 31 && eqb (length (kepts (five (drop (first .place) (now (stored .entry)))))) 5) ⌝ }
+    ensures { λ r. ⌜ r ≡ (eqb (first .bits % 32) 31 && plainBy (getD (now (stored .entry)) (first .place) 0) (length (kepts (five (drop (first .place) (now (stored .entry))))))) ⌝ }
 {
     let from = first.place;
-    both(first.bits % 32 == 31, kept_in(stored, from) == 5)
+    let plain = plain_by(stored[from], kept_in(stored, from));
+    both(first.bits % 32 == 31, plain)
 }
 
 // As `rewrite_cell` where six bytes stand at the place, with no branch: it may change the bytes behind the cell too, which the caller still

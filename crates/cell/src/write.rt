@@ -3,8 +3,8 @@ use crate::read::Cell;
 use crate::read::bit_of;
 ghost use mathlib.Core.Path.{_≡_};
 ghost use Prim.Native.Nat.{_+_, _*_, _≤_, _<_};
-ghost use mathlib.Core.Bool.{cond};
-ghost use lib.Dec.{eqb};
+ghost use mathlib.Core.Bool.{cond, _&&_};
+ghost use lib.Dec.{ltb, eqb};
 ghost use lib.ListN.{length, drop, set};
 ghost use Rattle.xm.specs.Answer.{inFront};
 ghost use Rattle.xm.specs.Lay.{lay};
@@ -63,14 +63,12 @@ fn copy_plain(cells: &[u8], place: usize, out: &mut [u8])
     out[4] = cells[place + 4];
 }
 
-// Whether a cell goes plain, by the lead byte that it would have: no field is 0, and at a tie it is marked.
-fn goes_plain(lead: u8) -> bool
-    ensures { λ r. ⌜ r ≡ eqb lead 159 ⌝ }
+// Whether a cell goes plain, by the lead byte that it would have and by its note: no field is 0, at a tie it is marked, and "A note of 128 or
+// more can only be stored marked".
+fn goes_plain(lead: u8, note: u8) -> bool
+    ensures { λ r. ⌜ r ≡ (eqb lead 159 && ltb note 128) ⌝ }
 {
-    if lead == 159 {
-        return true;
-    }
-    false
+    lead == 159 && note < 128
 }
 
 // A lent cell in its shortest form at the front of out; its length.
@@ -81,7 +79,7 @@ pub fn write_cell(cells: &[u8], place: usize, out: &mut [u8]) -> usize
     ensures { λ _. ⌜ now (out .exit) ≡ inFront (writeCell (five (drop place (now (cells .entry))))) (now (out .entry)) ⌝ }
 {
     let lead = lead_of(cells, place);
-    if goes_plain(lead) {
+    if goes_plain(lead, cells[place]) {
         copy_plain(cells, place, out);
         return 5;
     }
@@ -121,7 +119,7 @@ pub fn write_over(cells: &[u8], place: usize, out: &mut [u8]) -> usize
 {
     let lead = lead_of(cells, place);
     out[0] = lead;
-    let p0 = first_place(goes_plain(lead));
+    let p0 = first_place(goes_plain(lead, cells[place]));
     let p1 = put_over(cells[place], p0, out);
     let p2 = put_over(cells[place + 1], p1, out);
     let p3 = put_over(cells[place + 2], p2, out);

@@ -1,3 +1,4 @@
-pub mod Kept
+pub mod Weight
 pub mod Measuring
+pub mod Weighing
 pub mod Stored

@@ -1,4 +1,4 @@
--- Laws of a loop that measures cells: one cell, and empty cells at once. Assumes nothing.
+-- Laws of a loop that measures cells, one by one. Assumes nothing.
 use Prim.Native.Nat.{ℕ, _+_, _-_, _≤_, _<_}
 use mathlib.Core.Bool.{Bool, true, false, _&&_, and-eq-true-iff, and-assoc, and-true}
 use mathlib.Core.List.{List, [], _∷_, _++_}
@@ -6,13 +6,12 @@ use mathlib.Core.Path.{_≡_, refl, sym, ap, _∙_}
 use native.Mathlib.Nat.{add-assoc}
 use native.Mathlib.Omega.{arith}
 use borrow.Author.Tests.{eqb-true, eq-eqb}
-use lib.Count.{ones, onesIn}
 use lib.Dec.{eqb}
 use lib.ListN.{length, getD, take, drop, length-append, length-drop}
 use lib.Seq.{drop-drop, take-at, drop-at, take-add, length-take-le}
 use Rattle.xm.specs.Got.{Refusal, Got, got, refused}
 use Rattle.xm.specs.Format.{joined}
-use Rattle.xm.specs.Cell.{noteMost, lengthBy, needed, cellAt, readCell, kept, kepts, writeCell}
+use Rattle.xm.specs.Cell.{lengthBy, needed, cellAt, readCell, kept, kepts, writeCell}
 use Rattle.xm.specs.Short.{shortestBy, shortBy, isShort}
 use Rattle.xm.specs.Stored.{readRow}
 use Rattle.xm.proofs.Got.{no-true}
@@ -22,18 +21,12 @@ use Rattle.xm.proofs.Lay.{head-at}
 use Rattle.xm.proofs.Short.{shortest-by, short-by, short-exact}
 use Rattle.xm.proofs.Row.{row-read}
 use Rattle.refusal.specs.Fault.{faultOf}
-use Rattle.cell.proofs.ReadLaws.{read-note-at, empty-cell}
 use Rattle.cell.proofs.ReadRows.{onto, row-more, row-stop}
-use Rattle.cell.proofs.WriteLaws.{empty-written}
-use Rattle.ahead.specs.Ahead.{EmptyRun, noteBy}
-use Rattle.ahead.proofs.Lengths.{length-six, note-at}
-use Rattle.ahead.proofs.Run.{read-empty, read-six, run-over}
 use Rattle.measure.specs.declared.StoredStep.{StoredStep}
 use Rattle.measure.specs.declared.StoredStep.the-variants.{Read, Refused}
-use Rattle.measure.specs.Measure.{keptAt, sameBytes, measuredOn}
-use Rattle.measure.proofs.Kept.{kept-bytes}
+use Rattle.measure.specs.Measure.{sameBytes, measuredOn}
 
-bool-same : (a b : Bool) → (a ≡ true → b ≡ true) → (b ≡ true → a ≡ true) → a ≡ b
+pub bool-same : (a b : Bool) → (a ≡ true → b ≡ true) → (b ≡ true → a ≡ true) → a ≡ b
 bool-same true b f g = sym (f refl)
 bool-same false true f g = g refl
 bool-same false false f g = refl
@@ -119,7 +112,7 @@ module _ {s : List ℕ} {answer : StoredStep} where
   move v p q r t = rw (p, q, r, t) v
 
   module _ {used shortest : ℕ} {same : Bool} {left : ℕ} (v : Measuring s answer used shortest same left) where
-    measuring-more : 0 < left → {k cost next : ℕ} {same′ : Bool} → readCell used (drop used s) ≡ got (cellAt (drop used s)) k → next ≡ used + k
+    pub measuring-more : 0 < left → {k cost next : ℕ} {same′ : Bool} → readCell used (drop used s) ≡ got (cellAt (drop used s)) k → next ≡ used + k
         → cost ≡ length (writeCell (cellAt (drop used s))) → same′ ≡ (same && isShort (drop used s)) → Measuring s answer next (shortest + cost) same′ (left - 1)
     measuring-more some {k} e en ec es =
         let i = v .inside in
@@ -140,15 +133,6 @@ module _ {s : List ℕ} {answer : StoredStep} where
         size-path (omega arith) (omega arith) (sym (and-true same))
         ∙ sym (v .rest ∙ ap (λ (n : ℕ). measuredOn used shortest same (drop used s) (readRow n used (drop used s))) z)
 
--- Empty cells, each in its shortest form
-module _ (place : ℕ) (s : List ℕ) (e : getD s place 0 ≡ 128) where
-  empty-long : 1 ≡ length (writeCell (cellAt (drop place s)))
-  empty-long = rw (empty-cell place s e, empty-written)
-
-  empty-short : isShort (drop place s) ≡ true
-  unfolding isShort kepts kept lengthBy ones onesIn
-  empty-short = rw (← empty-long, head-at, empty-cell place s e, e)
-
 -- A cell by the numbers that the code has: how many fields are kept, and the length of its shortest form
 pub kept-five : (s : List ℕ) {kept : ℕ} → kept ≡ length (kepts (cellAt s)) → kept ≤ 5
 kept-five s k = omega (arith, k, kepts-most (cellAt s), cell-length s)
@@ -156,48 +140,9 @@ kept-five s k = omega (arith, k, kepts-most (cellAt s), cell-length s)
 pub measuring-cell : {s : List ℕ} {answer : StoredStep} {used shortest : ℕ} {same : Bool} {left : ℕ} → Measuring s answer used shortest same left → 0 < left
     → readCell used (drop used s) ≡ got (cellAt (drop used s)) (lengthBy (getD s used 0)) → {next long kept least : ℕ} {same′ : Bool}
     → next ≡ used + lengthBy (getD s used 0) → long ≡ lengthBy (getD s used 0) → kept ≡ length (kepts (cellAt (drop used s)))
-    → ((note : ℕ) → least ≡ shortestBy note kept) → same′ ≡ (same && shortBy (getD s used 0) long kept least) → Measuring s answer next (shortest + least) same′ (left - 1)
+    → least ≡ shortestBy (getD (cellAt (drop used s)) 0 0) kept → same′ ≡ (same && shortBy (getD s used 0) long kept least) → Measuring s answer next (shortest + least) same′ (left - 1)
 measuring-cell {s} {answer} {used} {shortest} {same} v some reads en el ek eleast es =
     let d = drop used s in
-    let note = getD (cellAt d) 0 0 in
-    let cost = eleast note ∙ ap (shortestBy note) ek ∙ shortest-by (cellAt d) (cell-length d) in
+    let cost = eleast ∙ ap (shortestBy (getD (cellAt d) 0 0)) ek ∙ shortest-by (cellAt d) (cell-length d) in
     measuring-more v some reads en cost
     (es ∙ ap (λ (b : Bool). same && b) (short-by d _ _ _ _ (sym (head-at used s 0)) (el ∙ ap lengthBy (sym (head-at used s 0))) ek cost))
-
--- In a turn, past the empty cells: one cell is still to come, and eight bytes
-pub record Ready (s : List ℕ) (answer : StoredStep) (used shortest : ℕ) (same : Bool) (left top : ℕ) : Type 0 where
-  pub measuring : Measuring s answer used shortest same left
-  pub wide : used + 8 ≤ length s
-  pub some : 0 < left
-  pub fewer : left ≤ top
-
-module _ {s : List ℕ} {answer : StoredStep} {used shortest : ℕ} {same : Bool} {left : ℕ} (v : Measuring s answer used shortest same left) (l : 9 ≤ left)
-    (h : 16 ≤ length s - used) {used′ shortest′ left′ : ℕ} where
-  pub ready-run : (k : ℕ) → EmptyRun s used k → used′ ≡ used + k → shortest′ ≡ shortest + k → left′ ≡ left - k → Ready s answer used′ shortest′ same left′ left
-  ready-run k r p q t =
-      let few = r .few in
-      record {
-        measuring =
-            move (run-over (λ i. Measuring s answer (used + i) (shortest + i) same (left - i)) s used k (r .all) (move v (omega arith) (omega arith) refl (omega arith))
-            (λ i below e w.
-            move (measuring-more w (omega arith) (read-empty (used + i) s e (omega arith)) refl (empty-long (used + i) s e)
-            (sym (ap (λ (b : Bool). same && b) (empty-short (used + i) s e) ∙ and-true same))) (omega arith) (omega arith) refl (omega arith))) p q refl t;
-        wide = omega (arith, p);
-        some = omega (arith, t);
-        fewer = omega (arith, t);
-      }
-
-  pub ready-stay : used′ ≡ used → shortest′ ≡ shortest → left′ ≡ left → Ready s answer used′ shortest′ same left′ left
-  ready-stay p q t = record { measuring = move v p q refl t; wide = omega (arith, p); some = omega (arith, t); fewer = omega (arith, t) }
-
-module _ {s : List ℕ} {answer : StoredStep} {used shortest : ℕ} {same : Bool} {left top : ℕ} (v : Ready s answer used shortest same left top) where
-  pub ready-cell : noteBy (getD s used 0) (getD s (used + 1) 0) ≤ noteMost → {long kept least : ℕ} {same′ : Bool} → long ≡ lengthBy (getD s used 0) → kept ≡ keptAt used long s
-      → ((note : ℕ) → least ≡ shortestBy note kept) → same′ ≡ (same && shortBy (getD s used 0) long kept least) → Measuring s answer (used + long) (shortest + least) same′ (left - 1)
-  ready-cell note {long} el ek eleast es =
-      let w = v .wide in
-      measuring-cell (v .measuring) (v .some) (read-six used s (omega arith) note) (omega (arith, el)) el (ek ∙ kept-bytes used s long el) eleast es
-
-  pub ready-note : noteMost < noteBy (getD s used 0) (getD s (used + 1) 0) → Refused (record { number = 9; place = used }) ≡ answer
-  ready-note note =
-      let w = v .wide in
-      measuring-stop (v .measuring) (v .some) (read-note-at used s (omega (arith, length-six (getD s used 0))) (omega (arith, note-at used s)))

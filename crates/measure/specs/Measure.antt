@@ -1,23 +1,16 @@
 -- What measuring stored cells, and a stored pattern, answers.
 use Prim.Native.Nat.{ℕ, _+_}
-use mathlib.Core.Bool.{Bool, true, false, cond, _&&_}
+use mathlib.Core.Bool.{Bool, true, false, _&&_}
 use mathlib.Core.List.{List, [], _∷_}
-use lib.Dec.{ltb, eqb}
-use lib.ListN.{length, getD, take}
+use lib.Dec.{eqb}
+use lib.ListN.{length, take}
 use Rattle.xm.specs.Got.{Got, got, refused}
 use Rattle.xm.specs.Format.{joined}
-use Rattle.xm.specs.Cell.{markedFrom, bit, writeCell}
+use Rattle.xm.specs.Cell.{writeCell}
 use Rattle.xm.specs.Stored.{Pattern, writeStored}
 use Rattle.refusal.specs.Fault.{faultOf}
 use Rattle.measure.specs.declared.StoredStep.{StoredStep}
 use Rattle.measure.specs.declared.StoredStep.the-variants.{Read, Refused}
-
--- The bytes of the cell at a place, `used` in all, that are fields and aren't 0. The lead byte is a field of a plain cell.
-abbrev pub keptAt : (place used : ℕ) → List ℕ → ℕ
-keptAt place used s =
-    cond (ltb (getD s place 0) markedFrom) (bit (getD s place 0)) 0 + cond (ltb 1 used) (bit (getD s (place + 1) 0)) 0
-    + cond (ltb 2 used) (bit (getD s (place + 2) 0)) 0 + cond (ltb 3 used) (bit (getD s (place + 3) 0)) 0
-    + cond (ltb 4 used) (bit (getD s (place + 4) 0)) 0 + cond (ltb 5 used) (bit (getD s (place + 5) 0)) 0
 
 unfoldable pub sameBytes : List ℕ → List ℕ → Bool
 sameBytes [] [] = true

@@ -6,7 +6,7 @@ use native.Mathlib.Omega.{arith}
 use lib.ListN.{length, drop, replicate}
 use lib.Seq.{drop-drop}
 use Rattle.xm.specs.Format.{joined}
-use Rattle.xm.specs.Cell.{cellSize, five, writeCell}
+use Rattle.xm.specs.Cell.{cellSize, cellMost, five, writeCell}
 use Rattle.xm.specs.Stored.{cellsOf}
 use Rattle.xm.proofs.Stored.{cells-length, cells-fives, cells-most}
 use Rattle.xm.proofs.Row.{cells-least}
@@ -35,5 +35,5 @@ lent-none n s e = rw e
 pub lent-least : (n : ℕ) (s : List ℕ) → n ≤ length (joined writeCell (cellsOf n s))
 lent-least n s = omega (arith, cells-least (cellsOf n s) (cells-fives n s), cells-length n s)
 
-pub lent-most : (n : ℕ) (s : List ℕ) → length (joined writeCell (cellsOf n s)) ≤ n * 5
+pub lent-most : (n : ℕ) (s : List ℕ) → length (joined writeCell (cellsOf n s)) ≤ n * cellMost
 lent-most n s = omega (arith, cells-most (cellsOf n s) (cells-fives n s), cells-length n s)

@@ -1,15 +1,14 @@
 -- The code's answers as the definitions' ones.
-use Prim.Native.Nat.{ℕ}
+use Prim.Native.Nat.{ℕ, _≤_, _<_}
 use mathlib.Core.List.{List, [], _∷_}
+use mathlib.Core.Path.{_≡_}
 use lib.ListN.{length}
 use Rattle.refusal.specs.Fault.{faultOf}
-use Rattle.xm.specs.Got.{Got, got, refused}
 use Rattle.xm.specs.Answer.{Answer, gives, refuses}
 use Rattle.xm.specs.Stored.{Pattern, writeStored}
+use Rattle.xm.specs.PatternInFile.{dataMost}
 use Rattle.packing.specs.declared.Packed.{Packed}
 use Rattle.packing.specs.declared.Packed.the-variants.{Stored, Refused}
-use Rattle.packing.specs.declared.Measured.{Measured}
-use Rattle.packing.specs.declared.Measured.the-variants.{Shortest, Faulty}
 
 -- "It reports length and rows."
 abbrev pub packedOf : Answer Pattern → Packed
@@ -21,7 +20,7 @@ abbrev pub packedNumbers : Packed → List ℕ
 packedNumbers (Stored form) = 0 ∷ 0 ∷ form .length ∷ form .rows ∷ []
 packedNumbers (Refused fault) = fault .number ∷ fault .place ∷ 0 ∷ 0 ∷ []
 
--- For contracts inside the crate: the notes' tests with the length of the cells.
-abbrev pub measuredOf : Got (Unit {0}) → (shortest : ℕ) → Measured
-measuredOf (got u n) shortest = Shortest shortest
-measuredOf (refused r) shortest = Faulty (faultOf r)
+-- A length as the first pass tells it: exactly, unless it is above what data can be.
+pub record LimitedLength (long told : ℕ) : Type 0 where
+  pub exact : told ≤ dataMost → told ≡ long
+  pub above : dataMost < told → dataMost < long

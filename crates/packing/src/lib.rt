@@ -1,7 +1,6 @@
 // Packing: the cells of a pattern in their shortest stored form.
 use cell::pattern::in_range;
 use cell::pattern::stored_size;
-use cell::read::NOTE_MOST;
 use cell::read::kept_in;
 use cell::read::shortest_by;
 use cell::write::write_cell;
@@ -11,13 +10,13 @@ use slices::read::wide;
 ghost use mathlib.Core.Path.{_≡_};
 ghost use Prim.Native.Nat.{_+_, _*_, _≤_};
 ghost use lib.ListN.{length, drop, replicate};
-ghost use Rattle.xm.specs.Got.{_at_, checked};
+ghost use Rattle.xm.specs.Got.{_at_};
 ghost use Rattle.xm.specs.Format.{joined};
 ghost use Rattle.xm.specs.Answer.{refuses, inFront};
 ghost use Rattle.xm.specs.Cell.{cellSize, five, writeCell};
-ghost use Rattle.xm.specs.Stored.{cellsOf};
-ghost use Rattle.xm.specs.Packing.{packing, packAfter, noteTests};
-ghost use Rattle.packing.specs.Packed.{packedOf, measuredOf};
+ghost use Rattle.xm.specs.Stored.{rowsMost, channelsMost, cellsOf};
+ghost use Rattle.xm.specs.Packing.{packing, packAfter};
+ghost use Rattle.packing.specs.Packed.{packedOf, LimitedLength};
 
 // A stored form that was written: how many data bytes, and its row number.
 pub struct Form {
@@ -30,34 +29,22 @@ pub enum Packed {
     Refused(Fault),
 }
 
-// What the first pass finds out of lent cells: how many bytes they take in their shortest form, or a note's refusal.
-enum Measured {
-    Shortest(usize),
-    Faulty(Fault),
-}
-
-// The first pass over lent cells: a note above 97, or how many bytes the cells take in their shortest form.
-fn measure_cells(cells: &[u8], count: usize) -> Measured
+// The first pass over lent cells: how many bytes they take in their shortest form. Above what data can be, the rest are not measured.
+fn measure_cells(cells: &[u8], count: usize) -> usize
     requires { ⌜ count * 5 ≤ length (now cells) ⌝ }
-    ensures { λ r. ⌜ r ≡ measuredOf (checked (noteTests count 0 (now (cells .entry)))) (length (joined writeCell (cellsOf count (now (cells .entry))))) ⌝ }
+    requires { ⌜ count ≤ rowsMost * channelsMost ⌝ }
+    ensures { λ r. ⌜ LimitedLength (length (joined writeCell (cellsOf count (now (cells .entry))))) r ⌝ }
 {
     let mut place: usize = 0;
     let mut shortest: usize = 0;
     let mut left = count;
-    while 0 < left {
-        let note = cells[place];
-        if NOTE_MOST < note {
-            return Measured::Faulty(Fault {
-                number: 9,
-                place: place,
-            });
-        }
+    while 0 < left && shortest <= 65535 {
         let kept = kept_in(cells, place);
-        shortest += shortest_by(kept);
+        shortest += shortest_by(cells[place], kept);
         place += 5;
         left -= 1;
     }
-    Measured::Shortest(shortest)
+    shortest
 }
 
 // A number that is 0 only for an empty cell: four of its bytes are one load.
@@ -136,24 +123,19 @@ pub fn pack(rows: usize, channels: usize, cells: &[u8], out: &mut [u8]) -> Packe
     if cells.len() != count * 5 {
         return refused(16);
     }
-    let measured = measure_cells(cells, count);
-    match measured {
-        Measured::Faulty(fault) => Packed::Refused(fault),
-        Measured::Shortest(shortest) => {
-            let size = stored_size(count, shortest);
-            if 65535 < size {
-                return refused(15);
-            }
-            if out.len() < size {
-                return refused(14);
-            }
-            if 0 < size {
-                write_cells(cells, count, out);
-            }
-            Packed::Stored(Form {
-                length: size,
-                rows: rows,
-            })
-        }
+    let shortest = measure_cells(cells, count);
+    if 65535 < shortest {
+        return refused(15);
     }
+    let size = stored_size(count, shortest);
+    if out.len() < size {
+        return refused(14);
+    }
+    if 0 < size {
+        write_cells(cells, count, out);
+    }
+    Packed::Stored(Form {
+        length: size,
+        rows: rows,
+    })
 }

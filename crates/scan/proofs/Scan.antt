@@ -1,16 +1,16 @@
--- Laws of a loop that tries cells: one cell, empty cells at once, and what a turn has ahead; and each exit of a stored pattern.
+-- Laws of a loop that tries cells: one cell, empty cells at once, what a turn has ahead, and a block; and each exit of a stored pattern.
 -- Assumes nothing.
-use Prim.Native.Nat.{ℕ, _+_, _-_, _*_, _/_, _%_, _≤_, _<_}
+use Prim.Native.Nat.{ℕ, _+_, _-_, _*_, _≤_, _<_}
 use mathlib.Core.Bool.{Bool, true, false}
 use mathlib.Core.List.{List}
-use mathlib.Core.Path.{_≡_, refl, sym, ap, ap₂, _∙_}
+use mathlib.Core.Path.{_≡_, refl, sym, ap, _∙_}
 use native.Mathlib.Nat.{add-assoc}
 use native.Mathlib.Omega.{arith}
 use borrow.Author.Tests.{eqb-true, eqb-false}
 use lib.Dec.{eqb}
 use lib.ListN.{length, getD, drop, length-drop}
 use Rattle.xm.specs.Got.{Got, got, refused}
-use Rattle.xm.specs.Cell.{noteMost, readCell}
+use Rattle.xm.specs.Cell.{readCell}
 use Rattle.xm.specs.Stored.{readRow, readStored}
 use Rattle.xm.proofs.Cell.{cell-read}
 use Rattle.refusal.specs.declared.Fault.{Fault}
@@ -18,10 +18,14 @@ use Rattle.refusal.specs.declared.Step.{Step}
 use Rattle.refusal.specs.declared.Step.the-variants.{Next, Refused}
 use Rattle.refusal.specs.Fault.{stepFault, placeStep}
 use Rattle.refusal.proofs.Steps.{next-got, place-refused}
+use Rattle.cell.proofs.ReadLaws.{read-got-at}
 use Rattle.cell.proofs.ReadRows.{onto, row-more, row-stop, stored-refused, stored-left, stored-whole}
 use Rattle.ahead.specs.declared.Ahead.{Ahead}
-use Rattle.ahead.specs.Ahead.{eightAt, noteBy, AheadOf}
-use Rattle.ahead.proofs.Run.{lead-at, second-at, read-empty, read-six, run-over}
+use Rattle.ahead.specs.Ahead.{AheadOf, Follows, lengthsFrom}
+use Rattle.ahead.proofs.Run.{read-empty, read-six, run-over}
+use Rattle.ahead.proofs.Walk.{walked-some, walked-over}
+use Rattle.scan.specs.declared.Walk.{Walk}
+use Rattle.scan.specs.Block.{walkOf, passed}
 
 -- `left` cells are still to come, from `used` on, and the loop's answer is to be `answer`
 pub record Scanning (s : List ℕ) (answer : Step) (used left : ℕ) : Type 0 where
@@ -61,13 +65,12 @@ module _ {s : List ℕ} {answer : Step} where
       ap Next u ∙ sym (v .rest ∙ ap (λ (n : ℕ). placeStep used (readRow n used (drop used s))) z)
 
   -- A turn: empty cells, or one where six bytes stand, and a last one
-  pub scanning-turn : {used left word : ℕ} {r : Ahead} → Scanning s answer used left → 9 ≤ left → used + 21 ≤ length s → AheadOf s used r
-      → ((i : ℕ) → getD s i 0 ≤ 255) → word ≡ eightAt s used → noteBy (word % 256) (word / 256 % 256) ≤ noteMost
-      → noteBy (getD s (r .last) 0) (getD s (r .last + 1) 0) ≤ noteMost → Scanning s answer (r .next) (left - (r .cells + 1))
-  scanning-turn {used} {left} {word} {r} v many wide a small right first last =
+  pub scanning-turn : {used left : ℕ} {r : Ahead} → Scanning s answer used left → 9 ≤ left → used + 21 ≤ length s → AheadOf s used r
+      → Scanning s answer (r .next) (left - (r .cells + 1))
+  scanning-turn {used} {left} {r} v many wide a =
       let near = a .near in
       let few = a .few in
-      move (scanning-more (front (eqb (getD s used 0) 128) refl) (omega arith) (read-six (r .last) s (omega arith) last)) (a .next) (omega arith)
+      move (scanning-more (front (eqb (getD s used 0) 128) refl) (omega arith) (read-six (r .last) s (omega arith))) (a .next) (omega arith)
     where
       front : (t : Bool) → eqb (getD s used 0) 128 ≡ t → Scanning s answer (r .last) (left - r .cells)
       front true p =
@@ -77,8 +80,20 @@ module _ {s : List ℕ} {answer : Step} where
           (λ i h empty w. move (scanning-more w (omega arith) (read-empty (used + i) s empty (omega arith))) (omega arith) (omega arith))) (e .1) refl
       front false p =
           let e = a .one (eqb-false (getD s used 0) 128 p) in
-          let note = ap₂ noteBy (lead-at s used word small right) (second-at s used word small right) in
-          move (scanning-more v (omega arith) (read-six used s (omega arith) (omega (arith, note)))) (e .1) (omega (arith, e .0))
+          move (scanning-more v (omega arith) (read-six used s (omega arith))) (e .1) (omega (arith, e .0))
+
+  -- The cells of a block, as far as they stand inside what there is
+  pub scanning-block : (place size : ℕ) (lengths : List ℕ) → Follows (lengthsFrom s place) size lengths → place + size ≤ length s → {left : ℕ} {walk : Walk} → Scanning s answer place left
+      → walk ≡ walkOf (passed lengths size left 0) → place + walk .at ≤ length s → Scanning s answer (place + walk .at) (walk .left)
+  scanning-block place size lengths full inside {left} {walk} v e h =
+      rw e (walked-over (λ at u. u) lengths size (λ (at left : ℕ) (u : Unit {0}). Scanning s answer (place + at) left) (length s - place)
+      (λ at left u below far w.
+      let long = full .right at below in
+      move (scanning-more w (omega arith) (read-got-at (place + at) s (omega arith))) (omega arith) (omega arith)) left 0 tt (move v (omega arith) refl) (omega (arith, ap Walk.at e)))
+
+-- A block with some bytes has one cell or more
+pub block-less : (lengths : List ℕ) (size : ℕ) {left : ℕ} {walk : Walk} → 0 < size → 0 < left → walk ≡ walkOf (passed lengths size left 0) → walk .left < left
+block-less lengths size {left} h k e = rw e (walked-some (λ at u. u) lengths size left tt h k)
 
 -- A stored pattern with some data, by what its cells came to
 module _ (channels rows : ℕ) (d : List ℕ) (some : 1 ≤ length d) {step : Step} (e : step ≡ placeStep 0 (readRow (rows * channels) 0 d)) where

@@ -1,4 +1,4 @@
-// Stored cells that are only tried, for 7 and 9, and a stored pattern's for 8 too: where they end.
+// Stored cells that are only tried, for 7, and a stored pattern's for 8 too: where they end.
 use cell::read;
 use refusal::Fault;
 use refusal::Step;
@@ -9,6 +9,13 @@ ghost use Rattle.xm.specs.Got.{AllHold};
 ghost use Rattle.xm.specs.Stored.{readRow, readStored};
 ghost use Rattle.xm.specs.Packing.{argumentTests};
 ghost use Rattle.refusal.specs.Fault.{placeStep};
+ghost use Rattle.scan.specs.Block.{walkOf, passed};
+
+// How far into a block the cells go that begin in it, and how many cells are left.
+struct Walk {
+    at: usize,
+    left: usize,
+}
 
 // The cells from a place on, one by one.
 fn scan_from(stored: &[u8], from: usize, count: usize) -> Step
@@ -28,8 +35,8 @@ fn scan_from(stored: &[u8], from: usize, count: usize) -> Step
     Step::Next(used)
 }
 
-// `count` cells in a row, two or more at a time. What a turn refuses is tried again one by one, for its place.
-fn scan_cells(stored: &[u8], count: usize) -> Step
+// Where most cells are empty: two or more at a time, by the word that stands here.
+fn scan_sparse(stored: &[u8], count: usize) -> Step
     ensures { λ r. ⌜ r ≡ placeStep 0 (readRow count 0 (now (stored .entry))) ⌝ }
 {
     let mut used: usize = 0;
@@ -37,19 +44,57 @@ fn scan_cells(stored: &[u8], count: usize) -> Step
     let mut word = ahead::first_word(stored);
     while 9 <= left && 21 <= stored.len() - used {
         let turn = ahead::look_ahead(stored, used, word);
-        let first = ahead::first_note(word);
-        if read::NOTE_MOST < first {
-            break;
-        }
-        let last = ahead::note_at(stored, turn.last);
-        if read::NOTE_MOST < last {
-            break;
-        }
         used = turn.next;
         left -= turn.cells + 1;
         word = ahead::word(stored, used);
     }
     scan_from(stored, used, left)
+}
+
+// From one cell to the next in a block of lengths.
+fn walk_block(lengths: &[u8], size: usize, count: usize) -> Walk
+    requires { ⌜ size ≤ length (now lengths) ⌝ }
+    ensures { λ r. ⌜ r ≡ walkOf (passed (now (lengths .entry)) size count 0) ⌝ }
+{
+    let mut at: usize = 0;
+    let mut left = count;
+    while at < size && 0 < left {
+        at += lengths[at] as usize;
+        left -= 1;
+    }
+    Walk { at: at, left: left }
+}
+
+// Where few are: the lengths of a block first, whatever its bytes are, so that from one cell to the next it is one load. A block whose
+// last cell is cut is tried again one by one, for its place.
+fn scan_dense(stored: &[u8], count: usize) -> Step
+    ensures { λ r. ⌜ r ≡ placeStep 0 (readRow count 0 (now (stored .entry))) ⌝ }
+{
+    let mut lengths = [0u8; 64];
+    let mut used: usize = 0;
+    let mut left = count;
+    while 0 < left && used < stored.len() {
+        let rest = stored.len() - used;
+        let size = ahead::block_of(rest);
+        ahead::fill_lengths(stored, used, size, &mut lengths);
+        let walk = walk_block(&lengths, size, left);
+        if rest < walk.at {
+            break;
+        }
+        used += walk.at;
+        left = walk.left;
+    }
+    scan_from(stored, used, left)
+}
+
+// `count` cells in a row: dense if they take more than two bytes each.
+fn scan_cells(stored: &[u8], count: usize) -> Step
+    ensures { λ r. ⌜ r ≡ placeStep 0 (readRow count 0 (now (stored .entry))) ⌝ }
+{
+    if count < stored.len() / 2 {
+        return scan_dense(stored, count);
+    }
+    scan_sparse(stored, count)
 }
 
 // A stored pattern.

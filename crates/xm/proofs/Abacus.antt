@@ -10,7 +10,7 @@ use Rattle.xm.specs.Number.{wordAt, longAt, signed}
 use Rattle.xm.specs.Got.{Got, got, refused, _>>=_, _>>_, ensure, checked}
 use Rattle.xm.specs.Format.{Region, Kind, header, patternHeader, patternData, instrument, sampleHeader, sampleData}
 use Rattle.xm.specs.Answer.{loaderNumber}
-use Rattle.xm.specs.Cell.{lengthBy, fieldsBy, cellAt, readCell, kept, marks, kepts, marked, plainBy, goesPlain, writeCell}
+use Rattle.xm.specs.Cell.{lengthBy, fieldsBy, cellAt, readCell, kept, marks, kepts, marked, plainBy, standsPlain, plainShorter, goesPlain, writeCell}
 use Rattle.xm.specs.Stored.{readCells, readStored, allZero, needsNoData, writeStored, cellsOf}
 use Rattle.xm.specs.Header.{restartInside, restartOf, readHeader, writeHeader}
 use Rattle.xm.specs.PatternInFile.{PatternFound, readPattern, writePattern}
@@ -52,11 +52,11 @@ two-values = refl
 -- A note and an empty cell are three bytes, in two rows: 3 + 65,536 × 2. Empty cells in three rows are packed to no bytes, and unpacked from
 -- none and from three
 pub two-cells : writeStored (record { rows = 2; cells = (1 ∷ replicate 4 0) ∷ replicate 5 0 ∷ [] }) ≡ 0x81 ∷ 1 ∷ 0x80 ∷ []
-unfolding writeStored needsNoData allZero writeCell goesPlain plainBy marked kepts marks kept ones onesIn
+unfolding writeStored needsNoData allZero writeCell goesPlain plainBy standsPlain plainShorter marked kepts marks kept ones onesIn
 two-cells = refl
 
 pub cells-packed : (packNumbers 2 1 (1 ∷ replicate 9 0) 3 ≡ 0 ∷ 0 ∷ 3 ∷ 2 ∷ []) × (packLoader 2 1 (1 ∷ replicate 9 0) 3 ≡ 131075) × (packNumbers 3 1 (replicate 15 0) 0 ≡ 0 ∷ 0 ∷ 0 ∷ 3 ∷ [])
-unfolding packing cellsOf _>>_ ensure checked writeStored needsNoData allZero writeCell goesPlain plainBy marked kepts marks kept ones onesIn loaderNumber
+unfolding packing cellsOf _>>_ ensure checked writeStored needsNoData allZero writeCell goesPlain plainBy standsPlain plainShorter marked kepts marks kept ones onesIn loaderNumber
 cells-packed = (refl, refl, refl)
 
 pub three-unpacked : (unpackNumbers 3 1 [] 15 ≡ 0 ∷ 0 ∷ 3 ∷ []) × (unpackNumbers 3 1 (replicate 3 0x80) 15 ≡ 0 ∷ 0 ∷ 3 ∷ []) × (unpackAfter 1 1 (0x80 ∷ []) (replicate 6 7) ≡ 0 ∷ 0 ∷ 0 ∷ 0 ∷ 0 ∷ 7 ∷ [])
@@ -104,5 +104,5 @@ two-channels = refl
 
 -- No bytes are refused; the song's file is read to its end, with and without tables
 pub song-checked : (checkNumbers [] ≡ 1 ∷ 0 ∷ 0 ∷ 0 ∷ 0 ∷ 0 ∷ 0 ∷ []) × (checkNumbers (pressed song) ≡ 0 ∷ 0 ∷ 662 ∷ 1 ∷ 2 ∷ 1 ∷ 1 ∷ []) × (checkIntoLoader (record { patterns = 2; instruments = 1; samples = 1 }) (pressed song) ≡ 662)
-unfolding checking checkingInto loaderNumber readWhole _>>=_ _>>_ ensure checked restartInside restartOf readHeader writeHeader readPattern writePattern readStored readCells readCell cellAt fieldsBy lengthBy ones onesIn writeStored needsNoData allZero writeCell goesPlain plainBy marked kepts marks kept readHead readData readInstrument writeVoice writeInstrument wordAt longAt
+unfolding checking checkingInto loaderNumber readWhole _>>=_ _>>_ ensure checked restartInside restartOf readHeader writeHeader readPattern writePattern readStored readCells readCell cellAt fieldsBy lengthBy ones onesIn writeStored needsNoData allZero writeCell goesPlain plainBy standsPlain plainShorter marked kepts marks kept readHead readData readInstrument writeVoice writeInstrument wordAt longAt
 song-checked = (refl, refl, refl)

@@ -10,7 +10,7 @@ use lib.Seq.{take-append-seam}
 use Rattle.xm.specs.Got.{Refusal, Got, got, refused, _at_, _>>=_, _>>_, Test, passes, refusalOf, Holds, AllHold, ensure, checked}
 use Rattle.xm.specs.Format.{All}
 use Rattle.xm.specs.Answer.{Answer, gives, refuses, answered, behind, numberOf, result, numbers, after, loaderNumber}
-use Rattle.xm.specs.Demands.{refusalMost, KeepsItsWord, LoaderTells}
+use Rattle.xm.specs.Demands.{refusalMost, Numbered, KeepsItsWord, LoaderTells}
 use Rattle.xm.proofs.Got.{holds-passes, passes-holds, test-holds, passed, bind-got, refused-tests}
 
 -- An answer from its reading, and a reading from its answer
@@ -53,11 +53,6 @@ gives-bound f g next e k = gives-got f (g >>= next) e λ b m d c. bind-got g nex
 pub gives-same : {A : Type 0} {a b : A} → _≡_ {A = Answer A} (gives a) (gives b) → a ≡ b
 gives-same e = cc
 
--- Tests that were passed hold
-pub checked-holds : (ts : List Test) {n : ℕ} → checked ts ≡ got tt n → AllHold ts
-unfolding _>>_
-checked-holds ts e = passed ts (got tt 0) {x = tt {0}} {n = 0} (rw e) λ h d. h
-
 -- A refusal that is none of the tests' own: they all hold, and it is that of what follows
 pub refused-passed : {A R : Type 0} (ts : List Test) (g : Got A) {r : Refusal} → All (λ (t : Test). refusalOf t ≡ r → R) ts
     → (checked ts >> g) ≡ refused r → (AllHold ts → g ≡ refused r → R) → R
@@ -99,14 +94,17 @@ after-length written (gives a) lent h = rw (length-append, length-drop) (omega (
 after-length written (refuses r) lent h = refl
 
 pub record SoundRefusal (r : Refusal) : Type 0 where
-  pub low : 1 ≤ r .number
-  pub high : r .number ≤ refusalMost
+  pub numbered : Numbered refusalMost (r .number)
   pub placed : 14 ≤ r .number → r .place ≡ 0
+
+-- A reader's own refusals are at most 13
+pub read-sound : {r : Refusal} → Numbered 13 (r .number) → SoundRefusal r
+read-sound n = record { numbered = (n .0, omega (arith, n .1), n .2); placed = λ h. absurd (omega (arith, n .1)) }
 
 pub word-kept : {A B : Type 0} (written : A → List B) (answer : ℕ → Answer A) → ((room : ℕ) (r : Refusal) → answer room ≡ refuses r → SoundRefusal r)
     → ((room : ℕ) (a : A) → answer room ≡ gives a → length (written a) ≤ room) → KeepsItsWord written answer
 word-kept written answer sound fits = record {
-  numbered = λ room r e. let s = sound room r e in (s .low, s .high);
+  numbered = λ room r e. sound room r e .numbered;
   placed = λ room r e. sound room r e .placed;
   unchanged = λ lent r e. rw e;
   inside = λ lent. after-length written (answer (length lent)) lent (fits (length lent));

@@ -4,12 +4,12 @@ use mathlib.Core.Path.{_≡_, refl}
 use lib.Count.{ones, onesIn}
 use Rattle.xm.specs.Number.{signed}
 use Rattle.xm.specs.Got.{_>>=_, _>>_, ensure, checked}
-use Rattle.xm.specs.Cell.{lengthBy, fieldsBy, cellAt, readCell, kept, marks, kepts, marked, plainBy, goesPlain, writeCell}
+use Rattle.xm.specs.Cell.{lengthBy, fieldsBy, cellAt, readCell, kept, marks, kepts, marked, standsPlain, plainShorter, plainBy, goesPlain, writeCell}
 use Rattle.xm.specs.Stored.{readCells, readStored, allZero, needsNoData, writeStored, cellsOf}
 use Rattle.xm.specs.Packing.{unpacking, packing}
 use Rattle.xm.specs.Delta.{pairs, storedNumbers, sums, decoded, decoding}
 use Rattle.xm.specs.Bench.{worked, pieces}
 
 pub bench : map worked pieces ≡ pieces
-unfolding unpacking packing decoding _>>=_ _>>_ ensure checked readStored readCells readCell cellAt fieldsBy lengthBy ones onesIn writeStored needsNoData allZero writeCell goesPlain plainBy marked kepts marks kept cellsOf decoded storedNumbers pairs sums signed
+unfolding unpacking packing decoding _>>=_ _>>_ ensure checked readStored readCells readCell cellAt fieldsBy lengthBy ones onesIn writeStored needsNoData allZero writeCell goesPlain plainBy standsPlain plainShorter marked kepts marks kept cellsOf decoded storedNumbers pairs sums signed
 bench = refl

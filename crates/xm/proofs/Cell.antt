@@ -1,9 +1,8 @@
 -- Laws of one cell: its length and fields by its lead byte, each answer of reading it, that what is written reads back, and that
 -- what is read is kept and written in no more bytes. Assumes nothing.
 use Prim.Native.Nat.{ℕ, zero, suc, _+_, _*_, _/_, _%_, _≤_, _<_}
-use mathlib.Core.Bool.{Bool, true, false, cond}
+use mathlib.Core.Bool.{Bool, true, false, cond, and-eq-true-iff, and-false}
 use mathlib.Core.List.{List, [], _∷_, _++_, append-assoc, append-nil}
-use mathlib.Core.Logic.{_↔_}
 use mathlib.Core.Path.{_≡_, refl, sym, ap, _∙_}
 use native.Mathlib.Omega.{arith}
 use borrow.Author.Tests.{ltb-true, ltb-false, lt-ltb, le-ltb, eqb-false}
@@ -12,11 +11,11 @@ use lib.Dec.{ltb, eqb}
 use lib.ListN.{length, getD, drop, length-append, List·getD-append}
 use lib.Seq.{drop-drop}
 use Rattle.xm.specs.Number.{Bytes}
-use Rattle.xm.specs.Got.{got, refused, present, atMost, _at_}
+use Rattle.xm.specs.Got.{got, refused, present, _at_}
 use Rattle.xm.specs.Format.{All}
-use Rattle.xm.specs.Cell.{noteMost, five, lengthBy, fieldBy, fieldsBy, needed, cellAt, readCell, bit, kept, marks, kepts, marked, plainBy, goesPlain, writeCell, cellMost, GoodCell, cellFormat}
+use Rattle.xm.specs.Cell.{five, lengthBy, fieldBy, fieldsBy, needed, cellAt, readCell, bit, kept, marks, kepts, marked, standsPlain, plainShorter, plainBy, goesPlain, writeCell, cellMost, GoodCell, cellFormat}
 use Rattle.xm.proofs.Number.{bytes-drop, bytes-nil, bytes-cons, bytes-tail, bytes-append}
-use Rattle.xm.proofs.Got.{test-holds, test-fails, pass, passed, got-value, got-used, got-both, got-carry}
+use Rattle.xm.proofs.Got.{test-fails, pass, passed, got-value, got-used, got-both, got-carry}
 use Rattle.xm.proofs.Format.{Back, Keeps, Held}
 
 -- Lists of five
@@ -143,28 +142,10 @@ length-some lead = go (ltb lead 128)
     go false = omega arith
 
 -- A marked cell's five fields, each at its place
-fields-none : (bits : ℕ) (s : List ℕ) → fieldsBy 0 bits s ≡ []
-unfolding fieldsBy
-fields-none bits s = refl
-
 pub fields-at : (count bits place : ℕ) (s : List ℕ)
     → fieldsBy (suc count) bits (drop place s) ≡ fieldBy bits (drop place s) ∷ fieldsBy count (bits / 2) (drop (place + bits % 2) s)
 unfolding fieldsBy
 fields-at count bits place s = rw drop-drop
-
-pub fields-five : (b : ℕ) (s : List ℕ) → fieldsBy 5 b (drop 1 s)
-    ≡ fieldBy b (drop 1 s) ∷ fieldBy (b / 2) (drop (1 + b % 2) s) ∷ fieldBy (b / 2 / 2) (drop (1 + b % 2 + b / 2 % 2) s)
-    ∷ fieldBy (b / 2 / 2 / 2) (drop (1 + b % 2 + b / 2 % 2 + b / 2 / 2 % 2) s)
-    ∷ fieldBy (b / 2 / 2 / 2 / 2) (drop (1 + b % 2 + b / 2 % 2 + b / 2 / 2 % 2 + b / 2 / 2 / 2 % 2) s) ∷ []
-fields-five b s =
-    rw (
-      fields-at 4 b 1 s,
-      fields-at 3 (b / 2) (1 + b % 2) s,
-      fields-at 2 (b / 2 / 2) (1 + b % 2 + b / 2 % 2) s,
-      fields-at 1 (b / 2 / 2 / 2) (1 + b % 2 + b / 2 % 2 + b / 2 / 2 % 2) s,
-      fields-at 0 (b / 2 / 2 / 2 / 2) (1 + b % 2 + b / 2 % 2 + b / 2 / 2 % 2 + b / 2 / 2 / 2 % 2) s,
-      fields-none,
-    )
 
 fields-length : (count bits : ℕ) (s : List ℕ) → length (fieldsBy count bits s) ≡ count
 unfolding fieldsBy
@@ -200,21 +181,15 @@ cell-bytes s b = go (ltb (getD s 0 0) 128)
     go true = five-bytes b
     go false = fields-bytes 5 (getD s 0 0) (drop 1 s) (bytes-drop 1 b)
 
--- The three answers of reading a cell
+-- The two answers of reading a cell
 module _ (place : ℕ) (s : List ℕ) where
   pub read-short : length s < needed s → readCell place s ≡ refused (7 at place)
   unfolding readCell
   read-short h = test-fails (present (needed s) (length s) (7 at place)) _ _ (λ p. omega arith)
 
-  pub read-note : needed s ≤ length s → noteMost < getD (cellAt s) 0 0 → readCell place s ≡ refused (9 at place)
+  pub read-got : needed s ≤ length s → readCell place s ≡ got (cellAt s) (needed s)
   unfolding readCell
-  read-note h n =
-      test-holds (present (needed s) (length s) (7 at place)) _ _ h
-      ∙ test-fails (atMost noteMost (getD (cellAt s) 0 0) (9 at place)) _ _ (λ p. omega arith)
-
-  pub read-got : needed s ≤ length s → getD (cellAt s) 0 0 ≤ noteMost → readCell place s ≡ got (cellAt s) (needed s)
-  unfolding readCell
-  read-got h n = pass _ (h, (n, tt)) refl
+  read-got h = pass _ (omega arith) refl
 
 -- What one cell that was read says
 pub record CellRead (s cell : List ℕ) (used : ℕ) : Type 0 where
@@ -226,7 +201,7 @@ pub cell-read : (place : ℕ) (s cell : List ℕ) (used : ℕ) → readCell plac
 unfolding readCell
 cell-read place s cell used e = passed _ _ e λ h e. record { fits = h .0; same = sym (got-value e); long = sym (got-used e) }
 
--- Plain where no field is 0, else marked
+-- Plain or marked
 pub write-plain : (cell : List ℕ) → goesPlain cell ≡ true → writeCell cell ≡ cell
 unfolding writeCell
 write-plain cell e = rw e
@@ -245,32 +220,32 @@ unfolding kepts
 kepts-all [] h = refl
 kepts-all (x ∷ xs) h = rw length-append (omega (arith, kepts-all xs (h .1), kept-length x, bit-some x (h .0)))
 
-all-kept : (cell : List ℕ) → length cell ≤ length (kepts cell) → All (λ (x : ℕ). x ≡ 0 → ⊥) cell
-unfolding kepts
-all-kept [] h = tt
-all-kept (x ∷ xs) h =
-    let l = length-append (kept x) (kepts xs) in
-    let k = kept-length x in
-    (λ e. omega (arith, kepts-most xs, bit-none x e), all-kept xs (omega (arith, bit-most x)))
+-- Plain if that can be read back and is shorter
+plain-low : (note fields : ℕ) → plainBy note fields ≡ true → note < 128
+unfolding plainBy standsPlain
+plain-low note fields e = let l = and-eq-true-iff (standsPlain note) (plainShorter fields) .0 e .0 in omega (arith, ltb-true)
 
--- By the fields kept: plain if that is shorter
 pub plain-many : (note fields : ℕ) → plainBy note fields ≡ true → 5 ≤ fields
-unfolding plainBy
-plain-many note fields e = omega (arith, ltb-true)
+unfolding plainBy plainShorter
+plain-many note fields e = let l = and-eq-true-iff (standsPlain note) (plainShorter fields) .0 e .1 in omega (arith, ltb-true)
 
-pub marked-few : (note fields : ℕ) → plainBy note fields ≡ false → fields ≤ 4
-unfolding plainBy
-marked-few note fields e = omega (arith, ltb-false)
+marked-few : (note fields : ℕ) → note < 128 → plainBy note fields ≡ false → fields ≤ 4
+unfolding plainBy standsPlain plainShorter
+marked-few note fields h e = let l = rw (lt-ltb note 128 h) at e in omega (arith, ltb-false)
 
-pub many-plain : (note fields : ℕ) → 5 ≤ fields → plainBy note fields ≡ true
-unfolding plainBy
-many-plain note fields h = omega (arith, lt-ltb)
+pub many-plain : (note fields : ℕ) → note < 128 → 5 ≤ fields → plainBy note fields ≡ true
+unfolding plainBy standsPlain plainShorter
+many-plain note fields h k = rw (lt-ltb note 128 h, lt-ltb 5 (1 + fields) (omega arith))
 
-pub plain-full : (cell : List ℕ) → length cell ≡ 5 → (goesPlain cell ≡ true) ↔ All (λ (x : ℕ). x ≡ 0 → ⊥) cell
-unfolding goesPlain
-plain-full cell h = (λ e. all-kept cell (omega (arith, plain-many (getD cell 0 0) (length (kepts cell)) e)), λ f. many-plain (getD cell 0 0) (length (kepts cell)) (omega (arith, kepts-all cell f)))
+pub few-marked : (note fields : ℕ) → fields ≤ 4 → plainBy note fields ≡ false
+unfolding plainBy plainShorter
+few-marked note fields h = rw (le-ltb 5 (1 + fields) (omega arith), and-false (standsPlain note))
 
--- A cell of five fields takes 1 to 5 bytes, and one of full fields takes 5
+pub marked-high : (note fields : ℕ) → 128 ≤ note → plainBy note fields ≡ false
+unfolding plainBy standsPlain
+marked-high note fields h = rw (le-ltb note 128 h)
+
+-- A cell of five fields takes 1 to 6 bytes: at most 5 below note 128, and 6 from there up if no field is 0
 write-case : (P : List ℕ → Type 0) (cell : List ℕ) → (goesPlain cell ≡ true → P cell) → (goesPlain cell ≡ false → P (marked cell)) → P (writeCell cell)
 unfolding writeCell
 write-case P cell plain mark = go (goesPlain cell) refl
@@ -283,12 +258,17 @@ pub write-some : (cell : List ℕ) → length cell ≡ 5 → 1 ≤ length (write
 write-some cell h = write-case (λ (w : List ℕ). 1 ≤ length w) cell (λ p. omega arith) (λ p. omega (arith, marked-length cell))
 
 pub write-most : (cell : List ℕ) → length cell ≡ 5 → length (writeCell cell) ≤ cellMost
-unfolding goesPlain
-write-most cell h =
-    write-case (λ (w : List ℕ). length w ≤ cellMost) cell (λ p. omega arith) (λ p. omega (arith, marked-length cell, marked-few (getD cell 0 0) (length (kepts cell)) p))
+write-most cell h = write-case (λ (w : List ℕ). length w ≤ cellMost) cell (λ p. omega arith) (λ p. omega (arith, marked-length cell, kepts-most cell))
 
-pub write-full : (cell : List ℕ) → length cell ≡ 5 → All (λ (x : ℕ). x ≡ 0 → ⊥) cell → writeCell cell ≡ cell
-write-full cell h f = write-plain cell (plain-full cell h .1 f)
+write-low : (cell : List ℕ) → length cell ≡ 5 → getD cell 0 0 < 128 → length (writeCell cell) ≤ 5
+unfolding goesPlain
+write-low cell h low =
+    write-case (λ (w : List ℕ). length w ≤ 5) cell (λ p. omega arith) (λ p. omega (arith, marked-length cell, marked-few (getD cell 0 0) (length (kepts cell)) low p))
+
+pub write-full : (cell : List ℕ) → length cell ≡ 5 → 128 ≤ getD cell 0 0 → All (λ (x : ℕ). x ≡ 0 → ⊥) cell → length (writeCell cell) ≡ 6
+unfolding goesPlain
+write-full cell h high f =
+    ap length (write-marked cell (marked-high (getD cell 0 0) (length (kepts cell)) high)) ∙ marked-length cell ∙ omega (arith, kepts-all cell f)
 
 write-least : (cell : List ℕ) → length cell ≡ 5 → length (writeCell cell) ≤ 1 + length (kepts cell)
 unfolding goesPlain
@@ -354,10 +334,11 @@ marked-back s rest e =
     }
 
 written-back : (cell rest : List ℕ) → GoodCell cell → WrittenBack cell rest
+unfolding goesPlain
 written-back cell rest g = go (goesPlain cell) refl
   where
     go : (t : Bool) → goesPlain cell ≡ t → WrittenBack cell rest
-    go true e = plain-back cell rest (g .size) (omega (arith, g .note)) e
+    go true e = plain-back cell rest (g .size) (plain-low (getD cell 0 0) (length (kepts cell)) e) e
     go false e = rw (five-same cell (g .size)) at (marked-back cell rest (rw (five-same cell (g .size)) e))
 
 -- What is written are bytes
@@ -374,7 +355,7 @@ cell-back = record {
       record {
         found = cell;
         reads =
-            read-got place (writeCell cell ++ rest) (omega (arith, w .long, length-append (writeCell cell) rest)) (rw (w .same) (g .note))
+            read-got place (writeCell cell ++ rest) (omega (arith, w .long, length-append (writeCell cell) rest))
             ∙ got-both (w .same) (w .long);
         same = refl;
       };
@@ -399,7 +380,10 @@ pub write-short : (s : List ℕ) → length (writeCell (cellAt s)) ≤ needed s
 write-short s = go (ltb (getD s 0 0) 128) refl
   where
     go : (t : Bool) → ltb (getD s 0 0) 128 ≡ t → length (writeCell (cellAt s)) ≤ needed s
-    go true e = omega (arith, write-most (cellAt s) (cell-length s), length-plain (getD s 0 0) (ltb-true _ _ e))
+    go true e =
+        let l = ltb-true (getD s 0 0) 128 e in
+        let low : getD (cellAt s) 0 0 < 128 = rw (cell-plain s l) l in
+        omega (arith, write-low (cellAt s) (cell-length s) low, length-plain (getD s 0 0) l)
     go false e =
         let h = ltb-false (getD s 0 0) 128 e in
         omega (
@@ -420,7 +404,7 @@ cell-keeps = record {
       (record {
         inside = h .0;
         roomy = tt;
-        good = record { size = cell-length s; plain = cell-bytes s b; note = h .1 .0 };
+        good = record { size = cell-length s; plain = cell-bytes s b };
         short = write-short s;
       });
 }

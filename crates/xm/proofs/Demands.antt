@@ -19,7 +19,7 @@ use Rattle.xm.specs.Table.{Checked, checkedAs, checkResults, checking, c
 use Rattle.xm.specs.Press.{pressed, pressingAs, pressing, pressLoader}
 use Rattle.xm.specs.Demands.{KeepsItsWord, TablesKept, Demand₁, Demand₂, Demand₃, CheckTells, countsOf, RunningSums, PressesWhole, SameBytes, RoomFor, TablesTell, RestIgnored, RestartsRead, PlaysOrders, LoaderTells, Limited, LoadersTell}
 use Rattle.xm.proofs.Got.{refused-tests, refused-bind, got-never, pass, passed, step, step-refused, bind-got}
-use Rattle.xm.proofs.Answer.{answer-gives, answer-refuses, gives-got, gives-passed, gives-bound, gives-same, gives-refuses, refuses-refused, tests-fail, behind-holds, behind-fails, behind-gave, behind-refused, SoundRefusal, word-kept, loader-tells, accepted-gives, reported-written}
+use Rattle.xm.proofs.Answer.{answer-gives, answer-refuses, gives-got, gives-passed, gives-bound, gives-same, gives-refuses, refuses-refused, tests-fail, behind-holds, behind-fails, behind-gave, behind-refused, SoundRefusal, read-sound, word-kept, loader-tells, accepted-gives, reported-written}
 use Rattle.xm.proofs.Format.{joined-length}
 use Rattle.xm.proofs.Packing.{unpack-word, pack-word, unpacks-to-cells, pack-shortest, unpack-tells, pack-tells, pack-apart}
 use Rattle.xm.proofs.Delta.{valuesFrom, values-none, values-step, decoded-most, coded-most, decoding-gave, coding-gave, coding-decoding, decoding-coding}
@@ -58,7 +58,7 @@ check-tells = record {
   accepted = λ content file f. found-counts file (f .found) (f .end) (f .plain) (f .reads) ∙ ap {B = List ℕ} (λ (c : Content). 0 ∷ 0 ∷ f .end ∷ countsOf c) (f .same);
   refused-so = λ file r e. ap (numbers checkResults) (answer-refuses checkedAs e);
   acceptable = λ file b n.
-      accepted-gives (checking file) (λ r e. file-fault file r b e .low) n λ c e.
+      accepted-gives (checking file) (λ r e. file-fault file r b e .numbered .0) n λ c e.
       gives-got _ (readFile file) e λ found end q d. (moduleFormat .view found, record { plain = b; found = found; end = end; reads = q; same = refl });
 }
 
@@ -67,7 +67,7 @@ unfolding checking
 check-loads file b =
     loader-tells Checked.end (checking file) (checkLoader file) refl
     (λ c e. gives-got _ (readFile file) e λ found end q d. let h = end-inside file found end b q in omega (arith, ap Checked.end (gives-same d)))
-    (λ r e. let f = file-fault file r b e in (f .low, omega (arith, f .small)))
+    (λ r e. let f = file-fault file r b e in (f .numbered .0, omega (arith, f .small)))
 
 -- A refusal with a place that a loader's number has room for: a file's own, and with it those of the calls
 record OwnFault (r : Refusal) : Type 0 where
@@ -77,7 +77,7 @@ record OwnFault (r : Refusal) : Type 0 where
 own-sound : (file : List ℕ) (r : Refusal) → Bytes file → readFile file ≡ refused r → OwnFault r
 own-sound file r b e =
     let f = whole-faults moduleFormat module-faults file r b e in
-    record { sound = record { low = f .low; high = omega (arith, f .high); placed = λ h. absurd (omega (arith, f .high)) }; small = f .small }
+    record { sound = read-sound (f .numbered); small = f .small }
 
 -- The tables: what is filled is no longer than what was lent
 front-length : {B : Type 0} (written lent : List B) → length written ≤ length lent → length (inFront written lent) ≡ length lent
@@ -122,14 +122,14 @@ into-end room file c b e =
 into-loads : (room : Room) (file : List ℕ) → Bytes file → LoaderTells Checked.end (checkingInto room file) (checkIntoLoader room file)
 into-loads room file b =
     loader-tells Checked.end (checkingInto room file) (checkIntoLoader room file) refl (λ c e. omega (arith, into-end room file c b e))
-    (λ r e. let f = into-fault room file r b e in (f .sound .low, omega (arith, f .small)))
+    (λ r e. let f = into-fault room file r b e in (f .sound .numbered .0, omega (arith, f .small)))
 
 tables-kept : (file : List ℕ) (lent : Tables) → Bytes file → TablesKept file lent
 unfolding tablesAfter
 tables-kept file lent b =
     let l = lengths (checkingInto (roomOf lent) file) lent (room-held (roomOf lent) file) in
     record {
-      numbered = λ r e. let f = into-fault (roomOf lent) file r b e .sound in (f .low, f .high);
+      numbered = λ r e. into-fault (roomOf lent) file r b e .sound .numbered;
       placed = λ r e. into-fault (roomOf lent) file r b e .sound .placed;
       unchanged = λ r e. ap (λ (a : Answer Checked). tablesAfter a lent) e;
       patterns = l .patterns;
@@ -182,7 +182,7 @@ module _ {B : Type 0} (count : ℕ) (own : ℕ → Answer (List B)) (fault : (ro
   limited-loads room =
       loader-tells length (behind (limitTest count) (own room)) (loaderNumber countWritten (behind (limitTest count) (own room))) refl
       (λ xs e. behind-gave (limitTest count) (own room) e λ l e. omega (arith, l, fits room xs e .1))
-      (λ r e. let f = limited-fault room r e in (f .sound .low, omega (arith, f .small)))
+      (λ r e. let f = limited-fault room r e in (f .sound .numbered .0, omega (arith, f .small)))
 
 running-sums : (width before : ℕ) (stored : List ℕ) → RunningSums width before stored (valuesFrom width before stored)
 running-sums width before [] = ends
@@ -217,12 +217,12 @@ press-word file b = word-kept _ (pressing file) (λ room r e. press-fault file r
 press-loads : (file : List ℕ) (room : ℕ) → Bytes file → LoaderTells length (pressing file room) (pressLoader file room)
 press-loads file room b =
     loader-tells length (pressing file room) (pressLoader file room) refl (λ bytes e. omega (arith, press-file file room bytes b e .1))
-    (λ r e. let f = press-fault file room r b e in (f .sound .low, omega (arith, f .small)))
+    (λ r e. let f = press-fault file room r b e in (f .sound .numbered .0, omega (arith, f .small)))
 
 -- The demands
 pub demand₁ : Demand₁
 demand₁ = record {
-  check = λ file r b e. let f = file-fault file r b e in (f .low, f .high, f .place);
+  check = λ file r b e. let f = file-fault file r b e in (f .numbered, f .place);
   tables = tables-kept;
   unpack = unpack-word;
   pack = pack-word;

@@ -18,6 +18,7 @@ use Rattle.xm.specs.PatternInFile.{patternFormat, readPattern}
 use Rattle.xm.specs.Sample.{leastHead, headFormat, readHead, dataFormat, readData, samplesFormat}
 use Rattle.xm.specs.Instrument.{instrumentFormat, readInstrument}
 use Rattle.xm.specs.Module.{patternsFor, instrumentsFor, bodyFormat, moduleFormat, fileMost, readWhole}
+use Rattle.xm.specs.Demands.{Numbered}
 use Rattle.xm.proofs.Number.{bytes-drop, bytes-take}
 use Rattle.xm.proofs.Got.{got-never, refused-bind, refused-tests}
 use Rattle.xm.proofs.Format.{Keeps, over-keeps, many-keeps, all, all-replicate}
@@ -31,14 +32,18 @@ use Rattle.xm.proofs.Instrument.{instrument-keeps}
 pub record Fault (place : ℕ) (s : List ℕ) (r : Refusal) : Type 0 where
   pub low : 1 ≤ r .number
   pub high : r .number ≤ 13
+  pub not-nine : r .number ≡ 9 → ⊥
   pub from : place ≤ r .place
   pub to : r .place ≤ place + length s
+
+pub fault-numbered : {place : ℕ} {s : List ℕ} {r : Refusal} → Fault place s r → Numbered 13 (r .number)
+fault-numbered f = (f .low, f .high, f .not-nine)
 
 pub record Faults {H I A : Type 0} (F : Format H I A) (h : H) : Type 0 where
   pub faults : (place : ℕ) (s : List ℕ) (r : Refusal) → Bytes s → F .read h place s ≡ refused r → Fault place s r
 
 fault-later : (place n : ℕ) (s : List ℕ) (r : Refusal) → n ≤ length s → Fault (place + n) (drop n s) r → Fault place s r
-fault-later place n s r l f = record { low = f .low; high = f .high; from = omega (arith, f .from); to = omega (arith, f .to, length-drop n s) }
+fault-later place n s r l f = record { low = f .low; high = f .high; not-nine = f .not-nine; from = omega (arith, f .from); to = omega (arith, f .to, length-drop n s) }
 
 -- Formats put together
 over-faults : {H K I A : Type 0} (f : K → H) {F : Format H I A} (k : K) → Faults F (f k) → Faults (over f F) k
@@ -96,7 +101,7 @@ pattern-faults channels = record {
       (λ ep.
       let f = stored-faults channels (wordAt 5 s) (place + longAt 0 s) (part (longAt 0 s) (wordAt 7 s) s) r (bytes-take (wordAt 7 s) (bytes-drop (longAt 0 s) p)) ep in
       let l = length-take-le (wordAt 7 s) (drop (longAt 0 s) s) (omega (arith, length-drop (longAt 0 s) s, hs .1 .1 .1 .0)) in
-      record { low = f .low; high = f .high; from = omega (arith, f .from); to = omega (arith, f .to, l, hs .1 .1 .1 .0) })
+      record { low = f .low; high = f .high; not-nine = f .not-nine; from = omega (arith, f .from); to = omega (arith, f .to, l, hs .1 .1 .1 .0) })
       (λ q m eq e₂. absurd (got-never e₂));
 }
 
@@ -143,8 +148,7 @@ module-faults = then-faults (λ u x. x) header-keeps header-faults body-faults
 
 -- Of a whole file
 pub record FileFault (file : List ℕ) (r : Refusal) : Type 0 where
-  pub low : 1 ≤ r .number
-  pub high : r .number ≤ 13
+  pub numbered : Numbered 13 (r .number)
   pub place : r .place ≤ length file
   pub small : r .place ≤ fileMost
 
@@ -152,4 +156,4 @@ pub whole-faults : {I A : Type 0} (F : Format (Unit {0}) I A) → Faults F tt �
 unfolding readWhole
 whole-faults F b file r p e =
     refused-tests (FileFault file) _ _ e (omega arith) λ hs e₁.
-    let f = b .faults 0 file r p e₁ in record { low = f .low; high = f .high; place = omega (arith, f .to); small = omega (arith, f .to, hs .0) }
+    let f = b .faults 0 file r p e₁ in record { numbered = fault-numbered f; place = omega (arith, f .to); small = omega (arith, f .to, hs .0) }

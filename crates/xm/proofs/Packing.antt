@@ -1,31 +1,29 @@
 -- Laws of unpacking and packing: each exit from the tests that lead to it, that they undo one another, and that no stored form is
 -- shorter. Assumes nothing.
-use Prim.Native.Nat.{ℕ, zero, suc, _+_, _-_, _*_, _/_, _%_, _≤_, _<_}
+use Prim.Native.Nat.{ℕ, zero, suc, _+_, _*_, _/_, _%_, _≤_, _<_}
 use mathlib.Core.Bool.{Bool, true, false}
 use mathlib.Core.List.{List, [], _∷_, _++_}
 use mathlib.Core.Path.{_≡_, refl, sym, ap, _∙_}
 use native.Mathlib.Nat.{mul-le-mul, le-refl}
 use native.Mathlib.Omega.{arith}
-use borrow.Author.Tests.{lt-leb}
-use lib.ListN.{length, getD, drop, replicate, length-replicate, List·getD-append}
-use lib.Seq.{drop-at, drop-drop, getD-drop}
+use lib.ListN.{length, drop, replicate, length-replicate}
 use Rattle.xm.specs.Number.{Bytes}
-use Rattle.xm.specs.Got.{Refusal, got, refused, _>>_, Test, present, atMost, exactly, refusalOf, AllHold, ensure, checked, _at_}
+use Rattle.xm.specs.Got.{Refusal, got, refused, present, atMost, exactly, AllHold, _at_}
 use Rattle.xm.specs.Format.{EachGood, flat, All}
 use Rattle.xm.specs.Answer.{gives, refuses, result, inFront}
-use Rattle.xm.specs.Cell.{noteMost, cellMost, cellFormat}
+use Rattle.xm.specs.Cell.{cellMost, cellFormat}
 use Rattle.xm.specs.Stored.{Pattern, emptyRows, readStored, allZero, needsNoData, writeStored, GoodPattern, cellsOf}
 use Rattle.xm.specs.PatternInFile.{dataMost, writePattern}
-use Rattle.xm.specs.Packing.{argumentTests, cellBytes, rowsRead, unpacking, unpackLoader, noteTests, patternOf, packing, storedLength, packNumbers, packAfter, packLoader}
-use Rattle.xm.specs.Demands.{refusalMost, KeepsItsWord, accepts, StoredFormOf, WellFormed, UnpacksToCells, PackedShortest, Fifteen, EmptyPatterns, LoaderTells}
+use Rattle.xm.specs.Packing.{argumentTests, cellBytes, rowsRead, unpacking, unpackLoader, patternOf, packing, storedLength, packNumbers, packAfter, packLoader}
+use Rattle.xm.specs.Demands.{KeepsItsWord, accepts, StoredFormOf, WellFormed, UnpacksToCells, PackedShortest, Fifteen, EmptyPatterns, LoaderTells}
 use Rattle.xm.proofs.Number.{bytes-nil, bytes-append, bytes-drop, bytes-by}
-use Rattle.xm.proofs.Got.{not-both, holds-passes, test-holds, test-fails, pass, step, step-refused, refused-bind, refused-tests}
+use Rattle.xm.proofs.Got.{not-both, test-holds, test-fails, pass, step, step-refused, refused-bind, refused-tests}
 use Rattle.xm.proofs.Format.{cons-path}
 use Rattle.xm.proofs.Cell.{five-bytes}
-use Rattle.xm.proofs.Stored.{pattern-path, Fives, flat-length, cells-flat, flat-cells, cells-length, cells-fives, good-count, good-fives, empty-flat, rows-good, rows-none, none-rows, write-none, write-cells, product-some, stored-none, stored-plain, stored-back, StoredKept, stored-keeps, stored-rows, stored-most, stored-full}
+use Rattle.xm.proofs.Stored.{pattern-path, Fives, Full, flat-length, cells-flat, flat-cells, cells-length, cells-fives, good-count, good-fives, empty-flat, rows-good, rows-none, none-rows, write-none, write-cells, product-some, stored-none, stored-plain, stored-back, StoredKept, stored-keeps, stored-rows, stored-most, stored-full}
 use Rattle.xm.proofs.Row.{cells-least}
-use Rattle.xm.proofs.Fault.{stored-faults}
-use Rattle.xm.proofs.Answer.{answer-gives, answer-refuses, gives-passed, gives-bound, gives-same, refuses-refused, gives-refuses, tests-fail, refused-passed, word-kept, loader-tells, accepted-gives, reported-written}
+use Rattle.xm.proofs.Fault.{fault-numbered, stored-faults}
+use Rattle.xm.proofs.Answer.{answer-gives, answer-refuses, gives-passed, gives-bound, gives-same, refuses-refused, gives-refuses, tests-fail, refused-passed, SoundRefusal, read-sound, word-kept, loader-tells, accepted-gives, reported-written}
 
 -- The arguments are in range, as the tests for 16 say
 abbrev pub UnpackRange : (rows channels : ℕ) (stored : List ℕ) → Type 0
@@ -33,10 +31,6 @@ UnpackRange rows channels stored = AllHold (argumentTests rows channels ++ (atMo
 
 abbrev pub PackRange : (rows channels : ℕ) (cells : List ℕ) → Type 0
 PackRange rows channels cells = AllHold (argumentTests rows channels ++ (exactly (rows * channels * 5) (length cells) (16 at 0) ∷ []))
-
--- "all notes ≤ 97"
-abbrev pub NotesHold : (rows channels : ℕ) (cells : List ℕ) → Type 0
-NotesHold rows channels cells = AllHold (noteTests (rows * channels) 0 cells)
 
 -- What is written is short enough and has room, as the tests for 15 and 14 say
 abbrev pub PackRoom : (p : Pattern) (room : ℕ) → Type 0
@@ -62,27 +56,6 @@ module _ (rows channels : ℕ) (stored : List ℕ) (room : ℕ) where
       unfolding unpacking
       unpack-gives h = answer-gives _ (pass _ range (step _ reads (pass _ (h, tt) refl)))
 
--- The notes, cell by cell from a place on: what a loop over them keeps
-note-at : (place : ℕ) (cells : List ℕ) → getD (drop place cells) 0 0 ≡ getD cells place 0
-note-at place cells = let z : place + 0 ≡ place = omega arith in rw (getD-drop, z)
-
-pub notes-more : (n place : ℕ) (cells : List ℕ) → 0 < n → getD cells place 0 ≤ noteMost
-    → checked (noteTests n place (drop place cells)) ≡ checked (noteTests (n - 1) (place + 5) (drop (place + 5) cells))
-unfolding checked ensure _>>_
-notes-more zero place cells h k = absurd (omega arith)
-notes-more (suc n) place cells h k =
-    let m : suc n - 1 ≡ n = omega arith in
-    rw (m, note-at, drop-drop, holds-passes (atMost noteMost (getD cells place 0) (9 at place)) k) refl
-
-pub notes-stop : (n place : ℕ) (cells : List ℕ) → 0 < n → noteMost < getD cells place 0 → checked (noteTests n place (drop place cells)) ≡ refused (9 at place)
-unfolding checked ensure _>>_
-notes-stop zero place cells h k = absurd (omega arith)
-notes-stop (suc n) place cells h k = rw (note-at, lt-leb (getD cells place 0) noteMost k)
-
-pub notes-done : (n place : ℕ) (cells : List ℕ) → n ≡ 0 → checked (noteTests n place (drop place cells)) ≡ got tt 0
-unfolding checked
-notes-done n place cells h = rw h
-
 -- Each exit of packing
 module _ (rows channels : ℕ) (cells : List ℕ) (room : ℕ) where
   pub pack-argument : (PackRange rows channels cells → ⊥) → packing rows channels cells room ≡ refuses (16 at 0)
@@ -90,50 +63,37 @@ module _ (rows channels : ℕ) (cells : List ℕ) (room : ℕ) where
   pack-argument h = answer-refuses _ (tests-fail _ _ (refl, (refl, (refl, tt))) h)
 
   module _ (range : PackRange rows channels cells) where
-    pub pack-note : {r : Refusal} → checked (noteTests (rows * channels) 0 cells) ≡ refused r → packing rows channels cells room ≡ refuses r
-    unfolding packing _>>_
-    pack-note e = answer-refuses _ (pass _ range (rw e))
+    pub pack-size : dataMost < length (writeStored (patternOf rows channels cells)) → packing rows channels cells room ≡ refuses (15 at 0)
+    unfolding packing
+    pack-size h = answer-refuses _ (pass _ range (test-fails _ _ _ (λ k. omega arith)))
 
-    module _ (notes : NotesHold rows channels cells) where
-      pub pack-size : dataMost < length (writeStored (patternOf rows channels cells)) → packing rows channels cells room ≡ refuses (15 at 0)
+    module _ (small : length (writeStored (patternOf rows channels cells)) ≤ dataMost) where
+      pub pack-room : room < length (writeStored (patternOf rows channels cells)) → packing rows channels cells room ≡ refuses (14 at 0)
       unfolding packing
-      pack-size h = answer-refuses _ (pass _ range (pass _ notes (test-fails _ _ _ (λ k. omega arith))))
+      pack-room h = answer-refuses _ (pass _ range (test-holds _ _ _ small ∙ test-fails _ _ _ (λ k. omega arith)))
 
-      module _ (small : length (writeStored (patternOf rows channels cells)) ≤ dataMost) where
-        pub pack-room : room < length (writeStored (patternOf rows channels cells)) → packing rows channels cells room ≡ refuses (14 at 0)
-        unfolding packing
-        pack-room h = answer-refuses _ (pass _ range (pass _ notes (test-holds _ _ _ small ∙ test-fails _ _ _ (λ k. omega arith))))
-
-        pub pack-gives : length (writeStored (patternOf rows channels cells)) ≤ room → packing rows channels cells room ≡ gives (patternOf rows channels cells)
-        unfolding packing
-        pack-gives h = answer-gives _ (pass _ range (pass _ notes (pass _ (small, (h, tt)) refl)))
+      pub pack-gives : length (writeStored (patternOf rows channels cells)) ≤ room → packing rows channels cells room ≡ gives (patternOf rows channels cells)
+      unfolding packing
+      pack-gives h = answer-gives _ (pass _ range (pass _ (small, (h, tt)) refl))
 
 -- What a refusal with 15, and what a pattern given, say of the tests
 not-fifteen : {R : Type 0} (number place : ℕ) → (number ≡ 15 → ⊥) → _≡_ {A = Refusal} (number at place) (15 at 0) → R
 not-fifteen number place h e = absurd (h (ap (λ (r : Refusal). r .number) e))
 
-notes-other : (R : Type 0) (n place : ℕ) (cells : List ℕ) → All (λ (t : Test). refusalOf t ≡ (15 at 0) → R) (noteTests n place cells)
-notes-other R zero place cells = tt
-notes-other R (suc n) place cells = (not-fifteen 9 place (λ e. omega arith), notes-other R n (place + 5) (drop 5 cells))
-
-pub record PackSays (rows channels : ℕ) (cells : List ℕ) : Type 0 where
-  pub range : PackRange rows channels cells
-  pub notes : NotesHold rows channels cells
-
 pub pack-fifteen : (rows channels : ℕ) (cells : List ℕ) (room : ℕ) → packing rows channels cells room ≡ refuses (15 at 0)
-    → PackSays rows channels cells × (dataMost < length (writeStored (patternOf rows channels cells)))
+    → PackRange rows channels cells × (dataMost < length (writeStored (patternOf rows channels cells)))
 unfolding packing
 pack-fifteen rows channels cells room e =
-    refused-passed _ _ (sixteen, (sixteen, (sixteen, tt))) (refuses-refused _ _ e) λ range e. refused-passed _ _ (notes-other _ (rows * channels) 0 cells) e λ notes e.
+    refused-passed _ _ (sixteen, (sixteen, (sixteen, tt))) (refuses-refused _ _ e) λ range e.
     let big : length (writeStored (patternOf rows channels cells)) ≤ dataMost → ⊥ =
     λ small. refused-passed _ _ (not-fifteen 14 0 (λ e. omega arith), tt) (sym (test-holds _ _ _ small) ∙ e) λ h e. not-both (sym e) in
-    (record { range = range; notes = notes }, omega arith)
+    (range, omega arith)
   where
     sixteen : {R : Type 0} → _≡_ {A = Refusal} (16 at 0) (15 at 0) → R
     sixteen e = not-fifteen 16 0 (λ e. omega arith) e
 
 pub record PackGives (rows channels : ℕ) (cells : List ℕ) (room : ℕ) (p : Pattern) : Type 0 where
-  pub says : PackSays rows channels cells
+  pub range : PackRange rows channels cells
   pub same : patternOf rows channels cells ≡ p
   pub small : length (writeStored p) ≤ dataMost
   pub fits : length (writeStored p) ≤ room
@@ -141,40 +101,30 @@ pub record PackGives (rows channels : ℕ) (cells : List ℕ) (room : ℕ) (p : 
 pub pack-given : (rows channels : ℕ) (cells : List ℕ) (room : ℕ) (p : Pattern) → packing rows channels cells room ≡ gives p → PackGives rows channels cells room p
 unfolding packing
 pack-given rows channels cells room p e =
-    gives-passed _ _ _ e λ range e. gives-passed _ _ _ e λ notes e. gives-passed _ _ _ e λ sizes e.
+    gives-passed _ _ _ e λ range e. gives-passed _ _ _ e λ sizes e.
     let same : patternOf rows channels cells ≡ p = gives-same e in
-    record { says = record { range = range; notes = notes }; same = same; small = rw same at (sizes .0); fits = rw same at (sizes .1 .0) }
+    record { range = range; same = same; small = rw same at (sizes .0); fits = rw same at (sizes .1 .0) }
 
 -- Well-formed cells are those whose tests hold; they are a good pattern, and a good pattern's cells are well formed
 module _ {rows channels : ℕ} {cells : List ℕ} where
   pub well-range : WellFormed rows channels cells → PackRange rows channels cells
   well-range w = (w .arguments .0, (w .arguments .1 .0, (w .size, tt)))
 
-  pub well-formed : PackSays rows channels cells → Bytes cells → WellFormed rows channels cells
-  well-formed s b = record { arguments = (s .range .0, (s .range .1 .0, tt)); size = s .range .1 .1 .0; plain = b; notes = s .notes }
+  pub well-formed : PackRange rows channels cells → Bytes cells → WellFormed rows channels cells
+  well-formed range b = record { arguments = (range .0, (range .1 .0, tt)); size = range .1 .1 .0; plain = b }
 
-cells-good : (n place : ℕ) (cells : List ℕ) → Bytes cells → AllHold (noteTests n place cells) → EachGood cellFormat (replicate n tt) (cellsOf n cells)
+cells-good : (n : ℕ) (cells : List ℕ) → Bytes cells → EachGood cellFormat (replicate n tt) (cellsOf n cells)
 unfolding cellsOf
-cells-good zero place cells b h = tt
-cells-good (suc n) place cells b h =
-    (record { size = refl; plain = five-bytes b; note = h .0 }, cells-good n (place + 5) (drop 5 cells) (bytes-drop 5 b) (h .1))
+cells-good zero cells b = tt
+cells-good (suc n) cells b = (record { size = refl; plain = five-bytes b }, cells-good n (drop 5 cells) (bytes-drop 5 b))
 
 pub pattern-good : (rows channels : ℕ) (cells : List ℕ) → WellFormed rows channels cells → GoodPattern channels (patternOf rows channels cells)
 pattern-good rows channels cells w = record {
   some = w .arguments .1 .0 .0;
   low = w .arguments .0 .0;
   high = w .arguments .0 .1;
-  good = cells-good (rows * channels) 0 cells (w .plain) (w .notes);
+  good = cells-good (rows * channels) cells (w .plain);
 }
-
-notes-good : (n place : ℕ) (cells : List (List ℕ)) → EachGood cellFormat (replicate n tt) cells → AllHold (noteTests n place (flat cells))
-notes-good zero place cells g = tt
-notes-good (suc n) place [] g = absurd g
-notes-good (suc n) place (c ∷ cells) g =
-    let l = g .0 .size in (
-      rw (List·getD-append c (flat cells) 0 0 (omega arith)) (g .0 .note),
-      rw (drop-at c (flat cells) 5 l) (notes-good n (place + 5) cells (g .1)),
-    )
 
 flat-bytes : (n : ℕ) (cells : List (List ℕ)) → EachGood cellFormat (replicate n tt) cells → Bytes (flat cells)
 flat-bytes zero [] g = bytes-nil
@@ -194,7 +144,6 @@ module _ (channels : ℕ) (p : Pattern) (most : channels ≤ 64) (g : GoodPatter
     arguments = ((g .low, g .high), ((g .some, most), tt));
     size = flat-length (p .cells) fives ∙ ap (λ (k : ℕ). k * 5) count;
     plain = flat-bytes (p .rows * channels) (p .cells) (g .good);
-    notes = notes-good (p .rows * channels) 0 (p .cells) (g .good);
   }
 
   pub good-pattern : patternOf (p .rows) channels (cellBytes p) ≡ p
@@ -223,13 +172,13 @@ pack-shortest rows channels cells room well = record {
   );
   no-room-exactly = λ not15. (
     λ e row bytes f.
-        let no : length w ≤ room → ⊥ = λ fits. gives-refuses (pack-gives rows channels cells room range notes (small-by not15) fits) e in
+        let no : length w ≤ room → ⊥ = λ fits. gives-refuses (pack-gives rows channels cells room range (small-by not15) fits) e in
         omega (arith, least row bytes f),
     λ none. no-room not15 (none _ _ (form-written channels p g (small-by not15))),
   );
   given-else = λ not15 not14.
       let no : room < length w → ⊥ = λ k. not14 (no-room not15 k) in
-      pack-gives rows channels cells room range notes (small-by not15) (omega arith);
+      pack-gives rows channels cells room range (small-by not15) (omega arith);
   written = λ e. form-written channels p g (pack-given rows channels cells room p e .small);
   shortest = least;
 }
@@ -243,9 +192,6 @@ pack-shortest rows channels cells room well = record {
     range : PackRange rows channels cells
     range = well-range well
 
-    notes : NotesHold rows channels cells
-    notes = well .notes
-
     g : GoodPattern channels p
     g = pattern-good rows channels cells well
 
@@ -253,15 +199,15 @@ pack-shortest rows channels cells room well = record {
     least = form-least channels p (g .some)
 
     too-large : dataMost < length w → packing rows channels cells room ≡ refuses (15 at 0)
-    too-large = pack-size rows channels cells room range notes
+    too-large = pack-size rows channels cells room range
 
     small-by : (packing rows channels cells room ≡ refuses (15 at 0) → ⊥) → length w ≤ dataMost
     small-by not15 = let no : dataMost < length w → ⊥ = λ k. not15 (too-large k) in omega arith
 
     no-room : (packing rows channels cells room ≡ refuses (15 at 0) → ⊥) → room < length w → packing rows channels cells room ≡ refuses (14 at 0)
-    no-room not15 = pack-room rows channels cells room range notes (small-by not15)
+    no-room not15 = pack-room rows channels cells room range (small-by not15)
 
--- 15 never occurs while five bytes a cell are few enough, and occurs if there are more of them and no field is 0
+-- 15 never occurs while six bytes a cell are few enough, and occurs if there are more of them and all cells are full
 pub fifteen-never : (rows channels : ℕ) (cells : List ℕ) (room : ℕ) → 256 * channels * cellMost ≤ dataMost → packing rows channels cells room ≡ refuses (15 at 0) → ⊥
 fifteen-never rows channels cells room h e =
     let s = pack-fifteen rows channels cells room e in
@@ -270,11 +216,11 @@ fifteen-never rows channels cells room h e =
       s .1,
       stored-most (patternOf rows channels cells) (cells-fives (rows * channels) cells),
       cells-length (rows * channels) cells,
-      mul-le-mul (s .0 .range .0 .1) (le-refl channels),
+      mul-le-mul (s .0 .0 .1) (le-refl channels),
     )
 
 abbrev fullCell : List ℕ
-fullCell = 1 ∷ 1 ∷ 1 ∷ 1 ∷ 1 ∷ []
+fullCell = 128 ∷ 1 ∷ 1 ∷ 1 ∷ 1 ∷ []
 
 abbrev fullPattern : (rows channels : ℕ) → Pattern
 fullPattern rows channels = record { rows = rows; cells = replicate (rows * channels) fullCell }
@@ -284,11 +230,11 @@ fullCells rows channels = cellBytes (fullPattern rows channels)
 
 full-good : (n : ℕ) → EachGood cellFormat (replicate n tt) (replicate n fullCell)
 full-good zero = tt
-full-good (suc n) = (record { size = refl; plain = bytes-by fullCell refl; note = omega arith }, full-good n)
+full-good (suc n) = (record { size = refl; plain = bytes-by fullCell refl }, full-good n)
 
-full-fields : (n : ℕ) → All (All (λ (x : ℕ). x ≡ 0 → ⊥)) (replicate n fullCell)
+full-fields : (n : ℕ) → All Full (replicate n fullCell)
 full-fields zero = tt
-full-fields (suc n) = (((λ e. omega arith), ((λ e. omega arith), ((λ e. omega arith), ((λ e. omega arith), ((λ e. omega arith), tt))))), full-fields n)
+full-fields (suc n) = ((omega arith, ((λ e. omega arith), ((λ e. omega arith), ((λ e. omega arith), ((λ e. omega arith), ((λ e. omega arith), tt)))))), full-fields n)
 
 module _ (rows channels : ℕ) (arguments : AllHold (argumentTests rows channels)) where
   full-pattern : GoodPattern channels (fullPattern rows channels)
@@ -298,33 +244,33 @@ module _ (rows channels : ℕ) (arguments : AllHold (argumentTests rows channels
   unfolding fullCells
   full-well = good-well channels (fullPattern rows channels) (arguments .1 .0 .1) full-pattern
 
-  pub full-fifteen : dataMost < 5 * (rows * channels) → (room : ℕ) → packing rows channels (fullCells rows channels) room ≡ refuses (15 at 0)
+  pub full-fifteen : dataMost < cellMost * (rows * channels) → (room : ℕ) → packing rows channels (fullCells rows channels) room ≡ refuses (15 at 0)
   unfolding fullCells
   full-fifteen big room =
       let p = fullPattern rows channels in
       let l = length-replicate (rows * channels) fullCell in
       let long = stored-full p (omega arith) (fives channels p (arguments .1 .0 .1) full-pattern) (full-fields (rows * channels)) in
-      pack-size rows channels (cellBytes p) room (well-range full-well) (full-well .notes)
+      pack-size rows channels (cellBytes p) room (well-range full-well)
       (rw (good-pattern channels p (arguments .1 .0 .1) full-pattern) (omega arith))
 
 pub fifteen : Fifteen
 fifteen = record {
   never = fifteen-never;
-  at-51 = omega arith;
-  at-52 = (fullCells 256 52, full-well 256 52 (omega arith), full-fifteen 256 52 (omega arith) (omega arith));
+  at-42 = omega arith;
+  at-43 = (fullCells 256 43, full-well 256 43 (omega arith), full-fifteen 256 43 (omega arith) (omega arith));
 }
 
 -- Demand 2 for a pattern: what is packed unpacks to the same cells
 pub packed-cells : (rows channels : ℕ) (cells : List ℕ) (room : ℕ) (p : Pattern) → packing rows channels cells room ≡ gives p → cellBytes p ≡ cells
 packed-cells rows channels cells room p e =
-    let k = pack-given rows channels cells room p e in ap cellBytes (sym (k .same)) ∙ cells-flat (rows * channels) cells (k .says .range .1 .1 .0)
+    let k = pack-given rows channels cells room p e in ap cellBytes (sym (k .same)) ∙ cells-flat (rows * channels) cells (k .range .1 .1 .0)
 
 pub packed-back : (rows channels : ℕ) (cells : List ℕ) (room enough : ℕ) (p : Pattern) → Bytes cells → packing rows channels cells room ≡ gives p
     → length cells ≤ enough → unpacking rows channels (writeStored p) enough ≡ gives p
 packed-back rows channels cells room enough p b e h =
     let k = pack-given rows channels cells room p e in
-    let range = k .says .range in
-    let g = pattern-good rows channels cells (well-formed (k .says) b) in
+    let range = k .range in
+    let g = pattern-good rows channels cells (well-formed range b) in
     let reads : readStored channels rows 0 (writeStored p) ≡ got p (length (writeStored p)) = rw (k .same) at (stored-back channels 0 (patternOf rows channels cells) g) in
     unpack-gives rows channels (writeStored p) enough (range .0, (range .1 .0, (k .small, tt))) reads (rw (packed-cells rows channels cells room p e) h)
 
@@ -351,7 +297,7 @@ pub good-packs : (channels : ℕ) (p : Pattern) (room : ℕ) → channels ≤ 64
 good-packs channels p room most g h =
     let same = good-pattern channels p most g in
     let w = good-well channels p most g in
-    pack-gives (p .rows) channels (cellBytes p) room (well-range w) (w .notes) (rw same (h .0)) (rw same (h .1 .0)) ∙ ap gives same
+    pack-gives (p .rows) channels (cellBytes p) room (well-range w) (rw same (h .0)) (rw same (h .1 .0)) ∙ ap gives same
 
 pub unpacked-back : (rows channels : ℕ) (stored : List ℕ) (room enough : ℕ) (p : Pattern) → Bytes stored → unpacking rows channels stored room ≡ gives p
     → length (writeStored p) ≤ enough → packing (p .rows) channels (cellBytes p) enough ≡ gives p
@@ -388,7 +334,7 @@ module _ (rows channels : ℕ) (arguments : AllHold (argumentTests rows channels
       let same = good-pattern channels (emptyRows channels rows) (arguments .1 .0 .1) empty-pattern in
       let well = good-well channels (emptyRows channels rows) (arguments .1 .0 .1) empty-pattern in
       rw (← empty-bytes)
-      (pack-gives rows channels (cellBytes (emptyRows channels rows)) room (well-range well) (well .notes) (omega (arith, ap storedLength same, empty-written)) (omega (arith, ap storedLength same, empty-written))
+      (pack-gives rows channels (cellBytes (emptyRows channels rows)) room (well-range well) (omega (arith, ap storedLength same, empty-written)) (omega (arith, ap storedLength same, empty-written))
       ∙ ap gives same)
 
 none-only : (channels : ℕ) (p : Pattern) → GoodPattern channels p → writeStored p ≡ [] → p ≡ emptyRows channels (p .rows)
@@ -422,46 +368,36 @@ empty-patterns = record {
   one-content = one-content;
 }
 
--- Refusals have the paper's numbers, and places within the cells of the largest pattern
-abbrev pub bytesMost : ℕ
-bytesMost = 256 * 64 * 5
-
+-- Refusals have the paper's numbers, and places within the longest data
 pub record CallFault (r : Refusal) : Type 0 where
-  pub low : 1 ≤ r .number
-  pub high : r .number ≤ refusalMost
-  pub placed : 14 ≤ r .number → r .place ≡ 0
-  pub place : r .place ≤ bytesMost
+  pub sound : SoundRefusal r
+  pub place : r .place ≤ dataMost
 
 pub unpack-faults : (rows channels : ℕ) (stored : List ℕ) (room : ℕ) (r : Refusal) → Bytes stored → unpacking rows channels stored room ≡ refuses r → CallFault r
 unfolding unpacking
 unpack-faults rows channels stored room r b e =
     refused-tests CallFault _ _ (refuses-refused _ _ e) (omega arith) λ range e.
     refused-bind _ _ e
-    (λ e. let f = stored-faults channels rows 0 stored r b e in record { low = f .low; high = omega (arith, f .high); placed = λ h. absurd (omega (arith, f .high)); place = omega (arith, f .to, range .1 .1 .0) })
+    (λ e. let f = stored-faults channels rows 0 stored r b e in record { sound = read-sound (fault-numbered f); place = omega (arith, f .to, range .1 .1 .0) })
     (λ p n ep e. refused-tests CallFault _ _ e (omega arith) λ h e. absurd (not-both (sym e)))
-
-notes-faults : (n place : ℕ) (cells : List ℕ) → place + n * 5 ≤ bytesMost → All (λ (t : Test). CallFault (refusalOf t)) (noteTests n place cells)
-notes-faults zero place cells h = tt
-notes-faults (suc n) place cells h = (record { low = omega arith; high = omega arith; placed = omega arith; place = omega arith }, notes-faults n (place + 5) (drop 5 cells) (omega arith))
 
 pub pack-faults : (rows channels : ℕ) (cells : List ℕ) (room : ℕ) (r : Refusal) → packing rows channels cells room ≡ refuses r → CallFault r
 unfolding packing
 pack-faults rows channels cells room r e =
     refused-tests CallFault _ _ (refuses-refused _ _ e) (omega arith) λ range e.
-    refused-tests CallFault _ _ e (notes-faults (rows * channels) 0 cells (omega (arith, mul-le-mul (range .0 .1) (range .1 .0 .1)))) λ notes e.
     refused-tests CallFault _ _ e (omega arith) λ h e. absurd (not-both (sym e))
 
 -- Demand 1 for both calls, and their loader's numbers
 pub unpack-word : (rows channels : ℕ) (stored : List ℕ) → Bytes stored → KeepsItsWord cellBytes (unpacking rows channels stored)
 unpack-word rows channels stored b =
     word-kept cellBytes (unpacking rows channels stored)
-    (λ room r e. let f = unpack-faults rows channels stored room r b e in record { low = f .low; high = f .high; placed = f .placed })
+    (λ room r e. unpack-faults rows channels stored room r b e .sound)
     (λ room p e. unpack-given rows channels stored room p e .fits)
 
 pub pack-word : (rows channels : ℕ) (cells : List ℕ) → KeepsItsWord writeStored (packing rows channels cells)
 pack-word rows channels cells =
     word-kept writeStored (packing rows channels cells)
-    (λ room r e. let f = pack-faults rows channels cells room r e in record { low = f .low; high = f .high; placed = f .placed })
+    (λ room r e. pack-faults rows channels cells room r e .sound)
     (λ room p e. pack-given rows channels cells room p e .fits)
 
 pub unpack-tells : (rows channels : ℕ) (stored : List ℕ) (room : ℕ) → Bytes stored
@@ -469,7 +405,7 @@ pub unpack-tells : (rows channels : ℕ) (stored : List ℕ) (room : ℕ) → By
 unpack-tells rows channels stored room b =
     loader-tells Pattern.rows (unpacking rows channels stored room) (unpackLoader rows channels stored room) refl
     (λ p e. omega (arith, unpack-kept rows channels stored room p b e .good .high))
-    (λ r e. let f = unpack-faults rows channels stored room r b e in (f .low, omega arith))
+    (λ r e. let f = unpack-faults rows channels stored room r b e in (f .sound .numbered .0, omega arith))
 
 -- the length and the rows in one number
 record Small (p : Pattern) : Type 0 where
@@ -479,14 +415,14 @@ record Small (p : Pattern) : Type 0 where
 given-small : (rows channels : ℕ) (cells : List ℕ) (room : ℕ) (p : Pattern) → packing rows channels cells room ≡ gives p → Small p
 given-small rows channels cells room p e =
     let k = pack-given rows channels cells room p e in
-    record { length-small = omega (arith, k .small); rows-small = omega (arith, k .says .range .0 .1, ap (λ (q : Pattern). q .rows) (k .same)) }
+    record { length-small = omega (arith, k .small); rows-small = omega (arith, k .range .0 .1, ap (λ (q : Pattern). q .rows) (k .same)) }
 
 pub pack-tells : (rows channels : ℕ) (cells : List ℕ) (room : ℕ)
     → LoaderTells (λ (p : Pattern). length (writeStored p) + 65536 * p .rows) (packing rows channels cells room) (packLoader rows channels cells room)
 pack-tells rows channels cells room =
     loader-tells (λ (p : Pattern). length (writeStored p) + 65536 * p .rows) (packing rows channels cells room) (packLoader rows channels cells room) refl
     (λ p e. let s = given-small rows channels cells room p e in omega (arith, s .length-small, s .rows-small))
-    (λ r e. let f = pack-faults rows channels cells room r e in (f .low, omega arith))
+    (λ r e. let f = pack-faults rows channels cells room r e in (f .sound .numbered .0, omega arith))
 
 pub pack-apart : (rows channels : ℕ) (cells : List ℕ) (room : ℕ) (p : Pattern) → packing rows channels cells room ≡ gives p
     → (packLoader rows channels cells room % 65536 ≡ length (writeStored p)) × (packLoader rows channels cells room / 65536 ≡ p .rows)
@@ -500,7 +436,7 @@ pack-apart rows channels cells room p e =
 pub unpacks-to-cells : (rows channels : ℕ) (cells out lent : List ℕ) → Bytes cells → accepts (packNumbers rows channels cells (length out)) → length cells ≤ length lent
     → UnpacksToCells rows channels cells lent (packNumbers rows channels cells (length out)) (packAfter rows channels cells out)
 unpacks-to-cells rows channels cells out lent b accepted h =
-    accepted-gives (packing rows channels cells (length out)) (λ r e. pack-faults rows channels cells (length out) r e .low) accepted λ p e.
+    accepted-gives (packing rows channels cells (length out)) (λ r e. pack-faults rows channels cells (length out) r e .sound .numbered .0) accepted λ p e.
     let back : unpacking rows channels (writeStored p) (length lent) ≡ gives p = packed-back rows channels cells (length out) (length lent) p b e h in
     let same : rows ≡ p .rows = ap Pattern.rows (pack-given rows channels cells (length out) p e .same) in
     let read : rowsRead p ≡ rows = omega arith in

@@ -11,7 +11,7 @@ use lib.Dec.{leb, eqb}
 use lib.ListN.{length, getD, drop, length-append, length-drop}
 use Rattle.xm.specs.Got.{Got, got, refused, _>>=_, _>>_, ensure, checked, atMost, accepted, _at_}
 use Rattle.xm.specs.Format.{joined, flat}
-use Rattle.xm.specs.Cell.{noteMost, needed, cellAt, readCell, bit, kepts, goesPlain, writeCell}
+use Rattle.xm.specs.Cell.{needed, cellAt, readCell, bit, kepts, goesPlain, writeCell}
 use Rattle.xm.specs.Stored.{Pattern, readRow, readCells, readStored, allZero, needsNoData, writeStored}
 use Rattle.xm.specs.Row.{cellsIn, sizeBy}
 use Rattle.xm.proofs.Got.{not-both, accepted-got, got-accepted, bind-got, got-value, got-used}
@@ -74,15 +74,14 @@ module _ (base : ℕ) where
 
   pub cell-shifted : (place : ℕ) (s : List ℕ) → readCell (base + place) s ≡ shifted base (readCell place s)
   unfolding shifted readCell checked ensure _>>_
-  cell-shifted place s = go (leb (needed s) (length s)) (leb (getD (cellAt s) 0 0) noteMost)
+  cell-shifted place s = go (leb (needed s) (length s))
     where
-      tried : (place : ℕ) → Bool → Bool → Got (List ℕ)
-      tried place a b = (ensure a (7 at place) >> (ensure b (9 at place) >> got (tt {0}) 0)) >> got (cellAt s) (needed s)
+      tried : (place : ℕ) → Bool → Got (List ℕ)
+      tried place fits = (ensure fits (7 at place) >> got (tt {0}) 0) >> got (cellAt s) (needed s)
 
-      go : (a b : Bool) → tried (base + place) a b ≡ shifted base (tried place a b)
-      go true true = refl
-      go true false = refl
-      go false b = refl
+      go : (b : Bool) → tried (base + place) b ≡ shifted base (tried place b)
+      go true = refl
+      go false = refl
 
   pub row-shifted : (count place : ℕ) (s : List ℕ) → readRow count (base + place) s ≡ shifted base (readRow count place s)
   unfolding shifted

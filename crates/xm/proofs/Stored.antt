@@ -8,7 +8,7 @@ use native.Mathlib.Nat.{mul-le-mul}
 use native.Mathlib.Omega.{arith}
 use borrow.Author.Tests.{eqb-true, ne-eqb}
 use lib.Dec.{eqb}
-use lib.ListN.{length, drop, replicate, length-append, length-drop, length-replicate}
+use lib.ListN.{length, getD, drop, replicate, length-append, length-drop, length-replicate}
 use lib.Seq.{drop-at}
 use Rattle.xm.specs.Number.{Bytes}
 use Rattle.xm.specs.Got.{got}
@@ -76,14 +76,17 @@ good-fives zero (c ∷ cells) g = absurd g
 good-fives (suc n) [] g = absurd g
 good-fives (suc n) (c ∷ cells) g = (g .0 .size, good-fives n cells (g .1))
 
--- How many bytes cells take: at most five each, and five each if no field is 0
+-- How many bytes cells take: at most six each, and six each if no field is 0 and each note is 128 or more
+abbrev pub Full : List ℕ → Type 0
+Full cell = (128 ≤ getD cell 0 0) × All (λ (x : ℕ). x ≡ 0 → ⊥) cell
+
 pub cells-most : (cells : List (List ℕ)) → Fives cells → length (joined writeCell cells) ≤ cellMost * length cells
 cells-most [] h = omega arith
 cells-most (c ∷ cells) h = rw length-append (omega (arith, write-most c (h .0), cells-most cells (h .1)))
 
-pub cells-full : (cells : List (List ℕ)) → Fives cells → All (All (λ (x : ℕ). x ≡ 0 → ⊥)) cells → length (joined writeCell cells) ≡ 5 * length cells
+pub cells-full : (cells : List (List ℕ)) → Fives cells → All Full cells → length (joined writeCell cells) ≡ cellMost * length cells
 cells-full [] h f = refl
-cells-full (c ∷ cells) h f = rw (length-append, write-full c (h .0) (f .0)) (omega (arith, h .0, cells-full cells (h .1) (f .1)))
+cells-full (c ∷ cells) h f = rw length-append (omega (arith, write-full c (h .0) (f .0 .0) (f .0 .1), cells-full cells (h .1) (f .1)))
 
 cells-some : (n : ℕ) (cells : List (List ℕ)) → 1 ≤ n → EachGood cellFormat (replicate n tt) cells → 1 ≤ length (joined writeCell cells)
 cells-some zero cells h g = absurd (omega arith)
@@ -112,7 +115,7 @@ zero-cells (suc n) (c ∷ cells) g e =
 
 empty-good : (n : ℕ) → EachGood cellFormat (replicate n tt) (replicate n (replicate 5 0))
 empty-good zero = tt
-empty-good (suc n) = (record { size = refl; plain = bytes-zeros 5; note = omega arith }, empty-good n)
+empty-good (suc n) = (record { size = refl; plain = bytes-zeros 5 }, empty-good n)
 
 empty-zero : (n : ℕ) → allZero (flat (replicate n (replicate 5 0))) ≡ true
 unfolding allZero
@@ -168,18 +171,17 @@ unfolding readStored
 stored-some channels rows place [] h = absurd (omega arith)
 stored-some channels rows place (b ∷ d) h = refl
 
--- How many bytes a pattern takes: at most five a cell, and five a cell if no field is 0
+-- How many bytes a pattern takes: at most six a cell, and six a cell if all are full
 pub stored-most : (p : Pattern) → Fives (p .cells) → length (writeStored p) ≤ cellMost * length (p .cells)
 stored-most p h = write-case (λ (d : List ℕ). length d ≤ cellMost * length (p .cells)) p (λ e. omega arith) (λ e. cells-most (p .cells) h)
 
-full-some : (cells : List (List ℕ)) → 1 ≤ length cells → Fives cells → All (All (λ (x : ℕ). x ≡ 0 → ⊥)) cells → allZero (flat cells) ≡ false
+full-some : (cells : List (List ℕ)) → 1 ≤ length cells → Fives cells → All Full cells → allZero (flat cells) ≡ false
 unfolding allZero
 full-some [] h l f = absurd (omega arith)
 full-some ([] ∷ cells) h l f = absurd (omega (arith, l .0))
-full-some ((x ∷ c) ∷ cells) h l f = rw (ne-eqb x 0 (f .0 .0))
+full-some ((x ∷ c) ∷ cells) h l f = rw (ne-eqb x 0 (f .0 .1 .0))
 
-pub stored-full : (p : Pattern) → 1 ≤ length (p .cells) → Fives (p .cells) → All (All (λ (x : ℕ). x ≡ 0 → ⊥)) (p .cells)
-    → length (writeStored p) ≡ 5 * length (p .cells)
+pub stored-full : (p : Pattern) → 1 ≤ length (p .cells) → Fives (p .cells) → All Full (p .cells) → length (writeStored p) ≡ cellMost * length (p .cells)
 unfolding needsNoData
 stored-full p h l f = rw (write-cells p (full-some (p .cells) h l f)) (cells-full (p .cells) l f)
 

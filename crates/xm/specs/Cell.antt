@@ -1,18 +1,15 @@
--- "A cell is five bytes: note, instrument, volume, effect, parameter." How it is stored, and its shortest form.
-use Prim.Native.Nat.{ℕ, zero, suc, _+_, _*_, _/_, _%_, _≤_}
-use mathlib.Core.Bool.{Bool, cond}
+-- "A cell is five bytes: note, instrument, volume, effect, parameter." How it is stored, and its shortest form. "Keep all 256 note
+-- values."
+use Prim.Native.Nat.{ℕ, zero, suc, _+_, _*_, _/_, _%_}
+use mathlib.Core.Bool.{Bool, cond, _&&_}
 use mathlib.Core.List.{List, [], _∷_, _++_}
 use mathlib.Core.Path.{_≡_}
 use lib.Count.{ones}
 use lib.Dec.{ltb, eqb}
 use lib.ListN.{length, getD, drop}
 use Rattle.xm.specs.Number.{Bytes}
-use Rattle.xm.specs.Got.{got, Reader, _>>_, checked, present, atMost, _at_}
+use Rattle.xm.specs.Got.{got, Reader, _>>_, checked, present, _at_}
 use Rattle.xm.specs.Format.{Format}
-
--- "Only the note is limited (0..97)"
-abbrev pub noteMost : ℕ
-noteMost = 97
 
 -- "A cell is five bytes"
 abbrev pub cellSize : ℕ
@@ -46,10 +43,10 @@ needed s = lengthBy (getD s 0 0)
 unfoldable pub cellAt : List ℕ → List ℕ
 cellAt s = cond (ltb (getD s 0 0) markedFrom) (five s) (fieldsBy cellSize (getD s 0 0) (drop 1 s))
 
--- "A cell is tried for 7, then 9", at "where the cell's lead byte stands or would stand".
+-- "A cell is tried for 7", at "where the cell's lead byte stands or would stand".
 unfoldable pub readCell : Reader (List ℕ)
 readCell place s = do
-  checked (present (needed s) (length s) (7 at place) ∷ atMost noteMost (getD (cellAt s) 0 0) (9 at place) ∷ [])
+  checked (present (needed s) (length s) (7 at place) ∷ [])
   got (cellAt s) (needed s)
 
 -- "bits 5 and 6 zero and one bit for each field that isn't 0": the bits, the first field's lowest, and those fields.
@@ -72,10 +69,16 @@ kepts (x ∷ xs) = kept x ++ kepts xs
 unfoldable pub marked : List ℕ → List ℕ
 marked cell = (markedFrom + marks cell) ∷ kepts cell
 
--- "each cell in its shortest form; where plain and marked tie at five bytes, marked": by the note, and by how many fields are kept
--- behind a marked cell's lead byte.
+-- "A note of 128 or more can only be stored marked": plain it would be a marked cell's lead byte.
+unfoldable pub standsPlain : (note : ℕ) → Bool
+standsPlain note = ltb note markedFrom
+
+-- "each cell in its shortest form; where plain and marked tie at five bytes, marked": a marked cell has its lead byte and the fields kept.
+unfoldable pub plainShorter : (fields : ℕ) → Bool
+plainShorter fields = ltb cellSize (1 + fields)
+
 unfoldable pub plainBy : (note fields : ℕ) → Bool
-plainBy note fields = ltb cellSize (1 + fields)
+plainBy note fields = standsPlain note && plainShorter fields
 
 unfoldable pub goesPlain : List ℕ → Bool
 goesPlain cell = plainBy (getD cell 0 0) (length (kepts cell))
@@ -83,14 +86,13 @@ goesPlain cell = plainBy (getD cell 0 0) (length (kepts cell))
 unfoldable pub writeCell : List ℕ → List ℕ
 writeCell cell = cond (goesPlain cell) cell (marked cell)
 
--- "So a cell takes 1 to 5 bytes."
+-- "so a full cell may take six bytes"
 abbrev pub cellMost : ℕ
-cellMost = 5
+cellMost = 6
 
 pub record GoodCell (cell : List ℕ) : Type 0 where
   pub size : length cell ≡ cellSize
   pub plain : Bytes cell
-  pub note : getD cell 0 0 ≤ noteMost
 
 abbrev pub cellFormat : Format (Unit {0}) (List ℕ) (List ℕ)
 cellFormat = record { read = λ u. readCell; view = λ cell. cell; regions = λ cell. []; Good = λ u. GoodCell; write = writeCell }

@@ -18,7 +18,7 @@ use Rattle.xm.specs.Cell.{cellSize, cellMost}
 use Rattle.xm.specs.Stored.{rowsMost, Pattern, emptyRows, readStored, writeStored, GoodPattern}
 use Rattle.xm.specs.Header.{songLengthAt, restartAt}
 use Rattle.xm.specs.PatternInFile.{dataMost, leastPattern, writePattern}
-use Rattle.xm.specs.Packing.{argumentTests, cellBytes, unpacking, unpackNumbers, unpackAfter, unpackLoader, noteTests, patternOf, packing, packNumbers, packAfter, packLoader}
+use Rattle.xm.specs.Packing.{argumentTests, cellBytes, unpacking, unpackNumbers, unpackAfter, unpackLoader, patternOf, packing, packNumbers, packAfter, packLoader}
 use Rattle.xm.specs.Sample.{lengthOf, loopStart, loopLength, loops}
 use Rattle.xm.specs.Instrument.{Instrument, InstrumentFound}
 use Rattle.xm.specs.Module.{Found, Content, moduleFormat, fileMost, readWhole, readFile, plays}
@@ -30,18 +30,23 @@ use Rattle.xm.specs.Region.{Adjoin, regionAt, ofKind}
 use Rattle.xm.specs.Press.{contentOf, pressed, pressingAs, pressing, pressNumbersAs, pressAfterAs, pressLoader}
 
 -- DEMAND 1. "Bad input gets a refusal number and a place. A refused call changes nothing in the memory it was lent", and no call writes
--- past what it was lent. Of a call by what it writes and what it answers for a room:
+-- past what it was lent. The numbers are 1 to 16, and "9 is no longer given".
 abbrev pub refusalMost : ℕ
 refusalMost = 16
 
+abbrev pub Numbered : (most number : ℕ) → Type 0
+Numbered most number = (1 ≤ number) × (number ≤ most) × (number ≡ 9 → ⊥)
+
+-- Of a call by what it writes and what it answers for a room:
+
 pub record KeepsItsWord {A B : Type 0} (written : A → List B) (answer : (room : ℕ) → Answer A) : Type 0 where
-  pub numbered : (room : ℕ) (r : Refusal) → answer room ≡ refuses r → (1 ≤ r .number) × (r .number ≤ refusalMost)
+  pub numbered : (room : ℕ) (r : Refusal) → answer room ≡ refuses r → Numbered refusalMost (r .number)
   pub placed : (room : ℕ) (r : Refusal) → answer room ≡ refuses r → 14 ≤ r .number → r .place ≡ 0
   pub unchanged : (lent : List B) (r : Refusal) → answer (length lent) ≡ refuses r → after written (answer (length lent)) lent ≡ lent
   pub inside : (lent : List B) → length (after written (answer (length lent)) lent) ≡ length lent
 
 pub record TablesKept (file : List ℕ) (lent : Tables) : Type 0 where
-  pub numbered : (r : Refusal) → checkingInto (roomOf lent) file ≡ refuses r → (1 ≤ r .number) × (r .number ≤ refusalMost)
+  pub numbered : (r : Refusal) → checkingInto (roomOf lent) file ≡ refuses r → Numbered refusalMost (r .number)
   pub placed : (r : Refusal) → checkingInto (roomOf lent) file ≡ refuses r → 14 ≤ r .number → r .place ≡ 0
   pub unchanged : (r : Refusal) → checkingInto (roomOf lent) file ≡ refuses r → tablesAfter (checkingInto (roomOf lent) file) lent ≡ lent
   pub patterns : length (tablesAfter (checkingInto (roomOf lent) file) lent .patterns) ≡ length (lent .patterns)
@@ -50,7 +55,7 @@ pub record TablesKept (file : List ℕ) (lent : Tables) : Type 0 where
   pub tunes : length (tablesAfter (checkingInto (roomOf lent) file) lent .tunes) ≡ length (lent .tunes)
 
 pub record Demand₁ : Type 0 where
-  pub check : (file : List ℕ) (r : Refusal) → Bytes file → checking file ≡ refuses r → (1 ≤ r .number) × (r .number ≤ 13) × (r .place ≤ length file)
+  pub check : (file : List ℕ) (r : Refusal) → Bytes file → checking file ≡ refuses r → Numbered 13 (r .number) × (r .place ≤ length file)
   pub tables : (file : List ℕ) (lent : Tables) → Bytes file → TablesKept file lent
   pub unpack : (rows channels : ℕ) (stored : List ℕ) → Bytes stored → KeepsItsWord cellBytes (unpacking rows channels stored)
   pub pack : (rows channels : ℕ) (cells : List ℕ) → KeepsItsWord writeStored (packing rows channels cells)
@@ -82,7 +87,6 @@ pub record WellFormed (rows channels : ℕ) (cells : List ℕ) : Type 0 where
   pub arguments : AllHold (argumentTests rows channels)
   pub size : length cells ≡ rows * channels * cellSize
   pub plain : Bytes cells
-  pub notes : AllHold (noteTests (rows * channels) 0 cells)
 
 -- DEMAND 2, over the numbers that the calls report (number, place, and the results in order) and the memory they leave.
 abbrev pub accepts : (numbers : List ℕ) → Type 0
@@ -167,11 +171,11 @@ pub record Demand₃ : Type 0 where
   pub patterns : (rows channels : ℕ) (cells : List ℕ) (room : ℕ) → WellFormed rows channels cells → PackedShortest rows channels cells room (patternOf rows channels cells)
   pub modules : PressesShortest moduleFormat
 
--- "At 51 channels number 15 never occurs (256 rows: 65,280 at most); at 52 it can (66,560)."
+-- "size refusals can start at 43 channels (66,048 bytes at 256 rows) and never occur at 42 (64,512)."
 pub record Fifteen : Type 0 where
   pub never : (rows channels : ℕ) (cells : List ℕ) (room : ℕ) → rowsMost * channels * cellMost ≤ dataMost → packing rows channels cells room ≡ refuses (15 at 0) → ⊥
-  pub at-51 : rowsMost * 51 * cellMost ≤ dataMost
-  pub at-52 : (cells : List ℕ) × WellFormed rowsMost 52 cells × ((room : ℕ) → packing rowsMost 52 cells room ≡ refuses (15 at 0))
+  pub at-42 : rowsMost * 42 * cellMost ≤ dataMost
+  pub at-43 : (cells : List ℕ) × WellFormed rowsMost 43 cells × ((room : ℕ) → packing rowsMost 43 cells room ≡ refuses (15 at 0))
 
 -- "S = 0 means empty cells for the row number in the header. The press writes S = 0 for every all-empty pattern", and for no other; and data
 -- of empty cells are one content with S = 0, whatever bytes they are.

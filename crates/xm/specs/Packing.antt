@@ -1,11 +1,11 @@
 -- Unpacking and packing a pattern: the whole answers, their refusals in order, and the lent memory afterwards.
-use Prim.Native.Nat.{ℕ, zero, suc, _+_, _*_}
+use Prim.Native.Nat.{ℕ, _+_, _*_}
 use mathlib.Core.List.{List, [], _∷_, _++_}
-use lib.ListN.{length, getD, drop}
+use lib.ListN.{length}
 use Rattle.xm.specs.Got.{got, _>>=_, _>>_, Test, checked, present, atMost, within, exactly, _at_}
 use Rattle.xm.specs.Format.{flat}
 use Rattle.xm.specs.Answer.{Answer, answered, numbers, after, loaderNumber}
-use Rattle.xm.specs.Cell.{noteMost, cellSize}
+use Rattle.xm.specs.Cell.{cellSize}
 use Rattle.xm.specs.Stored.{rowsMost, channelsMost, Pattern, readStored, writeStored, cellsOf}
 use Rattle.xm.specs.PatternInFile.{dataMost}
 
@@ -34,21 +34,15 @@ unpackNumbers rows channels stored room = numbers (rowsRead ∷ []) (unpacking r
 abbrev pub unpackAfter : (rows channels : ℕ) (stored cells : List ℕ) → List ℕ
 unpackAfter rows channels stored cells = after cellBytes (unpacking rows channels stored (length cells)) cells
 
--- "9 in packing gives the cell's first byte"
-abbrev pub noteTests : (count place : ℕ) (cells : List ℕ) → List Test
-noteTests zero place cells = []
-noteTests (suc count) place cells = atMost noteMost (getD cells 0 0) (9 at place) ∷ noteTests count (place + cellSize) (drop cellSize cells)
-
 -- The pattern that lent cell bytes stand for.
 abbrev pub patternOf : (rows channels : ℕ) (cells : List ℕ) → Pattern
 patternOf rows channels cells = record { rows = rows; cells = cellsOf (rows * channels) cells }
 
--- "Packing order: 16 (rows, channels, or cell bytes not rows × channels × 5), 9, 15, 14."
+-- "Packing order: 16 (rows, channels, or cell bytes not rows × channels × 5), .. 15, 14."
 unfoldable pub packing : (rows channels : ℕ) (cells : List ℕ) (room : ℕ) → Answer Pattern
 packing rows channels cells room = answered (λ p used. p) (do
   let p = patternOf rows channels cells
   checked (argumentTests rows channels ++ (exactly (rows * channels * cellSize) (length cells) (16 at 0) ∷ []))
-  checked (noteTests (rows * channels) 0 cells)
   checked (atMost dataMost (length (writeStored p)) (15 at 0) ∷ present (length (writeStored p)) room (14 at 0) ∷ [])
   got p 0)
 

@@ -1,111 +1,137 @@
--- `measure::measure_cells` meets its contract. The loop's invariant: the answer is what measuring comes to from here on; `ready` is what holds
--- in a turn past the empty cells, and `turn` what holds behind the cell after them. Assumes nothing.
-use Prim.Native.Nat.{_+_, _-_, _≤_}
-use mathlib.Core.Bool.{true}
-use mathlib.Core.Logic.{⊎-elim}
-use mathlib.Core.Path.{refl, sym, _∙_}
+-- `measure::measure_cells` meets its contract. The loop's invariant: the answer is what measuring comes to from here on, by what the weights
+-- came to. Assumes nothing.
+use Prim.Native.Nat.{ℕ}
+use mathlib.Core.Bool.{Bool, true, _&&_}
+use mathlib.Core.Path.{_≡_, refl, sym, ap, ap₂, _∙_}
 use native.Mathlib.Omega.{arith}
-use borrow.Author.Tests.{leb-true}
-use lib.ListN.{length}
-use denote.Ref.{now}
-use Rattle.xm.specs.Stored.{readRow}
-use Rattle.ahead.proofs.Run.{run-at}
-use Rattle.measure.specs.Measure.{measuredOn}
-use Rattle.measure.proofs.Kept.{kept-bytes}
-use Rattle.measure.proofs.Measuring.{Measuring, kept-five, Ready, ready-run, ready-stay, ready-cell, ready-note}
 use borrow.Author.Needs.{needs}
+use borrow.Author.Tests.{ltb-true}
+use denote.Ref.{now}
+use lib.Dec.{eqb}
+use lib.ListN.{length, drop}
+use Rattle.xm.specs.Stored.{readRow}
+use Rattle.ahead.specs.Ahead.{blockSize}
+use Rattle.measure.specs.Measure.{measuredOn}
+use Rattle.measure.proofs.Weighing.{Weighing, skip-start, weighing-block, block-less}
 use Rattle.measure.proofs.measure_cells.Statement.{statement}
 use Rattle.measure.proofs.measure_cells.Tie as tie
 
 abbrev Inv-loop : tie.InvT-loop
-Inv-loop stored count used₀ shortest₀ same₀ left₀ used shortest same left = Measuring stored (measuredOn 0 0 true stored (readRow count 0 stored)) used shortest same left
+Inv-loop stored count lengths₀ weights₀ used₀ left₀ extra₀ odd₀ lengths weights used left extra odd =
+    Weighing stored (measuredOn 0 0 true stored (readRow count 0 stored)) count used left extra odd
+    × (length lengths ≡ blockSize)
+    × (length weights ≡ blockSize)
 
 abbrev μ-loop : tie.MeasureT-loop
-μ-loop stored count used₀ shortest₀ same₀ left₀ used shortest same left = left
-
-ready : (j : tie.Joined2 Inv-loop μ-loop) → Ready (now (j .before .before .before .before .before .before .args .stored)) (measuredOn 0 0 true (now (j .before .before .before .before .before .before .args .stored)) (readRow (j .before .before .before .before .before .before .args .count) 0 (now (j .before .before .before .before .before .before .args .stored))))
-    (j .if2 .used) (j .if2 .shortest) (j .before .before .before .before .loop .same) (j .if2 .left) (j .before .before .before .before .loop .left)
-ready j =
-    let l = j .before .before .before .before .loop in
-    let s = now (j .before .before .before .before .before .before .args .stored) in
-    let many : 9 ≤ l .left = omega arith in
-    let wide : 16 ≤ length s - l .used = omega (arith, leb-true) in
-    ⊎-elim (λ w.
-    ready-run (l .inv) many wide (w .2 .result) (run-at s (l .used) (w .1 .result) (w .2 .result) (λ i. omega (arith, j .before .before .before .before .before .shared-slice-known .given i)) (w .1 .ensures) (w .2 .ensures)) (w .3)
-    (w .4) (w .5)) (λ w. ready-stay (l .inv) many wide (w .1) (w .2) (w .3)) (j .if2 .came)
-
-turn : (c : tie.After-still-same Inv-loop μ-loop) → Measuring (now (c .before .before .before .before .before .before .before .before .before .before .before .before .before .args .stored)) (measuredOn 0 0 true (now (c .before .before .before .before .before .before .before .before .before .before .before .before .before .args .stored)) (readRow (c .before .before .before .before .before .before .before .before .before .before .before .before .before .args .count) 0 (now (c .before .before .before .before .before .before .before .before .before .before .before .before .before .args .stored))))
-    (c .before .before .before .before .before .before .before .if2 .used + c .before .before .before .length-by .result) (c .before .before .before .before .before .before .before .if2 .shortest + c .before .shortest-by .result) (c .still-same .result) (c .before .before .before .before .before .before .before .if2 .left - 1)
-turn c =
-    ready-cell (ready (c .before .before .before .before .before .before .before)) (omega (arith, c .before .before .before .before .before .before .note-at .ensures)) (c .before .before .before .length-by .ensures) (c .before .before .kept-at .ensures) (c .before .shortest-by .ensures) (c .still-same .ensures)
+μ-loop stored count lengths₀ weights₀ used₀ left₀ extra₀ odd₀ lengths weights used left extra odd = left
 
 loop-holds : tie.Need-loop-holds Inv-loop μ-loop
-loop-holds c = record { inside = omega arith; small = omega arith; rest = refl }
+loop-holds c = (skip-start _ _ _ (c .skipped .ensures), refl, refl)
+
+skipped-requires : tie.Need-skipped-requires Inv-loop μ-loop
+skipped-requires c κs = search needs
+
+sub-extra : tie.Need-sub-extra Inv-loop μ-loop
+sub-extra c = c .skipped .ensures .fewer
 
 sub-if1 : tie.Need-sub-if1 Inv-loop μ-loop
-sub-if1 c = omega arith
+sub-if1 c = c .before .loop .inv .0 .measuring .inside
 
-shared-slice-read-if2 : tie.Need-shared-slice-read-if2 Inv-loop μ-loop
-shared-slice-read-if2 c = omega (arith, leb-true)
+sub-rest : tie.Need-sub-rest Inv-loop μ-loop
+sub-rest c = c .before .before .loop .inv .0 .measuring .inside
 
-word-requires : tie.Need-word-requires Inv-loop μ-loop
-word-requires c κs = omega (arith, leb-true)
+sub-block-of : tie.Need-sub-block-of Inv-loop μ-loop
+sub-block-of c = omega (arith, ltb-true)
 
-empty-run-requires : tie.Need-empty-run-requires Inv-loop μ-loop
-empty-run-requires c κs = search needs
+block-of-requires : tie.Need-block-of-requires Inv-loop μ-loop
+block-of-requires c κs = search needs
+
+fill-lengths-requires : tie.Need-fill-lengths-requires Inv-loop μ-loop
+fill-lengths-requires c κs =
+    let l = c .before .before .before .before .loop in
+    let b = c .before .block-of .ensures in
+    (omega (arith, b .inside, l .inv .0 .measuring .inside), (b .most, l .inv .1))
+
+fill-weights-requires : tie.Need-fill-weights-requires Inv-loop μ-loop
+fill-weights-requires c κs =
+    let f = c .before .before in
+    let l = f .before .before .before .before .loop in
+    let b = f .before .block-of .ensures in
+    (omega (arith, ltb-true, b .inside, l .inv .0 .measuring .inside), (b .most, l .inv .2))
+
+slice-aggregate-weigh-block : tie.Need-slice-aggregate-weigh-block Inv-loop μ-loop
+slice-aggregate-weigh-block c = sym (c .before .before .before .fill-lengths .ensures .long)
+
+slice-aggregate-weigh-block-2 : tie.Need-slice-aggregate-weigh-block-2 Inv-loop μ-loop
+slice-aggregate-weigh-block-2 c = sym (c .before .before .fill-weights .ensures .long)
+
+weigh-block-requires : tie.Need-weigh-block-requires Inv-loop μ-loop
+weigh-block-requires c κs =
+    let f = c .before .before .before .before in
+    let l = f .before .before .before .before .before .loop in
+    let v = l .inv .0 in
+    let b = f .before .before .block-of .ensures in (
+      omega (arith, f .fill-lengths .ensures .long, b .most),
+      (
+        omega (arith, c .before .before .fill-weights .ensures .long, b .most),
+        (b .most, (omega (arith, v .fewer), (omega (arith, v .small .0, v .fewer), omega (arith, v .small .1, v .fewer)))),
+      ),
+    )
 
 add-used : tie.Need-add-used Inv-loop μ-loop
-add-used c = omega (arith, leb-true, c .empty-run .ensures .few)
-
-add-shortest : tie.Need-add-shortest Inv-loop μ-loop
-add-shortest c = omega (arith, leb-true, c .empty-run .ensures .few, c .before .before .before .before .before .before .loop .inv .small)
-
-sub-left : tie.Need-sub-left Inv-loop μ-loop
-sub-left c = omega (arith, c .empty-run .ensures .few)
-
-note-at-requires : tie.Need-note-at-requires Inv-loop μ-loop
-note-at-requires c κs = omega (arith, ready c .wide)
-
-returns : tie.Need-returns Inv-loop μ-loop
-returns c = ready-note (ready (c .before .before)) (omega (arith, c .before .note-at .ensures))
-
-shared-slice-read-lead : tie.Need-shared-slice-read-lead Inv-loop μ-loop
-shared-slice-read-lead c = omega (arith, ready (c .before .before .before) .wide)
-
-length-by-requires : tie.Need-length-by-requires Inv-loop μ-loop
-length-by-requires c κs = search needs
-
-kept-at-requires : tie.Need-kept-at-requires Inv-loop μ-loop
-kept-at-requires c κs = omega (arith, ready (c .before .before .before .before) .wide)
-
-shortest-by-requires : tie.Need-shortest-by-requires Inv-loop μ-loop
-shortest-by-requires c κs = search needs
-
-still-same-requires : tie.Need-still-same-requires Inv-loop μ-loop
-still-same-requires c κs =
-    let j = c .before .before .before .before .before .before in
-    kept-five _ (c .before .kept-at .ensures ∙ kept-bytes (j .if2 .used) (now (j .before .before .before .before .before .before .args .stored)) _ (c .before .before .length-by .ensures))
-
-add-shortest-2 : tie.Need-add-shortest-2 Inv-loop μ-loop
-add-shortest-2 c = let m = turn (c .before) in omega (arith, m .small, m .inside)
-
-add-used-2 : tie.Need-add-used-2 Inv-loop μ-loop
-add-used-2 c = let m = turn (c .before .before) in omega (arith, m .inside)
-
-sub-left-2 : tie.Need-sub-left-2 Inv-loop μ-loop
-sub-left-2 c = omega (arith, ready (c .before .before .before .before .before .before .before .before .before .before) .some)
+add-used c = omega (arith, c .before .before .before .before .before .before .before .before .before .before .before .before .before .loop .inv .0 .measuring .inside)
 
 loop-less : tie.Need-loop-less Inv-loop μ-loop
-loop-less c = let r = ready (c .before .before .before .before .before .before .before .before .before .before) in omega (arith, r .some, r .fewer)
+loop-less c =
+    let w = c .before .before .before .before in
+    let f = w .before .before .before .before in
+    let b = f .before .before in
+    let l = b .before .before .before .loop in
+    block-less (f .fill-lengths .last .1 .1 .1 .0) (w .before .before .fill-weights .last .1 .1 .1 .0) (b .block-of .result) (l .left) (l .extra) (l .odd)
+    (b .block-of .ensures .some (omega (arith, ltb-true))) (omega arith) (c .before .before .before .weigh-block .ensures)
 
 loop-again : tie.Need-loop-again Inv-loop μ-loop
-loop-again c = turn (c .before .before .before)
+loop-again c =
+    let w = c .before .before .before .before in
+    let f = w .before .before .before .before in
+    let b = f .before .before in
+    let l = b .before .before .before .loop in (
+      weighing-block (λ i. omega (arith, b .before .before .before .before .before .shared-slice-known .given i)) (l .used) _ _ _ (f .fill-lengths .ensures) (w .before .before .fill-weights .ensures)
+          (omega (arith, b .block-of .ensures .inside, l .inv .0 .measuring .inside)) (l .inv .0) (c .before .before .before .weigh-block .ensures) (omega (arith, l .inv .0 .measuring .inside)),
+      f .fill-lengths .ensures .long,
+      w .before .before .fill-weights .ensures .long,
+    )
+
+some-up-to-requires : tie.Need-some-up-to-requires Inv-loop μ-loop
+some-up-to-requires c κs = c .before .loop .inv .0 .measuring .inside
+
+sub-length-by : tie.Need-sub-length-by Inv-loop μ-loop
+sub-length-by c = omega (arith, c .before .before .loop .inv .0 .fewer)
+
+length-by-requires : tie.Need-length-by-requires Inv-loop μ-loop
+length-by-requires c κs =
+    let v = c .before .before .loop .inv .0 in (omega (arith, c .some-up-to .ensures, v .sum), omega (arith, c .some-up-to .ensures, v .sum, v .measuring .small, v .measuring .inside))
+
+-- What is left is measured onto what the weights say
+short : (c : tie.After-length-by Inv-loop μ-loop) → c .length-by .result ≡ c .before .before .before .loop .inv .0 .shortest
+short c = let v = c .before .before .before .loop .inv .0 in omega (arith, c .length-by .ensures, c .before .some-up-to .ensures, v .sum)
+
+stands-requires : tie.Need-stands-requires Inv-loop μ-loop
+stands-requires c κs = search needs
 
 measure-from-requires : tie.Need-measure-from-requires Inv-loop μ-loop
-measure-from-requires c κs = (omega arith, omega arith)
+measure-from-requires c κs = let m = c .before .before .before .before .loop .inv .0 .measuring in (m .inside, omega (arith, short (c .before), m .small))
 
-returns-2 : tie.Need-returns-2 Inv-loop μ-loop
-returns-2 c = c .measure-from .ensures ∙ sym (c .before .before .loop .inv .rest)
+returns : tie.Need-returns Inv-loop μ-loop
+returns c =
+    let l = c .before .before .before .before .before .loop in
+    let v = l .inv .0 in
+    let n = short (c .before .before) in
+    let s = now (c .before .before .before .before .before .before .before .before .args .stored) in
+    c .measure-from .ensures
+    ∙ ap₂ (λ (n : ℕ) (same : Bool). measuredOn (l .used) n same (drop (l .used) s) (readRow (l .left) (l .used) (drop (l .used) s))) n
+    (c .before .stands .ensures ∙ ap (λ (n : ℕ). eqb (l .odd) 0 && eqb n (l .used)) n ∙ sym (v .even))
+    ∙ sym (v .measuring .rest)
 
 pub measure-cells-spec : {M : Type 1} → statement M
 measure-cells-spec =
@@ -113,25 +139,24 @@ measure-cells-spec =
     (tie.spec
     Inv-loop
     μ-loop
+    skipped-requires
+    sub-extra
     loop-holds
     sub-if1
-    shared-slice-read-if2
-    word-requires
-    empty-run-requires
+    sub-rest
+    sub-block-of
+    block-of-requires
+    fill-lengths-requires
+    fill-weights-requires
+    slice-aggregate-weigh-block
+    slice-aggregate-weigh-block-2
+    weigh-block-requires
     add-used
-    add-shortest
-    sub-left
-    note-at-requires
-    returns
-    shared-slice-read-lead
-    length-by-requires
-    kept-at-requires
-    shortest-by-requires
-    still-same-requires
-    add-shortest-2
-    add-used-2
-    sub-left-2
     loop-less
     loop-again
+    some-up-to-requires
+    sub-length-by
+    length-by-requires
+    stands-requires
     measure-from-requires
-    returns-2)
+    returns)

@@ -1,11 +1,13 @@
 -- `measure::measure_from` meets its contract. The loop's invariant: the answer is what measuring comes to from here on. Assumes nothing.
-use mathlib.Core.Path.{refl, _∙_}
+use mathlib.Core.Path.{refl, ap, _∙_}
 use native.Mathlib.Omega.{arith}
 use lib.ListN.{getD, drop}
 use denote.Ref.{now}
+use Rattle.xm.specs.Short.{shortestBy}
 use Rattle.xm.specs.Stored.{readRow}
 use Rattle.xm.proofs.Cell.{length-some}
 use Rattle.refusal.proofs.Steps.{place-refused}
+use Rattle.cell.specs.declared.read.Cell.{Cell}
 use Rattle.cell.proofs.ReadLaws.{kept-of, Tried, tried}
 use Rattle.measure.specs.Measure.{measuredOn}
 use Rattle.measure.proofs.Measuring.{Measuring, kept-five, measuring-cell, measuring-stop, measuring-done}
@@ -54,7 +56,7 @@ kept-count-requires : tie.Need-kept-count-requires Inv-loop μ-loop
 kept-count-requires c κs = search needs
 
 shortest-by-requires : tie.Need-shortest-by-requires Inv-loop μ-loop
-shortest-by-requires c κs = search needs
+shortest-by-requires c κs = kept-five _ (c .kept-count .ensures ∙ kept-of _ (c .before .take-cell .ensures))
 
 shared-slice-read-still-same : tie.Need-shared-slice-read-still-same Inv-loop μ-loop
 shared-slice-read-still-same c =
@@ -71,7 +73,7 @@ loop-again : tie.Need-loop-again Inv-loop μ-loop
 loop-again c =
     let d = c .before .before .before .before .before in
     let t = seen d in
-    measuring-cell (d .before .before .before .before .before .loop .inv) (omega arith) (t .reads) (t .long) (omega (arith, t .long)) (c .before .before .before .kept-count .ensures ∙ kept-of _ (c .before .before .before .before .take-cell .ensures)) (c .before .before .shortest-by .ensures) (c .still-same .ensures)
+    measuring-cell (d .before .before .before .before .before .loop .inv) (omega arith) (t .reads) (t .long) (omega (arith, t .long)) (c .before .before .before .kept-count .ensures ∙ kept-of _ (c .before .before .before .before .take-cell .ensures)) (c .before .before .shortest-by .ensures ∙ ap (λ (cell : Cell). shortestBy (cell .note) (c .before .before .before .kept-count .result)) (c .before .before .before .before .take-cell .ensures)) (c .still-same .ensures)
 
 add-shortest : tie.Need-add-shortest Inv-loop μ-loop
 add-shortest c = let m = loop-again c in omega (arith, m .small, m .inside)

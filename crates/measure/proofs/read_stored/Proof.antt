@@ -14,7 +14,7 @@ mul-count : tie.Need-mul-count
 mul-count c = omega (arith, count-most _ _ (c .before .before .pre))
 
 measure-cells-requires : tie.Need-measure-cells-requires
-measure-cells-requires c κs = search needs
+measure-cells-requires c κs = count-most _ _ (c .before .before .pre)
 
 enum-known-step : tie.Need-enum-known-step
 enum-known-step c = search needs

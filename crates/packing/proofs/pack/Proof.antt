@@ -8,7 +8,7 @@ use Rattle.xm.specs.Packing.{argumentTests}
 use Rattle.xm.proofs.Got.{no-true, all-pass, all-hold}
 use Rattle.xm.proofs.Packing.{PackRange}
 use Rattle.cell.proofs.ReadRows.{count-most}
-use Rattle.packing.proofs.Exit.{form-path, Sized, sized, sized-cells, packs-argument, packs-note, packs-large, packs-narrow, packs-nothing, packs-cells}
+use Rattle.packing.proofs.Exit.{form-path, Sized, sized, sized-cells, packs-argument, packs-large, packs-narrow, packs-nothing, packs-cells}
 use Rattle.packing.proofs.pack.Statement.{statement}
 use Rattle.packing.proofs.pack.Tie as tie
 
@@ -20,11 +20,8 @@ range : (c : tie.Else2) → (let a = c .before .before .before .before .before .
 range c = let h = held (c .before) in (h .0, (h .1 .0, (omega arith, tt)))
 
 -- What the first pass found out
-found : (c : tie.After-stored-size)
-    → (let a = c .before .before .before .before .before .before .before .before .before .before .args in Sized (a .rows) (a .channels) (a .cells .now) (c .stored-size .result))
-found c =
-    sized _ _ _ (range (c .before .before .before .before .before)) _ _
-    (sym (c .before .before .measured2 .given .1) ∙ c .before .before .before .before .measure-cells .ensures) (c .stored-size .ensures)
+found : (c : tie.After-stored-size) → (let a = c .before .before .before .before .before .before .before .before .args in Sized (a .rows) (a .channels) (a .cells .now) (c .stored-size .result))
+found c = sized _ _ _ (range (c .before .before .before)) (omega arith) (c .before .before .measure-cells .ensures .exact (omega arith)) (c .stored-size .ensures)
 
 returns : tie.Need-returns
 returns c =
@@ -34,29 +31,28 @@ returns-2 : tie.Need-returns-2
 returns-2 c = packs-argument _ _ _ _ (c .refused2 .ensures) (λ h. c .before .if2 .taken (h .1 .1 .0))
 
 returns-3 : tie.Need-returns-3
-returns-3 c = packs-large _ _ _ _ (found (c .before .before)) (c .refused3 .ensures) (omega arith)
+returns-3 c = packs-large _ _ _ _ (range (c .before .before .before)) (c .refused3 .ensures) (c .before .before .measure-cells .ensures .above (omega arith))
 
 returns-4 : tie.Need-returns-4
-returns-4 c = packs-narrow _ _ _ _ (found (c .before .before .before)) (omega arith) (c .refused4 .ensures) (omega arith)
+returns-4 c = packs-narrow _ _ _ _ (found (c .before .before)) (c .refused4 .ensures) (omega arith)
 
 write-cells-requires : tie.Need-write-cells-requires
-write-cells-requires c κs = let f = found (c .before .before .before .before) in (omega (arith, f .range .1 .1 .0), omega (arith, sized-cells f (omega arith)))
+write-cells-requires c κs = let f = found (c .before .before .before) in (omega (arith, f .range .1 .1 .0), omega (arith, sized-cells f (omega arith)))
 
 returns-5 : tie.Need-returns-5
-returns-5 c = packs-note _ _ _ _ (range (c .before .before .before .before)) _ (sym (c .before .measured .given .1) ∙ c .before .before .before .measure-cells .ensures)
+returns-5 c =
+    let f = found (c .before .before .before .before .before .before) in
+    packs-cells _ _ _ _ f (form-path (omega arith) (omega arith)) (omega arith) (omega arith) _ (c .before .before .write-cells .ensures)
 
 returns-6 : tie.Need-returns-6
-returns-6 c =
-    let f = found (c .before .before .before .before .before .before .before) in
-    packs-cells _ _ _ _ f (omega arith) (form-path (omega arith) (omega arith)) (omega arith) (omega arith) _ (c .before .before .write-cells .ensures)
+returns-6 c = packs-nothing _ _ _ _ (found (c .before .before)) (form-path (omega arith) (omega arith)) (omega arith)
 
-returns-7 : tie.Need-returns-7
-returns-7 c = packs-nothing _ _ _ _ (found (c .before .before .before)) (omega arith) (form-path (omega arith) (omega arith)) (omega arith)
+measure-cells-requires : tie.Need-measure-cells-requires
+measure-cells-requires c κs = (omega arith, count-most _ _ (held (c .before)))
 
 pub pack-spec : {M : Type 1} → statement M
 pack-spec =
     tie.close
     (tie.spec (λ c κs. search needs) (λ c κs. search needs) returns (λ c. omega (arith, count-most _ _ (held c)))
-    (λ c. omega (arith, count-most _ _ (held c))) (λ c κs. search needs) returns-2 (λ c κs. omega arith) (λ c. search needs) (λ c. search needs)
-    (λ c κs. search needs) (λ c κs. search needs) returns-3 (λ c κs. search needs) returns-4 write-cells-requires returns-5 (λ c. search needs) returns-6
-    returns-7)
+    (λ c. omega (arith, count-most _ _ (held c))) (λ c κs. search needs) returns-2 measure-cells-requires (λ c κs. search needs) returns-3
+    (λ c κs. search needs) (λ c κs. search needs) returns-4 write-cells-requires (λ c. search needs) returns-5 returns-6)

@@ -2,11 +2,12 @@
 -- Assumes nothing.
 use Prim.Native.Nat.{_+_, _≤_, _<_}
 use mathlib.Core.Path.{_≡_, refl, sym}
+use mathlib.Core.Bool.{false}
 use native.Mathlib.Omega.{arith}
 use borrow.Author.Needs.{needs}
 use lib.ListN.{length, getD, drop, length-set}
-use Rattle.xm.specs.Cell.{five, fieldsBy, cellAt, kepts}
-use Rattle.xm.proofs.Cell.{length-some}
+use Rattle.xm.specs.Cell.{five, fieldsBy, cellAt, kepts, plainBy}
+use Rattle.xm.proofs.Cell.{length-some, few-marked}
 use Rattle.cell.proofs.ReadLaws.{Inside, first-inside, next-inside, field-inside, cell-first, cell-fields}
 use Rattle.cell.proofs.WriteLaws.{written-marked, put-more}
 use Rattle.cell.proofs.RewriteLaws.{stored-five, stored-few, five-inside, lead-moved, kept-least, kept-next, left-first, laid-lead}
@@ -43,13 +44,16 @@ few c =
     let a = f .before .before .before .before .args in
     stored-few (a .place) (a .stored .now) (f .first-field .ensures) (λ h. c .if1 .left (omega arith))
 
+mark : (c : tie.Else1) → (let a = c .before .before .before .before .before .before .args in let cell = cellAt (drop (a .place) (a .stored .now)) in plainBy (getD cell 0 0) (length (kepts cell)) ≡ false)
+mark c = few-marked _ _ (omega (arith, few c))
+
 room : (c : tie.Else1) → (let f = c .before .before in let a = f .before .before .before .before .args in
     1 + length (kepts (fieldsBy 5 (f .first-field .result .bits) (drop (f .first-field .result .place) (a .stored .now)))) ≤ length (a .out .now))
 room c =
     let f = c .before .before in
     let s = f .before .before .before .before in
     let cell = cellAt (drop (s .args .place) (s .args .stored .now)) in
-    let fits : 1 + length (kepts cell) ≤ length (s .args .out .now) = omega (arith, written-marked cell (few c), s .pre .1) in
+    let fits : 1 + length (kepts cell) ≤ length (s .args .out .now) = omega (arith, written-marked cell (mark c), s .pre .1) in
     rw (cell-first (s .args .place) (s .args .stored .now) (f .first-field .ensures)) at fits
 
 -- From a call of `put_field` to the branch
@@ -166,7 +170,7 @@ returns-2 c =
     let s₂ = put-more _ _ s₁ (p₂ .put-field2 .ensures .0, p₂ .put-field2 .ensures .1 .1 .1) in
     let s₃ = put-more _ _ s₂ (p₃ .put-field3 .ensures .0, p₃ .put-field3 .ensures .1 .1 .1) in
     let s₄ = put-more _ _ s₃ (p₄ .put-field4 .ensures .0, p₄ .put-field4 .ensures .1 .1 .1) in
-    rw cell (laid-lead _ refl _ lead (a .out .now) (omega (arith, room e)) (rw cell at (few e)) (put-more _ _ s₄ (p₅ .put-field5 .ensures .0, p₅ .put-field5 .ensures .1 .1 .1)))
+    rw cell (laid-lead _ refl _ lead (a .out .now) (omega (arith, room e)) (rw cell at (mark e)) (put-more _ _ s₄ (p₅ .put-field5 .ensures .0, p₅ .put-field5 .ensures .1 .1 .1)))
 
 pub rewrite-cell-spec : {M : Type 1} → statement M
 rewrite-cell-spec =

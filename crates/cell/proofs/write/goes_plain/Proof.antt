@@ -1,4 +1,4 @@
--- `cell::write::goes_plain` meets its contract. Assumes nothing.
+-- `cell::write::goes_plain` meets its contract: each test decides as its branch says. Assumes nothing.
 use native.Mathlib.Omega.{arith}
 use borrow.Author.Tests.{eq-eqb, ne-eqb}
 use Rattle.cell.proofs.write.goes_plain.Statement.{statement}

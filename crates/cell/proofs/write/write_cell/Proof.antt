@@ -1,16 +1,16 @@
--- `cell::write::write_cell` meets its contract: marked unless all five bits of the lead byte are set. Assumes nothing.
-use Prim.Native.Nat.{ℕ, _+_, _≤_, _<_}
+-- `cell::write::write_cell` meets its contract: plain, or marked. Assumes nothing.
+use Prim.Native.Nat.{ℕ, _+_, _≤_}
 use mathlib.Core.Path.{_≡_, sym, ap, _∙_}
+use mathlib.Core.Bool.{false}
 use mathlib.Core.List.{List}
 use native.Mathlib.Omega.{arith}
 use borrow.Author.Needs.{needs}
-use borrow.Author.Tests.{eqb-true, eqb-false}
 use lib.ListN.{length, getD, set, length-set}
 use Rattle.xm.specs.Answer.{inFront}
-use Rattle.xm.specs.Cell.{bit, marks, kepts, writeCell}
+use Rattle.xm.specs.Cell.{bit, marks, kepts, plainBy, writeCell}
 use Rattle.xm.proofs.Cell.{kepts-sum}
 use Rattle.cell.proofs.ReadLaws.{bytesAt, five-at}
-use Rattle.cell.proofs.WriteLaws.{count-plain, written-marked, lead-full, lead-less, put-first, put-more, put-done}
+use Rattle.cell.proofs.WriteLaws.{count-plain, written-marked, lead-plain, put-first, put-more, put-done}
 use Rattle.cell.proofs.write.write_cell.Statement.{statement}
 use Rattle.cell.proofs.write.write_cell.Tie as tie
 
@@ -22,38 +22,38 @@ room : (c : tie.After-lead-of) → (let a = c .before .before .before .args in l
 room c = let s = c .before .before .before in rw (five-at (s .args .place) (s .args .cells .now)) at (s .pre .1)
 
 -- A plain one is as it stands
-plain : (c : tie.Then1) → (let a = c .before .before .before .before .before .args in writeCell (bytesAt (a .place) (a .cells .now)) ≡ bytesAt (a .place) (a .cells .now))
+plain : (c : tie.Then1) → (let a = c .before .before .before .before .before .before .args in writeCell (bytesAt (a .place) (a .cells .now)) ≡ bytesAt (a .place) (a .cells .now))
 plain c =
-    let of = c .before .before in
+    let of = c .before .before .before in
     let a = of .before .before .before .args in
-    count-plain (bytesAt (a .place) (a .cells .now)) (lead-full _ _ _ _ _ (of .lead-of .result) (lead of) (eqb-true _ 159 (sym (c .before .goes-plain .ensures) ∙ c .if1 .taken)))
+    count-plain (bytesAt (a .place) (a .cells .now)) (sym (lead-plain _ _ _ _ _ (of .lead-of .result) (lead of)) ∙ sym (c .before .goes-plain .ensures) ∙ c .if1 .taken)
 
 returns : tie.Need-returns
 returns c =
     let then = c .before .before .before .before in
-    let a = then .before .before .before .before .before .args in
+    let a = then .before .before .before .before .before .before .args in
     let same = five-at (a .place) (a .cells .now) in
     rw same (sym (ap length (plain then)), c .before .before .copy-plain .ensures ∙ ap (λ (l : List ℕ). inFront l (a .out .now)) (same ∙ sym (plain then)))
 
 -- and a marked one has its lead byte, and a byte for each field that is kept
-marked : (c : tie.Else1) → (let a = c .before .before .before .before .before .args in let cell = bytesAt (a .place) (a .cells .now) in
-    (length (kepts cell) < 5) × (1 + length (kepts cell) ≤ length (a .out .now)))
+marked : (c : tie.Else1) → (let a = c .before .before .before .before .before .before .args in let cell = bytesAt (a .place) (a .cells .now) in
+    (plainBy (getD cell 0 0) (length (kepts cell)) ≡ false) × (1 + length (kepts cell) ≤ length (a .out .now)))
 marked c =
-    let a = c .before .before .before .before .before .args in
-    let few = lead-less _ _ _ _ _ (c .before .before .lead-of .result) (lead (c .before .before)) (eqb-false _ 159 (sym (c .before .goes-plain .ensures) ∙ c .if1 .left)) in
-    (few, omega (arith, written-marked (bytesAt (a .place) (a .cells .now)) few, room (c .before .before)))
+    let a = c .before .before .before .before .before .before .args in
+    let mark = sym (lead-plain _ _ _ _ _ (c .before .before .before .lead-of .result) (lead (c .before .before .before))) ∙ sym (c .before .goes-plain .ensures) ∙ c .if1 .left in
+    (mark, omega (arith, written-marked (bytesAt (a .place) (a .cells .now)) mark, room (c .before .before .before)))
 
-bits : (c : tie.Else1) → (let a = c .before .before .before .before .before .args in let s = a .cells .now in
+bits : (c : tie.Else1) → (let a = c .before .before .before .before .before .before .args in let s = a .cells .now in
     1 + (bit (getD s (a .place) 0) + (bit (getD s (a .place + 1) 0) + (bit (getD s (a .place + 2) 0) + (bit (getD s (a .place + 3) 0) + bit (getD s (a .place + 4) 0)))))
-    ≤ length (set (a .out .now) 0 (c .before .before .lead-of .result)))
+    ≤ length (set (a .out .now) 0 (c .before .before .before .lead-of .result)))
 bits c =
-    let a = c .before .before .before .before .before .args in
+    let a = c .before .before .before .before .before .before .args in
     let s = a .cells .now in
     omega (
       arith,
       kepts-sum (getD s (a .place) 0) (getD s (a .place + 1) 0) (getD s (a .place + 2) 0) (getD s (a .place + 3) 0) (getD s (a .place + 4) 0),
       marked c .1,
-      length-set (a .out .now) 0 (c .before .before .lead-of .result),
+      length-set (a .out .now) 0 (c .before .before .before .lead-of .result),
     )
 
 -- From one call of `put` back to the one before, and from the first to the lead byte
@@ -75,7 +75,7 @@ fifth c = fourth (c .before .before .before .before .before)
 same-length-2 : tie.Need-same-length-2
 same-length-2 c =
     let e = fifth (c .before .before .before) in
-    omega (arith, length-set (e .before .before .before .before .before .args .out .now) 0 (e .before .before .lead-of .result))
+    omega (arith, length-set (e .before .before .before .before .before .before .args .out .now) 0 (e .before .before .before .lead-of .result))
 
 returns-2 : tie.Need-returns-2
 returns-2 c =
@@ -85,9 +85,9 @@ returns-2 c =
     let p₂ = p₃ .before .before .before .before .before in
     let p₁ = p₂ .before .before .before .before .before in
     let e = p₁ .before .before .before in
-    let a = e .before .before .before .before .before .args in
+    let a = e .before .before .before .before .before .before .args in
     let cell = bytesAt (a .place) (a .cells .now) in
-    let s₀ = put-first (a .out .now) cell _ (lead (e .before .before)) (marked e .1) in
+    let s₀ = put-first (a .out .now) cell _ (lead (e .before .before .before)) (marked e .1) in
     let s₁ = put-more _ _ s₀ (p₁ .put .ensures) in
     let s₂ = put-more _ _ s₁ (p₂ .put2 .ensures) in
     let s₃ = put-more _ _ s₂ (p₃ .put3 .ensures) in
@@ -97,7 +97,7 @@ returns-2 c =
 pub write-cell-spec : {M : Type 1} → statement M
 write-cell-spec =
     tie.close
-    (tie.spec (λ c κs. search needs) (λ c κs. search needs) (λ c κs. (omega arith, omega (arith, ap length (plain (c .before)), room (c .before .before .before)))) (λ c. search needs) returns
+    (tie.spec (λ c κs. search needs) (λ c. search needs) (λ c κs. search needs) (λ c κs. (omega arith, omega (arith, ap length (plain (c .before)), room (c .before .before .before .before)))) (λ c. search needs) returns
     (λ c. omega (arith, marked c .1))
     (λ c. search needs) (λ c κs. omega (arith, bits (first c)))
     (λ c. search needs) (λ c. search needs) (λ c κs. omega (arith, bits (second c)))
