@@ -16,13 +16,13 @@ use Rattle.xm.specs.Delta.{countWritten, decoding, decodingLimited}
 use Rattle.xm.specs.Press.{contentOf}
 use Rattle.xm.specs.Table.{Checked, checkingInto, Tables, roomOf, tablesAfter, patternRows, sampleRows, patternStride, sampleStride, sampleNumbers}
 use Rattle.xm.specs.Asking.{noRow}
-use Rattle.xm.specs.Demands.{AcceptedFile}
+use Rattle.xm.specs.Demands.{RowDecodes, AcceptedFile}
 use Rattle.xm.proofs.Module.{whole-read}
 use Rattle.xm.proofs.Delta.{decoding-gave, decoding-given}
-use Rattle.xm.proofs.Accepted.{accepted-files, number-at}
+use Rattle.xm.proofs.Accepted.{accepted-files, number-at, sample-at}
 use Rattle.xm.proofs.Demands.{loaders-tell}
 use Rattle.tables.proofs.IntoLaws.{into-accepted}
-use Rattle.tables.proofs.Calls.{decodes-at, valuesAt, filled-unpacks}
+use Rattle.tables.proofs.Calls.{valuesAt, filled-unpacks}
 use Rattle.fiddlemarsh.specs.Promise.{Unpacks, Fills, Decodes}
 
 -- A number and a memory of an answer that gives something
@@ -82,7 +82,7 @@ module _ (file : List ℕ) (plain : Bytes file) (lent : Tables) (c : Checked) (a
         own : decoding (sampleNumber k 3) (part (sampleNumber k 1) (sampleNumber k 2) file) (length values) ≡ gives (valuesAt c k)
         own =
             rw (sample-number k 1 low (omega arith), sample-number k 2 low (omega arith), sample-number k 3 low (omega arith))
-            (decoding-roomy _ _ (valuesAt c k) (length values) (decodes-at file (sampleRows (c .found)) _ _ k low (found .rows-decode) .1) enough)
+            (decoding-roomy _ _ (valuesAt c k) (length values) (sample-at (RowDecodes file) (sampleRows (c .found)) _ _ k low (found .rows-decode) .1) enough)
 
         gave : decodingLimited (sampleNumber k 3) (part (sampleNumber k 1) (sampleNumber k 2) file) (length values) ≡ gives (valuesAt c k)
         gave =

@@ -16,8 +16,8 @@ use Rattle.xm.specs.Delta.{decoding}
 use Rattle.xm.specs.Table.{Checked, sampleRows, sampleStride, tuneStride, checkIntoNumbers, checkingInto, roomWith, rowsAfter, Tables, tablesAfter}
 use Rattle.xm.specs.Table as paper
 use Rattle.xm.specs.Asking.{Lies, asking, stretchOf, askingRows, noRow}
-use Rattle.xm.specs.Demands.{AcceptedFile, liesAt}
-use Rattle.xm.proofs.Accepted.{accepted-files}
+use Rattle.xm.specs.Demands.{RowDecodes, AcceptedFile, liesAt}
+use Rattle.xm.proofs.Accepted.{accepted-files, sample-at}
 use Rattle.xm.proofs.Table.{joined-map}
 use Rattle.refusal.specs.Fault.{faultOf}
 use Rattle.walk.specs.File.{verdictOf, verdictNumbers}
@@ -25,7 +25,7 @@ use Rattle.walk.specs.declared.Verdict.{Verdict}
 use Rattle.tables.specs.Into.{lent, checkedInto, roomFor, patternsAfter, instrumentsAfter}
 use Rattle.tables.specs.Place.{sampleRow, numbersOf, tunesOf}
 use Rattle.tables.specs.declared.sample.SampleRow.{SampleRow}
-use Rattle.tables.proofs.Calls.{into-numbers, decodes-at, valuesAt}
+use Rattle.tables.proofs.Calls.{into-numbers, valuesAt}
 use Rattle.tables.proofs.IntoLaws.{into-accepted}
 use Rattle.records.specs.Records.{rowOf, rowsOf, recordsOf, noRecord, checkedRecords, recordsAfter, rowAsking, rowAskingIn, rowAskedOf, rowsGiven, rowAskedNumbers, rowAskedTunes, rowNumbers, rowTunes}
 use Rattle.records.specs.declared.row.RowAsked.{RowAsked}
@@ -176,4 +176,4 @@ module _ (file : List ℕ) (plain : Bytes file) (patterns instruments : List ℕ
 
   -- and decodes at its width to the content's values.
   pub stored-decodes : decoding (getD after number noRecord .width) (stretchOf file (askingRows file (rowsOf after) number)) (length (valuesAt c number)) ≡ gives (valuesAt c number)
-  stored-decodes = rw (stored-record, stored-asked) (decodes-at file (sampleRows (c .found)) _ _ number low (found .rows-decode) .1)
+  stored-decodes = rw (stored-record, stored-asked) (sample-at (RowDecodes file) (sampleRows (c .found)) _ _ number low (found .rows-decode) .1)

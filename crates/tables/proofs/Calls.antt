@@ -10,13 +10,12 @@ use Rattle.xm.specs.Format.{joined}
 use Rattle.xm.specs.Answer.{Answer, gives, refuses}
 use Rattle.xm.specs.Stored.{Pattern, emptyRows}
 use Rattle.xm.specs.Packing.{cellBytes, unpacking}
-use Rattle.xm.specs.Instrument.{Instrument}
 use Rattle.xm.specs.Delta.{decoding, valuesOf}
 use Rattle.xm.specs.Press.{contentOf}
-use Rattle.xm.specs.Table.{PatternRow, SampleRow, patternRows, sampleRows, Checked, checkIntoNumbers, checkingInto, patternStride, sampleStride, patternNumbers, sampleNumbers, Tables, Room, roomOf, tablesAfter}
+use Rattle.xm.specs.Table.{PatternRow, patternRows, sampleRows, Checked, checkIntoNumbers, checkingInto, patternStride, sampleStride, patternNumbers, sampleNumbers, Tables, Room, roomOf, tablesAfter}
 use Rattle.xm.specs.Asking.{stretchOf, askingFlat, noRow}
-use Rattle.xm.specs.Demands.{RowUnpacks, RowsUnpack, RowDecodes, RowsDecode, AcceptedFile, liesAt}
-use Rattle.xm.proofs.Accepted.{accepted-files, number-at}
+use Rattle.xm.specs.Demands.{headsIn, bytesIn, RowUnpacks, RowsUnpack, RowDecodes, AcceptedFile, liesAt}
+use Rattle.xm.proofs.Accepted.{accepted-files, number-at, sample-at}
 use Rattle.refusal.specs.declared.Fault.{Fault}
 use Rattle.walk.specs.declared.Verdict.{Verdict}
 use Rattle.walk.specs.declared.Verdict.the-variants.{Refused}
@@ -53,21 +52,9 @@ unpacks-at file channels (r ∷ rs) [] row p number low u = absurd u
 unpacks-at file channels (r ∷ rs) (q ∷ qs) row p zero low u = u .0
 unpacks-at file channels (r ∷ rs) (q ∷ qs) row p (suc number) low u = unpacks-at file channels rs qs row p number (omega arith) (u .1)
 
-pub decodes-at : (file : List ℕ) (rows : List SampleRow) (heads bytes : List (List ℕ)) (number : ℕ) → number < length rows → RowsDecode file rows heads bytes
-    → RowDecodes file (getD rows number noRow) (getD heads number []) (getD bytes number [])
-decodes-at file [] heads bytes number low u = absurd (omega arith)
-decodes-at file (r ∷ rs) [] bytes number low u = absurd u
-decodes-at file (r ∷ rs) (h ∷ hs) [] number low u = absurd u
-decodes-at file (r ∷ rs) (h ∷ hs) (b ∷ bs) zero low u = u .0
-decodes-at file (r ∷ rs) (h ∷ hs) (b ∷ bs) (suc number) low u = decodes-at file rs hs bs number (omega arith) (u .1)
-
 -- The content's values of a sample
-abbrev contents : Checked → List Instrument
-contents c = contentOf (c .found) .1 .1
-
 abbrev pub valuesAt : Checked → (number : ℕ) → List ℤ
-valuesAt c number =
-    valuesOf (getD (joined (λ (x : Instrument). x .samples .0) (contents c)) number []) (getD (joined (λ (x : Instrument). x .samples .1) (contents c)) number [])
+valuesAt c number = valuesOf (getD (headsIn (contentOf (c .found))) number []) (getD (bytesIn (contentOf (c .found))) number [])
 
 -- Of the tables that an accepted check leaves
 module _ (file : List ℕ) (plain : Bytes file) (lent : Tables) (c : Checked) (accepted : checkingInto (roomOf lent) file ≡ gives c) where
@@ -89,7 +76,7 @@ module _ (file : List ℕ) (plain : Bytes file) (lent : Tables) (c : Checked) (a
   filled-decodes number low =
       let rows = sampleRows (c .found) in
       let width = number-at sampleStride sampleNumbers (λ row. refl) rows noRow (drop (length (joined sampleNumbers rows)) (lent .samples)) number 3 low (omega arith) in
-      rw (filled-asked number low) (rw (accepted, width) (decodes-at file rows _ _ number low (found .rows-decode) .1))
+      rw (filled-asked number low) (rw (accepted, width) (sample-at (RowDecodes file) rows _ _ number low (found .rows-decode) .1))
 
   -- and each pattern's data, by the numbers of its row, unpack to the content's rows and cells.
   abbrev patternAt : (number : ℕ) → Pattern

@@ -13,14 +13,14 @@ use Rattle.xm.specs.Format.{each}
 use Rattle.xm.specs.Sample.{headBytes, dataSize, Stretch, readHead, readData, headFormat, dataFormat, SamplesFound}
 use Rattle.xm.specs.Instrument.{instrumentSizeAt, countAt, headerSizeAt, instrumentTests, InstrumentFound, voiceOf, readInstrument, instrumentFormat}
 use Rattle.xm.specs.Module.{fileMost}
-use Rattle.xm.specs.Table.{sampleCount, sampleRow, sampleRowsOf, sampleRowsIn}
+use Rattle.xm.specs.Table.{sampleCount, sampleRowAt, sampleRow, sampleRowsOf, sampleRowsIn}
 use Rattle.xm.proofs.Number.{bytes-drop}
 use Rattle.xm.proofs.Got.{passed, bind-got, got-value, got-used, got-carry}
 use Rattle.xm.proofs.Format.{cons-path, read-length}
 use Rattle.xm.proofs.Instrument.{heads-used, instrument-keeps}
 use Rattle.tables.specs.Accepted.{ReadsFrom}
 use Rattle.steps.specs.Step.{headSizeOf, instrumentHead}
-use Rattle.tables.specs.Place.{dataBefore, dataStart, dataEnd, Stands, rowOf, rowsFrom}
+use Rattle.tables.specs.Place.{dataBefore, dataStart, dataEnd, Stands, rowsFrom}
 use Rattle.tables.proofs.Reading.{reads-next}
 
 -- One header, and the data that it says
@@ -29,13 +29,13 @@ pub head-found : (size place : ℕ) (s : List ℕ) {i : Stretch} {n : ℕ} → r
 unfolding readHead
 head-found size place s e = passed _ _ e λ h e. (sym (got-value e), sym (got-used e))
 
-data-found : (head : List ℕ) (place : ℕ) (s : List ℕ) {i : Stretch} {n : ℕ} → readData head place s ≡ got i n → (i .place ≡ place) × (i .size ≡ dataSize head) × (n ≡ dataSize head)
+data-found : (head : List ℕ) (place : ℕ) (s : List ℕ) {i : Stretch} {n : ℕ} → readData head place s ≡ got i n → (i .place ≡ place) × (n ≡ dataSize head)
 unfolding readData
-data-found head place s e = passed _ _ e λ h e. (ap Stretch.place (sym (got-value e)), ap Stretch.size (sym (got-value e)), sym (got-used e))
+data-found head place s e = passed _ _ e λ h e. (ap Stretch.place (sym (got-value e)), sym (got-used e))
 
-row-first : (h d : Stretch) (place bytesPlace size : ℕ) (head : List ℕ) → h ≡ record { place = place; size = size; bytes = head } → d .place ≡ bytesPlace → d .size ≡ dataSize (h .bytes)
-    → sampleRow h d ≡ rowOf place bytesPlace head
-row-first h d place bytesPlace size head p q r = cc
+row-first : (h d : Stretch) (place bytesPlace size : ℕ) (head : List ℕ) → h ≡ record { place = place; size = size; bytes = head } → d .place ≡ bytesPlace
+    → sampleRow h d ≡ sampleRowAt place bytesPlace head
+row-first h d place bytesPlace size head p q = rw (p, q)
 
 rows-path : (k H : ℕ) {a b c e : ℕ} {s t : List ℕ} → a ≡ b → c ≡ e → s ≡ t → rowsFrom k H a c s ≡ rowsFrom k H b e t
 rows-path k H p q r = cc
@@ -51,10 +51,10 @@ unfolding dataBefore rowsFrom
 samples-more k H place bytesPlace s t h d hs ds a c f eh ed w =
     let u = head-found H place s eh in
     let v = data-found (h .bytes) bytesPlace t ed in
-    let size : c ≡ dataSize (headBytes H s) = v .2 ∙ ap (λ (x : Stretch). dataSize (x .bytes)) (u .0) in
+    let size : c ≡ dataSize (headBytes H s) = v .1 ∙ ap (λ (x : Stretch). dataSize (x .bytes)) (u .0) in
     let behind : drop a s ≡ drop H s = ap (λ (n : ℕ). drop n s) (u .1) in
     record {
-      rows = cons-path (row-first h d place bytesPlace H (headBytes H s) (u .0) (v .0) (v .1)) (w .rows ∙ rows-path k H (omega (arith, u .1)) (omega (arith, size)) behind);
+      rows = cons-path (row-first h d place bytesPlace H (headBytes H s) (u .0) (v .0)) (w .rows ∙ rows-path k H (omega (arith, u .1)) (omega (arith, size)) behind);
       long = omega (arith, size, w .long, ap (dataBefore k H) behind);
     }
 

@@ -14,11 +14,11 @@ use Rattle.xm.specs.Sample.{leastHead, headBytes, dataSize}
 use Rattle.xm.specs.Instrument.{InstrumentFound, instrumentFormat, instrumentTests}
 use Rattle.xm.specs.Module.{Found, fileMost, readFile}
 use Rattle.xm.specs.Table as row
-use Rattle.xm.specs.Table.{sampleRowsIn, sampleRows}
+use Rattle.xm.specs.Table.{sampleRowAt, sampleRowsIn, sampleRows}
 use Rattle.xm.specs.Asking.{noRow}
 use Rattle.tables.specs.Accepted.{ReadsFrom, InstrumentsFrom}
 use Rattle.steps.specs.Step.{instrumentHead}
-use Rattle.tables.specs.Place.{dataBefore, dataStart, Stands, rowOf, rowsFrom}
+use Rattle.tables.specs.Place.{dataBefore, dataStart, Stands, rowsFrom}
 use Rattle.tables.specs.Sought.{Seeks, soughtFrom}
 use Rattle.steps.specs.declared.instrument.InstrumentHead.{InstrumentHead}
 use Rattle.tables.specs.declared.sample.SampleRow.{SampleRow}
@@ -42,7 +42,7 @@ pub record SampleFits (file : List ℕ) (head size place : ℕ) : Type 0 where
 
 -- The row of the next sample that is left of an instrument
 rows-step : (left size head bytesPlace : ℕ) (s : List ℕ) → 0 < left
-    → rowsFrom left size head bytesPlace s ≡ rowOf head bytesPlace (headBytes size s) ∷ rowsFrom (left - 1) size (head + size) (bytesPlace + dataSize (headBytes size s)) (drop size s)
+    → rowsFrom left size head bytesPlace s ≡ sampleRowAt head bytesPlace (headBytes size s) ∷ rowsFrom (left - 1) size (head + size) (bytesPlace + dataSize (headBytes size s)) (drop size s)
 unfolding rowsFrom
 rows-step zero size head bytesPlace s l = absurd (omega arith)
 rows-step (suc left) size head bytesPlace s l = let z : suc left - 1 ≡ left = omega arith in rw z
@@ -85,7 +85,7 @@ module _ (file : List ℕ) (number : ℕ) (some : number < length (listIn sample
     -- with a sample left, the row sought is its
     module _ (l : 0 < left) where
       abbrev found : row.SampleRow
-      found = rowOf head place (headBytes size (drop head file))
+      found = sampleRowAt head place (headBytes size (drop head file))
 
       both : getD all number noRow ∷ drop (suc number) all
           ≡ found ∷ rowsFrom (left - 1) size (head + size) (place + dataSize (headBytes size (drop head file))) (drop size (drop head file)) ++ joined sampleRowsIn (w .parts)

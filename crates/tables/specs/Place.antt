@@ -3,7 +3,7 @@ use Prim.Native.Nat.{ℕ, zero, suc, _+_, _*_, _≤_, _<_}
 use mathlib.Core.List.{List, [], _∷_}
 use lib.IntN.{ℤ}
 use lib.ListN.{length, drop}
-use Rattle.xm.specs.Sample.{leastHead, headBytes, dataSize, widthOf, finetune, relativeNote}
+use Rattle.xm.specs.Sample.{leastHead, headBytes, dataSize}
 use Rattle.xm.specs.Instrument.{samplesMost}
 use Rattle.xm.specs.Module.{fileMost}
 use Rattle.xm.specs.Table as row
@@ -29,22 +29,11 @@ pub record Stands (file : List ℕ) (x : InstrumentHead) : Type 0 where
   pub wide : 0 < x .samples → leastHead ≤ x .«head_size»
   pub inside : dataEnd file x ≤ length file
 
--- The row of a sample, by its header.
-abbrev pub rowOf : (headerPlace dataPlace : ℕ) (head : List ℕ) → row.SampleRow
-rowOf headerPlace dataPlace head = record {
-  headerPlace = headerPlace;
-  dataPlace = dataPlace;
-  size = dataSize head;
-  width = widthOf head;
-  finetune = finetune head;
-  relativeNote = relativeNote head;
-}
-
 -- The rows of the first samples, whose headers stand in front of `s`, from `head` on, and whose data from `bytesPlace` on.
 unfoldable pub rowsFrom : (number size head bytesPlace : ℕ) → List ℕ → List row.SampleRow
 rowsFrom zero size head bytesPlace s = []
 rowsFrom (suc number) size head bytesPlace s =
-    rowOf head bytesPlace (headBytes size s) ∷ rowsFrom number size (head + size) (bytesPlace + dataSize (headBytes size s)) (drop size s)
+    row.sampleRowAt head bytesPlace (headBytes size s) ∷ rowsFrom number size (head + size) (bytesPlace + dataSize (headBytes size s)) (drop size s)
 
 -- The row as the code has it.
 abbrev pub sampleRow : row.SampleRow → SampleRow

@@ -12,9 +12,9 @@ ghost use Rattle.xm.specs.Got.{listIn};
 ghost use Rattle.xm.specs.Sample.{leastHead, headBytes};
 ghost use Rattle.xm.specs.Module.{fileMost, readFile};
 ghost use Rattle.xm.specs.Lay.{lay};
-ghost use Rattle.xm.specs.Table.{sampleRows, sampleStride, tuneStride};
+ghost use Rattle.xm.specs.Table.{sampleRowAt, sampleRows, sampleStride, tuneStride};
 ghost use Rattle.xm.specs.Asking.{noRow};
-ghost use Rattle.tables.specs.Place.{rowOf, sampleRow, numbersOf, tunesOf};
+ghost use Rattle.tables.specs.Place.{sampleRow, numbersOf, tunesOf};
 ghost use Rattle.tables.specs.Sought.{soughtFrom, Seeks};
 
 // Tunes to a row.
@@ -42,7 +42,7 @@ fn sample_row(file: &[u8], head: usize, size: usize, data_place: usize) -> Sampl
     requires { ⌜ length (now file) ≤ fileMost ⌝ }
     requires { ⌜ head + leastHead ≤ length (now file) ⌝ }
     requires { ⌜ «data_place» ≤ length (now file) ⌝ }
-    ensures { λ r. ⌜ r ≡ sampleRow (rowOf head «data_place» (headBytes size (drop head (now (file .entry))))) ⌝ }
+    ensures { λ r. ⌜ r ≡ sampleRow (sampleRowAt head «data_place» (headBytes size (drop head (now (file .entry))))) ⌝ }
 {
     let sample = sample_head(file, head, size);
     SampleRow {

@@ -3,42 +3,38 @@ use Prim.Native.Nat.{ℕ, zero, suc, _+_, _*_, _/_, _%_, _≤_, _<_}
 use mathlib.Core.Bool.{Bool, true, false, cond}
 use mathlib.Core.List.{List, [], _∷_, _++_, map, append-assoc}
 use mathlib.Core.Path.{_≡_, refl, sym, ap, ap₂, _∙_, subst}
-use native.Mathlib.Nat.{zero-add, add-zero, mul-zero, mul-suc}
+use native.Mathlib.Nat.{zero-add, mul-zero, mul-suc}
 use native.Mathlib.Omega.{arith}
 use lib.Dec.{eqb}
 use lib.ListN.{length, getD, take, drop, replicate, length-append, length-take, length-map, length-replicate, List·getD-append}
 use lib.Seq.{drop-at, take-at, getD-append-add}
-use Rattle.xm.specs.Number.{byteAt, longAt, part, signed}
+use Rattle.xm.specs.Number.{byteAt, part}
 use Rattle.xm.specs.Got.{Holds}
 use Rattle.xm.specs.Format.{sampleData, joined, EachGood, All}
 use Rattle.xm.specs.PatternInFile.{PatternFound, GoodStored, patternFormat}
-use Rattle.xm.specs.Sample.{leastHead, Stretch, isWide, widthOf, lengthOf}
-use Rattle.xm.specs.Instrument.{InstrumentFound, instrumentView}
+use Rattle.xm.specs.Sample.{leastHead, Stretch, isWide, widthOf, dataSize}
+use Rattle.xm.specs.Instrument.{Instrument, InstrumentFound, instrumentView}
 use Rattle.xm.specs.Module.{patternsFor, moduleFormat}
 use Rattle.xm.specs.Delta.{widthTest, decoding, valuesOf}
 use Rattle.xm.specs.Table.{SampleRow, patternRow, sampleCount, instrumentRowsFrom, sampleRow, sampleRowsOf, sampleRowsIn, sampleRows, sampleStride, sampleNumbers}
 use Rattle.xm.specs.Press.{contentOf}
 use Rattle.xm.specs.Answer.{gives}
-use Rattle.xm.specs.Asking.{Lies, asking, stretchOf, askingFlat, askingRows, noRow}
-use Rattle.xm.specs.Demands.{headsIn, bytesIn, RowUnpacks, RowsUnpack, FindsRows, RowReads, RowDecodes, RowsDecode, liesAt, Asked, AsksExactly, LoopInside, AcceptedFiles}
-use Rattle.xm.proofs.Number.{byte-part, long-part}
+use Rattle.xm.specs.Asking.{Lies, asking, stretchOf, askingFlat, askingRows, noRow, liesOf}
+use Rattle.xm.specs.Demands.{headsIn, bytesIn, RowUnpacks, RowsUnpack, FindsRows, HeadStands, HeadsStand, EachSample, RowReads, RowDecodes, liesAt, Asked, AsksExactly, LoopInside, AcceptedFiles}
+use Rattle.xm.proofs.Number.{byte-part}
 use Rattle.xm.proofs.Got.{no-true, pass}
 use Rattle.xm.proofs.Answer.{answer-gives, answer-refuses, tests-fail}
-use Rattle.xm.proofs.Format.{joined-length, all-append, each-length}
+use Rattle.xm.proofs.Format.{joined-length, each-length}
 use Rattle.xm.proofs.Packing.{unpack-gives}
 use Rattle.xm.proofs.Row.{stored-anywhere}
 use Rattle.xm.proofs.PatternInFile.{PatternTold}
 use Rattle.xm.proofs.Sample.{HeadTold, DataTold, Sized, SamplesTold}
 use Rattle.xm.proofs.Module.{module-keeps, module-adjoins, module-tells, whole-read}
 use Rattle.xm.proofs.Region.{Before, adjoin-regions, kind-before}
-use Rattle.xm.proofs.Table.{tables-stand, joined-map}
+use Rattle.xm.proofs.Table.{lies, heads-lie, tables-stand, joined-map}
 use Rattle.xm.proofs.Delta.{decoding-given}
 
 -- Lists of facts
-all-joined : {A B : Type 0} (P : A → Type 0) (Q : B → Type 0) (f : A → List B) → ((x : A) → P x → All Q (f x)) → (xs : List A) → All P xs → All Q (joined f xs)
-all-joined P Q f h [] p = tt
-all-joined P Q f h (x ∷ xs) p = all-append Q (f x) (joined f xs) (h x (p .0)) (all-joined P Q f h xs (p .1))
-
 all-map : {A B : Type 0} (P : A → Type 0) (Q : B → Type 0) (f : A → B) → ((x : A) → P x → Q (f x)) → (xs : List A) → All P xs → All Q (map f xs)
 all-map P Q f h [] p = tt
 all-map P Q f h (x ∷ xs) p = (h x (p .0), all-map P Q f h xs (p .1))
@@ -56,21 +52,42 @@ all-at P [] k d p h = absurd (omega arith)
 all-at P (x ∷ xs) zero d p h = p .0
 all-at P (x ∷ xs) (suc k) d p h = all-at P xs k d (p .1) (omega arith)
 
--- A sample row says what stands in its header
-row-reads : (file : List ℕ) (h b : Stretch) → HeadTold file h → b .size ≡ lengthOf (h .bytes) → RowReads file (sampleRow h b)
-row-reads file h b t z =
-    let at : (k : ℕ) → k < leastHead → byteAt k (h .bytes) ≡ byteAt (h .place + k) file = λ k l. ap (byteAt k) (t .bytes) ∙ byte-part (h .place) leastHead k file l in (
-      z ∙ ap (longAt 0) (t .bytes) ∙ long-part (h .place) leastHead 0 file (omega arith) ∙ ap (λ (n : ℕ). longAt n file) (add-zero (h .place)),
-      ap (λ (n : ℕ). cond (eqb (n / 16 % 2) 1) 16 8) (at 14 (omega arith)),
-      ap (signed 8) (at 13 (omega arith)),
-      ap (signed 8) (at 16 (omega arith)),
-    )
+-- A sample header is what stands in its region
+head-stands : (file : List ℕ) (h : Stretch) → HeadTold file h → HeadStands file (lies h) (h .bytes)
+head-stands file h t k l = ap (byteAt k) (t .bytes) ∙ byte-part (h .place) leastHead k file l
 
-rows-read : (file : List ℕ) (heads bytes : List Stretch) → All (HeadTold file) heads → Sized (map Stretch.bytes heads) bytes → All (RowReads file) (sampleRowsOf heads bytes)
-rows-read file [] [] t z = tt
-rows-read file [] (b ∷ bs) t z = absurd z
-rows-read file (h ∷ hs) [] t z = absurd z
-rows-read file (h ∷ hs) (b ∷ bs) t z = (row-reads file h b (t .0) (omega (arith, z .0)), rows-read file hs bs (t .1) (z .1))
+some-stand : (file : List ℕ) (heads : List Stretch) (ls : List Lies) (hs : List (List ℕ)) → All (HeadTold file) heads → HeadsStand file ls hs
+    → HeadsStand file (map lies heads ++ ls) (map Stretch.bytes heads ++ hs)
+some-stand file [] ls hs t r = r
+some-stand file (h ∷ heads) ls hs t r = (head-stands file h (t .0), some-stand file heads ls hs (t .1) r)
+
+all-stand : (file : List ℕ) (is : List InstrumentFound) → All (λ (i : InstrumentFound). SamplesTold file (i .samples)) is
+    → HeadsStand file (joined (λ (i : InstrumentFound). map lies (i .samples .0)) is) (joined (λ (i : InstrumentFound). map Stretch.bytes (i .samples .0)) is)
+all-stand file [] t = tt
+all-stand file (i ∷ is) t = some-stand file (i .samples .0) _ _ (t .0 .heads) (all-stand file is (t .1))
+
+-- What holds of each sample that is found holds of each row with its header and data
+module _ (file : List ℕ) (P : SampleRow → (head bytes : List ℕ) → Type 0)
+    (one : (h b : Stretch) → HeadTold file h → DataTold file b → b .size ≡ dataSize (h .bytes) → P (sampleRow h b) (h .bytes) (b .bytes)) where
+  some-samples : (heads bytes : List Stretch) (rows : List SampleRow) (hs bs : List (List ℕ)) → All (HeadTold file) heads → All (DataTold file) bytes → Sized (map Stretch.bytes heads) bytes
+      → EachSample P rows hs bs → EachSample P (sampleRowsOf heads bytes ++ rows) (map Stretch.bytes heads ++ hs) (map Stretch.bytes bytes ++ bs)
+  some-samples [] [] rows hs bs t d z r = r
+  some-samples [] (b ∷ bytes) rows hs bs t d z r = absurd z
+  some-samples (h ∷ heads) [] rows hs bs t d z r = absurd z
+  some-samples (h ∷ heads) (b ∷ bytes) rows hs bs t d z r = (one h b (t .0) (d .0) (z .0), some-samples heads bytes rows hs bs (t .1) (d .1) (z .1) r)
+
+  all-samples : (is : List InstrumentFound) → All (λ (i : InstrumentFound). SamplesTold file (i .samples)) is
+      → EachSample P (joined sampleRowsIn is) (joined (λ (i : InstrumentFound). map Stretch.bytes (i .samples .0)) is) (joined (λ (i : InstrumentFound). map Stretch.bytes (i .samples .1)) is)
+  all-samples [] t = tt
+  all-samples (i ∷ is) t = some-samples (i .samples .0) (i .samples .1) _ _ _ (t .0 .heads) (t .0 .bytes) (t .0 .sizes) (all-samples is (t .1))
+
+  content-samples : (is : List InstrumentFound) → All (λ (i : InstrumentFound). SamplesTold file (i .samples)) is
+      → EachSample P (joined sampleRowsIn is) (joined (λ (x : Instrument). x .samples .0) (map instrumentView is)) (joined (λ (x : Instrument). x .samples .1) (map instrumentView is))
+  content-samples is t = rw (joined-map _ instrumentView is, joined-map _ instrumentView is) (all-samples is t)
+
+-- A row says what its header says
+row-reads : (h b : Stretch) → RowReads (sampleRow h b) (h .bytes) (b .bytes)
+row-reads h b = (refl, refl, refl, refl)
 
 -- Its stretch is the data, and decodes: at 16 bits its size is even
 width-test : (head : List ℕ) → Holds (widthTest (widthOf head))
@@ -87,36 +104,14 @@ width-even head n h q = go (isWide head) h q
     go true h q = h refl
     go false h q = absurd (no-true q)
 
-row-decodes : (file : List ℕ) (h b : Stretch) → HeadTold file h → DataTold file b → b .size ≡ lengthOf (h .bytes) → RowDecodes file (sampleRow h b) (h .bytes) (b .bytes)
-row-decodes file h b t d z = (
-  sym (d .bytes),
-  ap (λ (s : List ℕ). decoding (widthOf (h .bytes)) s (length (valuesOf (h .bytes) (b .bytes)))) (sym (d .bytes))
-      ∙ decoding-given (widthOf (h .bytes)) (b .bytes) (length (valuesOf (h .bytes) (b .bytes))) (width-test (h .bytes))
-      (width-even (h .bytes) (length (b .bytes)) (λ q. ap (λ (n : ℕ). n % 2) (d .long ∙ z) ∙ t .tests .1 .1 .0 q)) (omega arith),
-)
-
-rows-decode : (file : List ℕ) (heads bytes : List Stretch) → All (HeadTold file) heads → All (DataTold file) bytes → Sized (map Stretch.bytes heads) bytes
-    → RowsDecode file (sampleRowsOf heads bytes) (map Stretch.bytes heads) (map Stretch.bytes bytes)
-rows-decode file [] [] t d z = tt
-rows-decode file [] (b ∷ bs) t d z = absurd z
-rows-decode file (h ∷ hs) [] t d z = absurd z
-rows-decode file (h ∷ hs) (b ∷ bs) t d z = (row-decodes file h b (t .0) (d .0) (omega (arith, z .0)), rows-decode file hs bs (t .1) (d .1) (z .1))
-
-decode-append : (file : List ℕ) (rows rows′ : List SampleRow) (hs hs′ bs bs′ : List (List ℕ)) → RowsDecode file rows hs bs → RowsDecode file rows′ hs′ bs′
-    → RowsDecode file (rows ++ rows′) (hs ++ hs′) (bs ++ bs′)
-decode-append file [] rows′ [] hs′ [] bs′ p q = q
-decode-append file [] rows′ [] hs′ (b ∷ bs) bs′ p q = absurd p
-decode-append file [] rows′ (h ∷ hs) hs′ bs bs′ p q = absurd p
-decode-append file (row ∷ rows) rows′ [] hs′ bs bs′ p q = absurd p
-decode-append file (row ∷ rows) rows′ (h ∷ hs) hs′ [] bs′ p q = absurd p
-decode-append file (row ∷ rows) rows′ (h ∷ hs) hs′ (b ∷ bs) bs′ p q = (p .0, decode-append file rows rows′ hs hs′ bs bs′ (p .1) q)
-
-all-decode : (file : List ℕ) (is : List InstrumentFound) → All (λ (i : InstrumentFound). SamplesTold file (i .samples)) is
-    → RowsDecode file (joined sampleRowsIn is) (joined (λ (i : InstrumentFound). map Stretch.bytes (i .samples .0)) is) (joined (λ (i : InstrumentFound). map Stretch.bytes (i .samples .1)) is)
-all-decode file [] t = tt
-all-decode file (i ∷ is) t =
-    decode-append file (sampleRowsIn i) _ (map Stretch.bytes (i .samples .0)) _ (map Stretch.bytes (i .samples .1)) _
-    (rows-decode file (i .samples .0) (i .samples .1) (t .0 .heads) (t .0 .bytes) (t .0 .sizes)) (all-decode file is (t .1))
+row-decodes : (file : List ℕ) (h b : Stretch) → HeadTold file h → DataTold file b → b .size ≡ dataSize (h .bytes) → RowDecodes file (sampleRow h b) (h .bytes) (b .bytes)
+row-decodes file h b t d z =
+    let stretch : part (b .place) (dataSize (h .bytes)) file ≡ b .bytes = sym (d .bytes ∙ ap (λ (n : ℕ). part (b .place) n file) z) in (
+      stretch,
+      ap (λ (s : List ℕ). decoding (widthOf (h .bytes)) s (length (valuesOf (h .bytes) (b .bytes)))) stretch
+          ∙ decoding-given (widthOf (h .bytes)) (b .bytes) (length (valuesOf (h .bytes) (b .bytes))) (width-test (h .bytes))
+          (width-even (h .bytes) (length (b .bytes)) (λ q. ap (λ (n : ℕ). n % 2) (d .long ∙ z) ∙ t .tests .1 .1 .0 q)) (omega arith),
+    )
 
 -- An instrument's own rows stand where its row says
 pub rows-length : (heads bytes : List Stretch) → Sized (map Stretch.bytes heads) bytes → length (sampleRowsOf heads bytes) ≡ length heads
@@ -158,17 +153,17 @@ number-at stride numbers wide (r ∷ rs) none stale (suc n) k h l =
     ∙ getD-append-add (numbers r) (joined numbers rs ++ stale) (stride * n + k) 0
     ∙ number-at stride numbers wide rs none stale n k (omega arith) l
 
--- The stretch of a row holds the content's data of the same number
-row-bytes : (file : List ℕ) (rows : List SampleRow) (heads bytes : List (List ℕ)) (number : ℕ) → RowsDecode file rows heads bytes → number < length rows
-    → stretchOf file (gives (liesAt rows number)) ≡ getD bytes number []
-row-bytes file [] heads bytes number d h = absurd (omega arith)
-row-bytes file (row ∷ rows) [] bytes number d h = absurd d
-row-bytes file (row ∷ rows) (head ∷ heads) [] number d h = absurd d
-row-bytes file (row ∷ rows) (head ∷ heads) (b ∷ bytes) zero d h = d .0 .0
-row-bytes file (row ∷ rows) (head ∷ heads) (b ∷ bytes) (suc number) d h = row-bytes file rows heads bytes number (d .1) (omega arith)
+-- What holds of each sample holds of the one with a number
+pub sample-at : (P : SampleRow → (head bytes : List ℕ) → Type 0) (rows : List SampleRow) (heads bytes : List (List ℕ)) (number : ℕ) → number < length rows → EachSample P rows heads bytes
+    → P (getD rows number noRow) (getD heads number []) (getD bytes number [])
+sample-at P [] heads bytes number h e = absurd (omega arith)
+sample-at P (row ∷ rows) [] bytes number h e = absurd e
+sample-at P (row ∷ rows) (head ∷ heads) [] number h e = absurd e
+sample-at P (row ∷ rows) (head ∷ heads) (b ∷ bytes) zero h e = e .0
+sample-at P (row ∷ rows) (head ∷ heads) (b ∷ bytes) (suc number) h e = sample-at P rows heads bytes number (omega arith) (e .1)
 
 module _ (file : List ℕ) (rows : List SampleRow) (heads bytes : List (List ℕ)) (inside : All (λ (row : SampleRow). row .dataPlace + row .size ≤ length file) rows)
-    (decode : RowsDecode file rows heads bytes) where
+    (decode : EachSample (RowDecodes file) rows heads bytes) where
   row-inside : (number : ℕ) → number < length rows → getD rows number noRow .dataPlace + getD rows number noRow .size ≤ length file
   row-inside number h = all-at (λ (row : SampleRow). row .dataPlace + row .size ≤ length file) rows number noRow inside h
 
@@ -184,15 +179,15 @@ module _ (file : List ℕ) (rows : List SampleRow) (heads bytes : List (List ℕ
   asked-record : (stale : List SampleRow) (number : ℕ) → number < length rows → askingRows file (rows ++ stale) number ≡ gives (liesAt rows number)
   asked-record stale number h =
       let same : getD (rows ++ stale) number noRow ≡ getD rows number noRow = List·getD-append rows stale noRow number h in
-      ap (λ (row : SampleRow). asking file (length (rows ++ stale)) number (record { place = row .dataPlace; size = row .size })) same
+      ap (λ (row : SampleRow). asking file (length (rows ++ stale)) number (liesOf row)) same
       ∙ asks-exactly file (length (rows ++ stale)) number (liesAt rows number) .0 (omega (arith, length-append rows stale), row-inside number h)
 
   asked-rows : Asked file rows bytes
   asked-rows = record {
     flat = asked-flat;
     records = asked-record;
-    flat-bytes = λ stale number h. ap (stretchOf file) (asked-flat stale number h) ∙ row-bytes file rows heads bytes number decode h;
-    record-bytes = λ stale number h. ap (stretchOf file) (asked-record stale number h) ∙ row-bytes file rows heads bytes number decode h;
+    flat-bytes = λ stale number h. ap (stretchOf file) (asked-flat stale number h) ∙ sample-at (RowDecodes file) rows heads bytes number h decode .0;
+    record-bytes = λ stale number h. ap (stretchOf file) (asked-record stale number h) ∙ sample-at (RowDecodes file) rows heads bytes number h decode .0;
   }
 
 -- A pattern's row and its data
@@ -227,8 +222,8 @@ accepted-files file found end b e =
     let stand = tables-stand file found (t .instruments) in
     let before : All (λ (row : SampleRow). row .dataPlace + row .size ≤ end) (sampleRows found) =
     all-unmap (Before end) _ (sampleRows found) (rw (stand .bytes) at (kind-before sampleData 0 end (moduleFormat .regions found) adjoin)) in
-    let decode : RowsDecode file (sampleRows found) (headsIn (contentOf found)) (bytesIn (contentOf found)) =
-    rw (joined-map _ instrumentView (found .1 .1), joined-map _ instrumentView (found .1 .1)) (all-decode file (found .1 .1) (t .instruments)) in
+    let decode : EachSample (RowDecodes file) (sampleRows found) (headsIn (contentOf found)) (bytesIn (contentOf found)) =
+    content-samples file (RowDecodes file) (row-decodes file) (found .1 .1) (t .instruments) in
     record {
       ends-inside = w .inside;
       regions = adjoin-regions file (moduleFormat .regions found) end adjoin (w .inside);
@@ -237,9 +232,8 @@ accepted-files file found end b e =
           rows-unpack file (found .0 .content .channels) (found .1 .0) (c .1 .1 .0 .0) (c .1 .1 .0 .1) (t .patterns)
           (rw (sym (length-map (found .1 .0) PatternFound.content) ∙ n ∙ length-replicate (found .0 .content .patterns) (found .0 .content .channels)) (w .good .1 .0));
       rows-found = finds-rows file [] 0 (found .1 .1) refl (t .instruments);
-      rows-read =
-          all-joined (λ (i : InstrumentFound). SamplesTold file (i .samples)) (RowReads file) sampleRowsIn
-          (λ i s. rows-read file (i .samples .0) (i .samples .1) (s .heads) (s .sizes)) (found .1 .1) (t .instruments);
+      heads-stand = rw (heads-lie file found (t .instruments), joined-map _ instrumentView (found .1 .1)) (all-stand file (found .1 .1) (t .instruments));
+      rows-read = content-samples file RowReads (λ h b t d z. row-reads h b) (found .1 .1) (t .instruments);
       rows-decode = decode;
       asked =
           asked-rows file (sampleRows found) _ _

@@ -75,12 +75,6 @@ part-drop place offset size s = rw drop-drop
 pub byte-part : (place size offset : ℕ) (s : List ℕ) → offset < size → byteAt offset (part place size s) ≡ byteAt (place + offset) s
 byte-part place size offset s h = getD-take size (drop place s) offset 0 h ∙ getD-drop place s offset 0
 
-pub long-part : (place size offset : ℕ) (s : List ℕ) → offset + 4 ≤ size → longAt offset (part place size s) ≡ longAt (place + offset) s
-unfolding longAt
-long-part place size offset s h =
-    rw (byte-part place size offset s (omega arith), byte-part place size (offset + 1) s (omega arith), byte-part place size (offset + 2) s (omega arith), byte-part place size (offset + 3) s (omega arith))
-    (rw (add-assoc place offset 1, add-assoc place offset 2, add-assoc place offset 3))
-
 -- Two lists that agree on their first n elements
 pub record Agree (n : ℕ) (s t : List ℕ) : Type 0 where
   pub long : n ≤ length t

@@ -5,12 +5,12 @@ use mathlib.Core.List.{List, [], _∷_, _++_, map, append-nil}
 use mathlib.Core.Path.{_≡_, refl, sym, ap, ap₂, _∙_}
 use lib.Dec.{eqb}
 use Rattle.xm.specs.Format.{Kind, header, patternHeader, patternData, instrument, sampleHeader, sampleData, joined, All}
-use Rattle.xm.specs.Sample.{Stretch, stretchRegion, SamplesFound, samplesFormat, dataSize}
+use Rattle.xm.specs.Sample.{Stretch, stretchRegion, SamplesFound, samplesFormat}
 use Rattle.xm.specs.PatternInFile.{PatternFound, patternFormat}
 use Rattle.xm.specs.Instrument.{InstrumentFound, instrumentFormat}
 use Rattle.xm.specs.Module.{Found, moduleFormat}
 use Rattle.xm.specs.Table.{PatternRow, InstrumentRow, SampleRow, patternRow, patternRows, sampleCount, instrumentRowsFrom, instrumentRows, sampleRowsOf, sampleRowsIn, sampleRows}
-use Rattle.xm.specs.Asking.{Lies}
+use Rattle.xm.specs.Asking.{Lies, liesOf}
 use Rattle.xm.specs.Structure.{kindNumber}
 use Rattle.xm.specs.Region.{ofKind}
 use Rattle.xm.specs.Demands.{TablesStand}
@@ -48,7 +48,7 @@ map-map f g [] = refl
 map-map f g (x ∷ xs) = cons-path refl (map-map f g xs)
 
 -- The stretches of one kind, asked for by a kind
-abbrev lies : Stretch → Lies
+abbrev pub lies : Stretch → Lies
 lies v = record { place = v .place; size = v .size }
 
 stretches-same : (kind other : Kind) → eqb (kindNumber kind) (kindNumber other) ≡ true → (vs : List Stretch) → ofKind kind (joined (stretchRegion other) vs) ≡ map lies vs
@@ -116,23 +116,28 @@ row-heads [] bytes z = refl
 row-heads (h ∷ hs) [] z = absurd z
 row-heads (h ∷ hs) (b ∷ bs) z = cons-path refl (row-heads hs bs (z .1))
 
-row-bytes : (heads bytes : List Stretch) → Sized (map Stretch.bytes heads) bytes → map (λ (row : SampleRow). record { place = row .dataPlace; size = row .size }) (sampleRowsOf heads bytes) ≡ map lies bytes
+row-bytes : (heads bytes : List Stretch) → Sized (map Stretch.bytes heads) bytes → map liesOf (sampleRowsOf heads bytes) ≡ map lies bytes
 row-bytes [] [] z = refl
 row-bytes [] (b ∷ bs) z = absurd z
 row-bytes (h ∷ hs) [] z = absurd z
-row-bytes (h ∷ hs) (b ∷ bs) z = cons-path refl (row-bytes hs bs (z .1))
+row-bytes (h ∷ hs) (b ∷ bs) z = cons-path (ap (λ (n : ℕ). record { place = b .place; size = n }) (sym (z .0))) (row-bytes hs bs (z .1))
 
 module _ (file : List ℕ) (found : Found) (told : All (λ (i : InstrumentFound). SamplesTold file (i .samples)) (found .1 .1)) where
+  pub heads-lie : ofKind sampleHeader (moduleFormat .regions found) ≡ joined (λ (i : InstrumentFound). map lies (i .samples .0)) (found .1 .1)
+  heads-lie =
+      module-regions sampleHeader refl found
+      ∙ ap₂ (λ (a b : List Lies). a ++ b) (no-patterns sampleHeader refl refl (found .1 .0)) refl
+      ∙ joined-same (λ (i : InstrumentFound). SamplesTold file (i .samples)) _ _ (λ i t. heads-regions (i .samples)) (found .1 .1) told
+
   heads-stand : map Lies.place (ofKind sampleHeader (moduleFormat .regions found)) ≡ map SampleRow.headerPlace (sampleRows found)
   heads-stand =
-      ap (map Lies.place)
-      (module-regions sampleHeader refl found ∙ ap₂ (λ (a b : List Lies). a ++ b) (no-patterns sampleHeader refl refl (found .1 .0)) refl)
-      ∙ map-joined Lies.place (λ (i : InstrumentFound). ofKind sampleHeader (samplesFormat .regions (i .samples))) (found .1 .1)
+      ap (map Lies.place) heads-lie
+      ∙ map-joined Lies.place (λ (i : InstrumentFound). map lies (i .samples .0)) (found .1 .1)
       ∙ joined-same (λ (i : InstrumentFound). SamplesTold file (i .samples)) _ _
-      (λ i t. ap (map Lies.place) (heads-regions (i .samples)) ∙ sym (row-heads (i .samples .0) (i .samples .1) (t .sizes))) (found .1 .1) told
+      (λ i t. sym (row-heads (i .samples .0) (i .samples .1) (t .sizes))) (found .1 .1) told
       ∙ sym (map-joined SampleRow.headerPlace sampleRowsIn (found .1 .1))
 
-  bytes-stand : ofKind sampleData (moduleFormat .regions found) ≡ map (λ (row : SampleRow). record { place = row .dataPlace; size = row .size }) (sampleRows found)
+  bytes-stand : ofKind sampleData (moduleFormat .regions found) ≡ map liesOf (sampleRows found)
   bytes-stand =
       module-regions sampleData refl found
       ∙ ap₂ (λ (a b : List Lies). a ++ b) (no-patterns sampleData refl refl (found .1 .0)) refl

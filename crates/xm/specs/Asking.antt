@@ -2,12 +2,11 @@
 -- data isn't inside the file, gives an empty stretch. A second call tells 0 from 16 for the same question."
 use Prim.Native.Nat.{ℕ, _+_, _-_, _*_, _/_}
 use mathlib.Core.List.{List, [], _∷_}
-use lib.IntN.{pos}
 use lib.ListN.{length, getD}
 use Rattle.xm.specs.Number.{part}
 use Rattle.xm.specs.Got.{got, _>>_, checked, present, _at_}
 use Rattle.xm.specs.Answer.{Answer, gives, refuses, answered, numbers}
-use Rattle.xm.specs.Table.{SampleRow, sampleStride}
+use Rattle.xm.specs.Table.{SampleRow, sampleRowAt, sampleStride}
 
 -- Where the data lies that a row speaks of.
 pub record Lies : Type 0 where
@@ -36,9 +35,13 @@ abbrev pub askingFlat : (file table : List ℕ) (number : ℕ) → Answer Lies
 askingFlat file table number =
     asking file (length table / sampleStride) number (record { place = getD table (sampleStride * number + 1) 0; size = getD table (sampleStride * number + 2) 0 })
 
+-- What stands for a row where none is lent: that of no header.
 abbrev pub noRow : SampleRow
-noRow = record { headerPlace = 0; dataPlace = 0; size = 0; width = 0; finetune = pos 0; relativeNote = pos 0 }
+noRow = sampleRowAt 0 0 []
+
+-- The data that a row speaks of.
+abbrev pub liesOf : SampleRow → Lies
+liesOf row = record { place = row .dataPlace; size = row .size }
 
 abbrev pub askingRows : (file : List ℕ) (rows : List SampleRow) (number : ℕ) → Answer Lies
-askingRows file rows number =
-    asking file (length rows) number (record { place = getD rows number noRow .dataPlace; size = getD rows number noRow .size })
+askingRows file rows number = asking file (length rows) number (liesOf (getD rows number noRow))

@@ -19,12 +19,12 @@ use Rattle.xm.specs.Stored.{rowsMost, Pattern, emptyRows, readStored, wr
 use Rattle.xm.specs.Header.{songLengthAt, restartAt}
 use Rattle.xm.specs.PatternInFile.{dataMost, leastPattern, writePattern}
 use Rattle.xm.specs.Packing.{argumentTests, cellBytes, unpacking, unpackNumbers, unpackAfter, unpackLoader, patternOf, packing, packNumbers, packAfter, packLoader}
-use Rattle.xm.specs.Sample.{lengthOf, loopStart, loopLength, loops}
+use Rattle.xm.specs.Sample.{leastHead, lengthOf, loopStart, loopLength, loops}
 use Rattle.xm.specs.Instrument.{Instrument, InstrumentFound}
 use Rattle.xm.specs.Module.{Found, Content, moduleFormat, fileMost, readWhole, readFile, plays}
 use Rattle.xm.specs.Delta.{storedNumbers, decoding, coding, allFit, decodeNumbers, decodeAfter, codeNumbers, codeAfter, valuesOf, decodingLimited, decodeLoader, codingLimited, codeLoader}
 use Rattle.xm.specs.Table.{PatternRow, InstrumentRow, SampleRow, patternRows, instrumentRows, sampleRowsIn, sampleRows, Checked, checkedAs, checking, checkNumbers, checkLoader, Room, checkingInto, checkIntoLoader, Tables, roomOf, tablesAfter, sampleNumbers}
-use Rattle.xm.specs.Asking.{Lies, asking, stretchOf, askingFlat, askingRows, noRow}
+use Rattle.xm.specs.Asking.{Lies, asking, stretchOf, askingFlat, askingRows, noRow, liesOf}
 use Rattle.xm.specs.Structure.{isStructure, structures, ended, handed, reading, called, readFor}
 use Rattle.xm.specs.Region.{Adjoin, regionAt, ofKind}
 use Rattle.xm.specs.Press.{contentOf, pressed, pressingAs, pressing, pressNumbersAs, pressAfterAs, pressLoader}
@@ -99,11 +99,8 @@ resultIn numbers k = getD numbers (2 + k) 0
 abbrev pub headsIn : Content → List (List ℕ)
 headsIn content = joined (λ (x : Instrument). x .samples .0) (content .1 .1)
 
-abbrev pub samplesIn : Content → ℕ
-samplesIn content = length (headsIn content)
-
 abbrev pub countsOf : Content → List ℕ
-countsOf content = content .0 .channels ∷ content .0 .patterns ∷ content .0 .instruments ∷ samplesIn content ∷ []
+countsOf content = content .0 .channels ∷ content .0 .patterns ∷ content .0 .instruments ∷ length (headsIn content) ∷ []
 
 pub record CheckTells : Type 0 where
   pub accepted : (content : Content) (file : List ℕ) (f : FileOf moduleFormat content file) → checkNumbers file ≡ 0 ∷ 0 ∷ f .end ∷ countsOf content
@@ -226,7 +223,7 @@ pub record TablesStand (found : Found) : Type 0 where
   pub patterns : ofKind patternData (moduleFormat .regions found) ≡ map (λ (row : PatternRow). record { place = row .dataPlace; size = row .size }) (patternRows found)
   pub instruments : map Lies.place (ofKind instrument (moduleFormat .regions found)) ≡ map InstrumentRow.place (instrumentRows found)
   pub heads : map Lies.place (ofKind sampleHeader (moduleFormat .regions found)) ≡ map SampleRow.headerPlace (sampleRows found)
-  pub bytes : ofKind sampleData (moduleFormat .regions found) ≡ map (λ (row : SampleRow). record { place = row .dataPlace; size = row .size }) (sampleRows found)
+  pub bytes : ofKind sampleData (moduleFormat .regions found) ≡ map liesOf (sampleRows found)
 
 -- A pattern row and its data unpack to the content's rows and cells.
 abbrev pub RowUnpacks : (file : List ℕ) (channels : ℕ) → PatternRow → Pattern → Type 0
@@ -246,35 +243,45 @@ FindsRows all [] (i ∷ is) = ⊥
 FindsRows all (row ∷ rows) [] = ⊥
 FindsRows all (row ∷ rows) (i ∷ is) = (take (row .samples) (drop (row .first) all) ≡ sampleRowsIn i) × FindsRows all rows is
 
--- The data of all samples, in file order.
+-- A sample header in the content is what stands in its region of the file.
+abbrev pub HeadStands : (file : List ℕ) → Lies → (head : List ℕ) → Type 0
+HeadStands file lies head = (k : ℕ) → k < leastHead → byteAt k head ≡ byteAt (lies .place + k) file
+
+abbrev pub HeadsStand : (file : List ℕ) → List Lies → (heads : List (List ℕ)) → Type 0
+HeadsStand file [] [] = Unit {0}
+HeadsStand file [] (h ∷ hs) = ⊥
+HeadsStand file (l ∷ ls) [] = ⊥
+HeadsStand file (l ∷ ls) (h ∷ hs) = HeadStands file l h × HeadsStand file ls hs
+
+-- What holds of each sample row with its header and its data, those of the content.
 abbrev pub bytesIn : Content → List (List ℕ)
 bytesIn content = joined (λ (x : Instrument). x .samples .1) (content .1 .1)
 
--- A sample row says what stands in its header; its stretch is the content's data, which decodes at the row's width.
-abbrev pub RowReads : (file : List ℕ) → SampleRow → Type 0
-RowReads file row =
-    (row .size ≡ longAt (row .headerPlace) file)
-    × (row .width ≡ cond (eqb (byteAt (row .headerPlace + 14) file / 16 % 2) 1) 16 8)
-    × (row .finetune ≡ signed 8 (byteAt (row .headerPlace + 13) file))
-    × (row .relativeNote ≡ signed 8 (byteAt (row .headerPlace + 16) file))
+abbrev pub EachSample : (P : SampleRow → (head bytes : List ℕ) → Type 0) → List SampleRow → (heads bytes : List (List ℕ)) → Type 0
+EachSample P [] [] [] = Unit {0}
+EachSample P [] [] (b ∷ bs) = ⊥
+EachSample P [] (h ∷ hs) bytes = ⊥
+EachSample P (row ∷ rows) [] bytes = ⊥
+EachSample P (row ∷ rows) (h ∷ hs) [] = ⊥
+EachSample P (row ∷ rows) (h ∷ hs) (b ∷ bs) = P row h b × EachSample P rows hs bs
+
+-- A sample row says what its header says; its stretch is the content's data, which decodes at the row's width.
+abbrev pub RowReads : SampleRow → (head bytes : List ℕ) → Type 0
+RowReads row head bytes =
+    (row .size ≡ longAt 0 head)
+    × (row .width ≡ cond (eqb (byteAt 14 head / 16 % 2) 1) 16 8)
+    × (row .finetune ≡ signed 8 (byteAt 13 head))
+    × (row .relativeNote ≡ signed 8 (byteAt 16 head))
 
 abbrev pub RowDecodes : (file : List ℕ) → SampleRow → (head bytes : List ℕ) → Type 0
 RowDecodes file row head bytes =
     (part (row .dataPlace) (row .size) file ≡ bytes)
     × (decoding (row .width) (part (row .dataPlace) (row .size) file) (length (valuesOf head bytes)) ≡ gives (valuesOf head bytes))
 
-abbrev pub RowsDecode : (file : List ℕ) → List SampleRow → (heads bytes : List (List ℕ)) → Type 0
-RowsDecode file [] [] [] = Unit {0}
-RowsDecode file [] [] (b ∷ bs) = ⊥
-RowsDecode file [] (h ∷ hs) bytes = ⊥
-RowsDecode file (row ∷ rows) [] bytes = ⊥
-RowsDecode file (row ∷ rows) (h ∷ hs) [] = ⊥
-RowsDecode file (row ∷ rows) (h ∷ hs) (b ∷ bs) = RowDecodes file row h b × RowsDecode file rows hs bs
-
 -- A sample asked for by number, of the tables as the check leaves them, whatever stood in them beyond: the row's stretch, which holds the
 -- content's data.
 abbrev pub liesAt : List SampleRow → ℕ → Lies
-liesAt rows number = record { place = getD rows number noRow .dataPlace; size = getD rows number noRow .size }
+liesAt rows number = liesOf (getD rows number noRow)
 
 pub record Asked (file : List ℕ) (rows : List SampleRow) (bytes : List (List ℕ)) : Type 0 where
   pub flat : (stale : List ℕ) (number : ℕ) → number < length rows → askingFlat file (joined sampleNumbers rows ++ stale) number ≡ gives (liesAt rows number)
@@ -298,8 +305,9 @@ pub record AcceptedFile (file : List ℕ) (found : Found) (end : ℕ) : Type 0 w
   pub tables : TablesStand found
   pub rows-unpack : RowsUnpack file (found .0 .content .channels) (patternRows found) (contentOf found .1 .0)
   pub rows-found : FindsRows (sampleRows found) (instrumentRows found) (found .1 .1)
-  pub rows-read : All (RowReads file) (sampleRows found)
-  pub rows-decode : RowsDecode file (sampleRows found) (headsIn (contentOf found)) (bytesIn (contentOf found))
+  pub heads-stand : HeadsStand file (ofKind sampleHeader (moduleFormat .regions found)) (headsIn (contentOf found))
+  pub rows-read : EachSample RowReads (sampleRows found) (headsIn (contentOf found)) (bytesIn (contentOf found))
+  pub rows-decode : EachSample (RowDecodes file) (sampleRows found) (headsIn (contentOf found)) (bytesIn (contentOf found))
   pub asked : Asked file (sampleRows found) (bytesIn (contentOf found))
   pub loops-inside : All (λ (x : Instrument). All LoopInside (x .samples .0)) (contentOf found .1 .1)
 

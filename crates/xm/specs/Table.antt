@@ -8,7 +8,7 @@ use Rattle.xm.specs.Got.{got, _>>=_, _>>_, Test, checked, present, _at_}
 use Rattle.xm.specs.Format.{joined}
 use Rattle.xm.specs.Answer.{Answer, gives, refuses, answered, numbers, inFront, after, loaderNumber}
 use Rattle.xm.specs.PatternInFile.{PatternFound}
-use Rattle.xm.specs.Sample.{Stretch, widthOf, finetune, relativeNote}
+use Rattle.xm.specs.Sample.{Stretch, dataSize, widthOf, finetune, relativeNote}
 use Rattle.xm.specs.Instrument.{InstrumentFound}
 use Rattle.xm.specs.Module.{Found, readFile}
 
@@ -50,15 +50,19 @@ pub record SampleRow : Type 0 where
   pub finetune : ℤ
   pub relativeNote : ℤ
 
-abbrev pub sampleRow : (head bytes : Stretch) → SampleRow
-sampleRow head bytes = record {
-  headerPlace = head .place;
-  dataPlace = bytes .place;
-  size = bytes .size;
-  width = widthOf (head .bytes);
-  finetune = finetune (head .bytes);
-  relativeNote = relativeNote (head .bytes);
+-- The row of a header, by its place and its data's: what a row's fields are stands here, and nowhere else.
+abbrev pub sampleRowAt : (headerPlace dataPlace : ℕ) (head : List ℕ) → SampleRow
+sampleRowAt headerPlace dataPlace head = record {
+  headerPlace = headerPlace;
+  dataPlace = dataPlace;
+  size = dataSize head;
+  width = widthOf head;
+  finetune = finetune head;
+  relativeNote = relativeNote head;
 }
+
+abbrev pub sampleRow : (head bytes : Stretch) → SampleRow
+sampleRow head bytes = sampleRowAt (head .place) (bytes .place) (head .bytes)
 
 abbrev pub sampleRowsOf : (heads bytes : List Stretch) → List SampleRow
 sampleRowsOf [] bytes = []
