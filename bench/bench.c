@@ -61,6 +61,7 @@ struct side {
     uint32_t (*tables)(const uint8_t *, size_t); /* the check that fills the side's own tables: 0, or the refusal's number */
     uint64_t (*decode)(size_t, const uint8_t *, size_t, int16_t *, size_t);
     uint64_t (*code)(size_t, const int16_t *, size_t, uint8_t *, size_t);
+    uint64_t (*adpcm)(size_t, const uint8_t *, size_t, int16_t *, size_t);
 };
 
 static struct {
@@ -92,10 +93,11 @@ static uint32_t reference_tables(const uint8_t *file, size_t file_len)
 }
 
 static const struct side library = {fiddlemarsh_check, fiddlemarsh_unpack, fiddlemarsh_pack, fiddlemarsh_press, library_tables,
-                                    fiddlemarsh_decode, fiddlemarsh_code};
+                                    fiddlemarsh_decode, fiddlemarsh_code, fiddlemarsh_adpcm};
 static const struct side reference = {reference_loader_check, reference_loader_unpack, reference_loader_pack,
-                                      reference_loader_press, reference_tables, reference_loader_decode, reference_loader_code};
-static const struct side fast = {fast_check, fast_unpack, fast_pack, fast_press, NULL, NULL, NULL};
+                                      reference_loader_press, reference_tables, reference_loader_decode, reference_loader_code,
+                                      reference_loader_adpcm};
+static const struct side fast = {fast_check, fast_unpack, fast_pack, fast_press, NULL, NULL, NULL, fast_adpcm};
 
 static uint8_t *output; /* room for any answer */
 static size_t rounds = 9;
@@ -320,6 +322,16 @@ static void run_code(const struct set *set, const struct side *side)
     kept += side->code(delta_width, delta_values, DELTA_BYTES * 8 / delta_width, deltas, DELTA_BYTES);
 }
 
+/* ADPCM: a table and the indexes of a sample, of the same bytes. */
+static size_t adpcm_length;
+static int16_t adpcm_values[DELTA_BYTES];
+
+static void run_adpcm(const struct set *set, const struct side *side)
+{
+    (void)set;
+    kept += side->adpcm(adpcm_length, deltas, 16 + (adpcm_length + 1) / 2, adpcm_values, adpcm_length);
+}
+
 typedef void work(const struct set *, const struct side *);
 
 static double now(void)
@@ -410,6 +422,32 @@ static void say_delta_ratios(const struct set *set)
     printf("\n");
 }
 
+static void must_agree_on_adpcm(const struct set *set)
+{
+    static int16_t want[DELTA_BYTES];
+    const struct side *const sides[] = {&library, &fast};
+    reference.adpcm(adpcm_length, deltas, 16 + (adpcm_length + 1) / 2, want, adpcm_length);
+    for (size_t i = 0; i < COUNT(sides); i++) {
+        run_adpcm(set, sides[i]);
+        if (memcmp(adpcm_values, want, adpcm_length * sizeof want[0]) != 0)
+            disagree(set, "adpcm");
+    }
+}
+
+/* A long sample, and a short one of odd length. */
+static void say_adpcm_ratios(const struct set *set)
+{
+    const size_t lengths[] = {DELTA_BYTES, 1001};
+    for (size_t i = 0; i < COUNT(lengths); i++) {
+        adpcm_length = lengths[i];
+        must_agree_on_adpcm(set);
+        struct figure figure = figure_of(set, run_adpcm);
+        printf("ADPCM of %7zu values, time of the library / the reference's: %.2f, / the faster C's: %.2f%c\n", adpcm_length,
+               figure.to_reference, figure.to_faster, figure.is_fast ? '*' : ' ');
+    }
+    printf("\n");
+}
+
 /* Over the check of the same file; the reference's tables over its own check. */
 static void say_structure_ratios(const struct set *set)
 {
@@ -468,6 +506,12 @@ static void stack_code(void *nothing)
     run_code(NULL, &library);
 }
 
+static void stack_adpcm(void *nothing)
+{
+    (void)nothing;
+    run_adpcm(NULL, &library);
+}
+
 /* A row of the table from each note of an octave, and the refusals. */
 static uint64_t stack_note;
 
@@ -485,7 +529,7 @@ static void keep_largest(size_t *largest, void (*run)(void *))
 
 static void say_stack(const struct set *sets, size_t set_count)
 {
-    size_t check = 0, unpack = 0, pack = 0, press = 0, tables = 0, decode = 0, code = 0, period = 0;
+    size_t check = 0, unpack = 0, pack = 0, press = 0, tables = 0, decode = 0, code = 0, adpcm = 0, period = 0;
     for (size_t i = 0; i < set_count; i++) {
         for (size_t j = 0; j < sets[i].module_count && j < 20; j++) {
             struct module cut = sets[i].modules[j];
@@ -507,11 +551,12 @@ static void say_stack(const struct set *sets, size_t set_count)
         keep_largest(&decode, stack_decode);
         keep_largest(&code, stack_code);
     }
+    keep_largest(&adpcm, stack_adpcm);
     for (stack_note = 0; stack_note <= FIDDLEMARSH_REAL_NOTE_MOST + 1; stack_note++)
         keep_largest(&period, stack_period);
     printf("largest stack use of a call, in bytes: check %zu, unpack %zu, pack %zu, press %zu, tables %zu, decode %zu, code %zu, "
-           "period %zu\n",
-           check, unpack, pack, press, tables, decode, code, period);
+           "adpcm %zu, period %zu\n",
+           check, unpack, pack, press, tables, decode, code, adpcm, period);
 }
 
 /* The machine */
@@ -582,6 +627,7 @@ int main(int argc, char **argv)
     printf("\npress of samples / memcpy of the same bytes: %.2f (the reference: %.2f)\n\n",
            ratio(&sets[3], run_press, &library, run_copy, &library), ratio(&sets[3], run_press, &reference, run_copy, &reference));
     say_delta_ratios(&sets[3]);
+    say_adpcm_ratios(&sets[3]);
     const struct shape bare_samples = without_cells(every_sample_shape), bare_patterns = without_cells(every_pattern_shape);
     const struct set structure_sets[] = {
         make_set("128 instruments of 16 samples, 64 patterns", &every_sample_shape, 1, 6),

@@ -415,10 +415,17 @@ static inline uint64_t try_pattern(const uint8_t *file, size_t file_len, size_t 
     return scan.refusal == 0 ? 0 : scan.refusal + pattern->data;
 }
 
+/* The bytes of a sample's data. */
+static inline uint32_t sample_bytes(const uint8_t *header)
+{
+    uint32_t length = number32(header);
+    return header[17] != 0xAD || length == 0 ? length : 16 + length / 2 + length % 2;
+}
+
 static uint64_t try_sample_header(const uint8_t *header, size_t at)
 {
     uint32_t length = number32(header), loop_length = number32(header + 8), type = header[14];
-    if (header[17] == 0xAD)
+    if (header[17] == 0xAD && type & 16)
         return refuse(12, at);
     if ((type & 3) == 3 || (type & 16 && length % 2 != 0) ||
         (loop_length > 0 && (type & 3) != 0 && (uint64_t)number32(header + 4) + loop_length > length))
@@ -454,11 +461,11 @@ static uint64_t try_instrument(const uint8_t *file, size_t file_len, size_t *at,
     }
     *at = headers + (size_t)samples * header_size;
     for (uint32_t i = 0; i < samples; i++) {
-        uint32_t length = number32(file + headers + (size_t)i * header_size);
-        if (length > file_len - *at)
+        uint32_t bytes = sample_bytes(file + headers + (size_t)i * header_size);
+        if (bytes > file_len - *at)
             return refuse(1, *at);
-        *at += length;
-        *data += length;
+        *at += bytes;
+        *data += bytes;
     }
     return 0;
 }
@@ -568,7 +575,7 @@ static uint8_t *press_instrument(const uint8_t *file, size_t *at, uint8_t *out)
     out += 263;
     for (uint32_t i = 0; i < samples; i++, out += 40, *at += header_size) {
         memcpy(out, file + *at, 40);
-        data += number32(file + *at);
+        data += sample_bytes(file + *at);
     }
     memcpy(out, file + *at, data);
     *at += data;
@@ -592,4 +599,62 @@ uint64_t fast_press(const uint8_t *file, size_t file_len, uint8_t *out, size_t o
     for (uint32_t i = 0; i < walk.header.instruments; i++)
         out = press_instrument(file, &walk.instruments_at, out);
     return walk.pressed;
+}
+
+/* ADPCM samples */
+
+#define ADPCM_LONG 4096 /* values from which a table of every byte is worth its making */
+
+/* What a byte adds: its low half alone, and both its halves. */
+struct steps {
+    uint8_t low[256];
+    uint8_t both[256];
+};
+
+static void make_steps(const uint8_t *deltas, struct steps *steps)
+{
+    for (unsigned pair = 0; pair < 256; pair++) {
+        steps->low[pair] = deltas[pair & 15];
+        steps->both[pair] = (uint8_t)(deltas[pair & 15] + deltas[pair >> 4]);
+    }
+}
+
+/* All values but the last one of an odd length; returns the last sum. */
+static uint8_t decode_long(const uint8_t *bytes, size_t pairs, int16_t *restrict values)
+{
+    struct steps steps;
+    uint8_t sum = 0;
+    make_steps(bytes, &steps);
+    for (size_t i = 0; i < pairs; i++) {
+        uint8_t pair = bytes[16 + i];
+        values[2 * i] = (int8_t)(uint8_t)(sum + steps.low[pair]);
+        sum = (uint8_t)(sum + steps.both[pair]);
+        values[2 * i + 1] = (int8_t)sum;
+    }
+    return sum;
+}
+
+static uint8_t decode_short(const uint8_t *bytes, size_t pairs, int16_t *restrict values)
+{
+    uint8_t sum = 0;
+    for (size_t i = 0; i < pairs; i++) {
+        uint8_t pair = bytes[16 + i];
+        uint8_t first = (uint8_t)(sum + bytes[pair & 15]);
+        sum = (uint8_t)(first + bytes[pair >> 4]);
+        values[2 * i] = (int8_t)first;
+        values[2 * i + 1] = (int8_t)sum;
+    }
+    return sum;
+}
+
+uint64_t fast_adpcm(size_t length, const uint8_t *bytes, size_t bytes_len, int16_t *values, size_t values_len)
+{
+    if (length > 33554432 || bytes_len != (length == 0 ? 0 : 16 + length / 2 + length % 2))
+        return refuse(16, 0);
+    if (length > values_len)
+        return refuse(14, 0);
+    uint8_t sum = length >= ADPCM_LONG ? decode_long(bytes, length / 2, values) : decode_short(bytes, length / 2, values);
+    if (length % 2 != 0)
+        values[length - 1] = (int8_t)(uint8_t)(sum + bytes[bytes[bytes_len - 1] & 15]);
+    return length;
 }

@@ -50,6 +50,7 @@
        tables              464    file_len: as the check, and once more the headers
        decode               24    bytes_len
        code                 24    values_len
+       adpcm                40    length
        period              544    nothing: it is the same for all
 
    Time grows in proportion to that and no faster, whatever the input holds.
@@ -80,10 +81,10 @@
 extern "C" {
 #endif
 
-#define FIDDLEMARSH_VERSION_MAJOR 3
+#define FIDDLEMARSH_VERSION_MAJOR 4
 #define FIDDLEMARSH_VERSION_MINOR 0
 #define FIDDLEMARSH_VERSION_PATCH 0
-#define FIDDLEMARSH_VERSION "3.0.0"
+#define FIDDLEMARSH_VERSION "4.0.0"
 
 /* The refusal numbers, and the place that comes with each. */
 enum fiddlemarsh_number {
@@ -113,7 +114,7 @@ enum fiddlemarsh_number {
     FIDDLEMARSH_INSTRUMENT = 10,
     /* A sample header size is below 40. Place: the instrument's start. */
     FIDDLEMARSH_SAMPLE_HEADER_SIZE = 11,
-    /* A sample's kind is AD hex (ADPCM). Place: the sample header's start. */
+    /* A sample's kind is AD hex (ADPCM), and its type has the 16-bit bit set. Place: the sample header's start. */
     FIDDLEMARSH_SAMPLE_KIND = 12,
     /* A sample's loop bits are 3, its length is odd at 16 bits, or it loops past its own end. Place: the sample header's start. */
     FIDDLEMARSH_SAMPLE_LOOP_OR_LENGTH = 13,
@@ -133,6 +134,7 @@ enum fiddlemarsh_number {
 #define FIDDLEMARSH_PATTERNS_MOST 256
 #define FIDDLEMARSH_INSTRUMENTS_MOST 128
 #define FIDDLEMARSH_SAMPLES_MOST 2048 /* of a module: 128 instruments with 16 each */
+#define FIDDLEMARSH_VALUES_MOST 33554432 /* values of a sample: ADPCM has two to a byte */
 #define FIDDLEMARSH_REAL_NOTE_MOST 118 /* of a period: A#9 */
 
 /* Cells: five bytes each (note, instrument, volume, effect, parameter), each of any value, row by row and in a row channel by
@@ -159,7 +161,7 @@ enum fiddlemarsh_number {
 #define FIDDLEMARSH_SAMPLE_NUMBERS 4
 #define FIDDLEMARSH_SAMPLE_HEADER_PLACE 0
 #define FIDDLEMARSH_SAMPLE_DATA_PLACE 1
-#define FIDDLEMARSH_SAMPLE_LENGTH 2 /* bytes of its data */
+#define FIDDLEMARSH_SAMPLE_LENGTH 2 /* bytes of its data, as they are stored */
 #define FIDDLEMARSH_SAMPLE_WIDTH 3  /* 8 or 16 bits to a value */
 #define FIDDLEMARSH_SAMPLE_TABLE_MOST 8192
 
@@ -208,7 +210,7 @@ uint64_t fiddlemarsh_tables(const uint8_t *file, size_t file_len, uint32_t *patt
                             size_t instruments_len, uint32_t *samples, size_t samples_len, int8_t *tunes, size_t tunes_len);
 
 /* Decodes a sample's data, as they stand in a module, into signed values: each stored number is the difference from the value
-   before, and sums wrap.
+   before, and sums wrap. For samples of any kind but ADPCM (see fiddlemarsh_sample_is_adpcm).
    width 8 or 16 is that of the sample; bytes_len is at most FIDDLEMARSH_FILE_MOST, and even at 16. values_len counts values.
    Returns how many values it has filled: bytes_len, or half of it at 16. No bytes give no values.
    Refusals, in this order: 16 (width or bytes_len), 14. */
@@ -219,6 +221,15 @@ uint64_t fiddlemarsh_decode(size_t width, const uint8_t *bytes, size_t bytes_len
    Returns how many bytes it has filled: values_len, or twice as many at 16.
    Refusals, in this order: 16 (width, values_len or a value), 14. */
 uint64_t fiddlemarsh_code(size_t width, const int16_t *values, size_t values_len, uint8_t *bytes, size_t bytes_len);
+
+/* Decodes the data of an ADPCM sample, as they stand in a module, into signed values of 8 bits: a table of 16 differences, and then an
+   index into it for each value, two to a byte, the low half first.
+   length is that of the sample's header (fiddlemarsh_sample_header_length), how many values there are, and at most
+   FIDDLEMARSH_VALUES_MOST. bytes_len is exactly that of the data: 16 + length / 2, rounded up; and 0 if length is 0. values_len counts
+   values. At an odd length the high half of the last byte is not looked at.
+   Returns how many values it has filled: length.
+   Refusals, in this order: 16 (length or bytes_len), 14. */
+uint64_t fiddlemarsh_adpcm(size_t length, const uint8_t *bytes, size_t bytes_len, int16_t *values, size_t values_len);
 
 /* The Amiga period of a note with its finetune, as two whole numbers: a dividend and a divisor, which is a power of two.
    note 0..FIDDLEMARSH_REAL_NOTE_MOST is the real note, the pattern's and the sample's relative note added up (0 is C-0); finetune
@@ -254,6 +265,22 @@ static inline uint32_t fiddlemarsh_samples(const uint8_t *file, const uint32_t *
     uint32_t count = fiddlemarsh_instruments(file);
     const uint32_t *last = instruments + (count > 0 ? count - 1 : 0) * FIDDLEMARSH_INSTRUMENT_NUMBERS;
     return count > 0 ? last[FIDDLEMARSH_INSTRUMENT_FIRST_SAMPLE] + last[FIDDLEMARSH_INSTRUMENT_SAMPLES] : 0;
+}
+
+/* How a sample's data are stored is not in its row: its header says it, which stands where the row says. Of a module that was
+   accepted, and a row of its sample table: */
+
+/* 1 if its data are for fiddlemarsh_adpcm (kind AD hex), 0 if they are for fiddlemarsh_decode. */
+static inline int fiddlemarsh_sample_is_adpcm(const uint8_t *file, const uint32_t *row)
+{
+    return file[row[FIDDLEMARSH_SAMPLE_HEADER_PLACE] + 17] == 0xAD;
+}
+
+/* The length that its header says: of ADPCM data how many values they are, of others how many bytes. */
+static inline uint32_t fiddlemarsh_sample_header_length(const uint8_t *file, const uint32_t *row)
+{
+    const uint8_t *header = file + row[FIDDLEMARSH_SAMPLE_HEADER_PLACE];
+    return header[0] + 256u * header[1] + 65536u * header[2] + 16777216u * header[3];
 }
 
 
@@ -307,7 +334,7 @@ static inline uint32_t fiddlemarsh_length(uint64_t answer)
     return fiddlemarsh_refused(answer) ? 0 : (uint32_t)answer;
 }
 
-/* How many values decoding reports; 0 of a refusal, and of no bytes. */
+/* How many values decoding reports, of deltas or of ADPCM; 0 of a refusal, and of no bytes. */
 static inline uint32_t fiddlemarsh_decoded_values(uint64_t answer)
 {
     return fiddlemarsh_refused(answer) ? 0 : (uint32_t)answer;
@@ -393,7 +420,7 @@ static inline const char *fiddlemarsh_refusal_words(uint32_t number)
     case FIDDLEMARSH_SAMPLE_HEADER_SIZE:
         return "the samples of the instrument at this place were written by a broken tool: save the module with another tracker";
     case FIDDLEMARSH_SAMPLE_KIND:
-        return "the sample at this place is packed as ADPCM: save it plain";
+        return "the sample at this place is packed as ADPCM and marked as 16-bit, which cannot both be: save it plain";
     case FIDDLEMARSH_SAMPLE_LOOP_OR_LENGTH:
         return "the loop of the sample at this place does not lie inside it, or goes forward and back at once, or half a value is "
                "left at the sample's end: set its loop and its end again";
@@ -424,7 +451,7 @@ static inline const char *fiddlemarsh_refusal_words(uint32_t number)
        static uint32_t samples[FIDDLEMARSH_SAMPLE_TABLE_MOST];
        static int8_t tunes[FIDDLEMARSH_TUNE_TABLE_MOST];
        static uint8_t cells[FIDDLEMARSH_CELLS_MOST];
-       static int16_t values[FIDDLEMARSH_FILE_MOST];
+       static int16_t values[FIDDLEMARSH_VALUES_MOST];
 
        static void stop_if_refused(const char *call, uint64_t answer)
        {
@@ -452,8 +479,12 @@ static inline const char *fiddlemarsh_refusal_words(uint32_t number)
        {
            const uint32_t *row = samples + number * FIDDLEMARSH_SAMPLE_NUMBERS;
            const int8_t *tune = tunes + number * FIDDLEMARSH_SAMPLE_TUNES;
-           uint64_t answer = fiddlemarsh_decode(row[FIDDLEMARSH_SAMPLE_WIDTH], file + row[FIDDLEMARSH_SAMPLE_DATA_PLACE],
-                                                row[FIDDLEMARSH_SAMPLE_LENGTH], values, FIDDLEMARSH_FILE_MOST);
+           const uint8_t *data = file + row[FIDDLEMARSH_SAMPLE_DATA_PLACE];
+           uint32_t length = row[FIDDLEMARSH_SAMPLE_LENGTH];
+           uint64_t answer = fiddlemarsh_sample_is_adpcm(file, row)
+                                 ? fiddlemarsh_adpcm(fiddlemarsh_sample_header_length(file, row), data, length, values,
+                                                     FIDDLEMARSH_VALUES_MOST)
+                                 : fiddlemarsh_decode(row[FIDDLEMARSH_SAMPLE_WIDTH], data, length, values, FIDDLEMARSH_VALUES_MOST);
            stop_if_refused("decode", answer);
            int highest = 0;
            for (uint32_t i = 0; i < fiddlemarsh_decoded_values(answer); i++)

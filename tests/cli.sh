@@ -132,8 +132,10 @@ with_byte refused.xm 341 101 && refused 7 1625 659 ''
 with_byte refused.xm 341 077 && refused 8 1605 645 ''
 with_byte refused.xm 4230 021 && refused 10 4203 106B ''
 with_byte refused.xm 4232 047 && refused 11 4203 106B ''
-with_byte refused.xm 4483 255 && refused 12 4466 1172 ''
+with_byte adpcm.xm 4483 255 && with_byte refused.xm 4480 021 adpcm.xm && refused 12 4466 1172 '' # of kind AD, and at 16 bits
 with_byte refused.xm 4480 003 && refused 13 4466 1172 ''
+fiddlemarsh check adpcm.xm
+ok "an ADPCM sample" exits 0
 ok "number 9, which is no longer given, has words" [ -n "$(words_of 9)" ]
 with_byte high.xm 345 142 # the first cell's note: 98
 fiddlemarsh check high.xm

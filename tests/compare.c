@@ -22,6 +22,7 @@
 #define DATA_MOST FIDDLEMARSH_DATA_MOST
 #define PACKED_CELL_MOST 6 /* bytes: a full cell whose note is 128 or more */
 #define DELTA_MOST FIDDLEMARSH_FILE_MOST
+#define ADPCM_MOST (2 * FIDDLEMARSH_FILE_MOST)
 #define SMALL_RESULT 96 /* cells or packed bytes up to here are tried with every room */
 
 /* Calls */
@@ -93,6 +94,11 @@ static uint64_t decode(size_t width, const uint8_t *bytes, size_t length, size_t
 static uint64_t code(size_t width, const int16_t *values, size_t length, size_t room)
 {
     return lent_compare(&(struct call){.name = CALL_CODE, .input = values, .input_len = length, .room = room, .width = width});
+}
+
+static uint64_t adpcm(size_t length, const uint8_t *bytes, size_t count, size_t room)
+{
+    return lent_compare(&(struct call){.name = CALL_ADPCM, .input = bytes, .input_len = count, .room = room, .length = length});
 }
 
 static uint64_t period(uint64_t note, int64_t finetune)
@@ -237,6 +243,20 @@ static void try_delta_piece(const struct delta_piece *piece)
         lent_unexpected(&call, "not the bytes of the paper's bench piece", back);
 }
 
+/* Document 001's ADPCM example: its bytes, and the values of the 14 indexes that it has. At an odd length the last one stays. */
+static void try_adpcm_example(size_t length)
+{
+    static const int16_t want[] = {0, 0, -1, -1, -1, -1, -2, -1, 0, 4, 6, 6, 7, 6};
+    uint8_t bytes[32];
+    int16_t values[COUNT(want)] = {0};
+    size_t count = from_hex("0001020408102040FFFEFCF8F0E0D0C00008001831" "0281", bytes);
+    struct call call = {.name = CALL_ADPCM, .input = bytes, .input_len = count, .room = length, .length = length};
+    uint64_t answer = lent_compare(&call);
+    fiddlemarsh_adpcm(length, bytes, count, values, length);
+    if (answer != length || memcmp(values, want, sizeof want[0] * length) != 0)
+        lent_unexpected(&call, "not the values of the description's example", answer);
+}
+
 /* 336 header bytes (song length 1, 1 channel, 1 pattern, no instruments), then one pattern header. */
 static void bench_file(uint8_t file[345], uint32_t header_size, uint32_t rows)
 {
@@ -274,6 +294,8 @@ static void group_pieces(void)
         try_piece(&pieces[i]);
     for (size_t i = 0; i < COUNT(delta_pieces); i++)
         try_delta_piece(&delta_pieces[i]);
+    try_adpcm_example(14);
+    try_adpcm_example(13);
     try_bench_file(276, 64, 345);
     try_bench_file(275, 64, REFUSED(4, 0));
     try_bench_file(276, 0, REFUSED(6, 336));
@@ -625,6 +647,7 @@ static struct shape small_shape(struct chance *chance)
                           .instrument_extra_most = 3,
                           .sample_header_extra_most = 2,
                           .sample_length_most = 8,
+                          .adpcm_percent = 30,
                           .trailing_most = 3};
 }
 
@@ -768,7 +791,8 @@ static void group_every_field(void)
     }
 }
 
-/* Loops that end before, at and behind the sample's end, alone and with sums that pass 32 bits. */
+/* Loops that end before, at and behind the sample's end, alone and with sums that pass 32 bits; of a plain sample, and of one of
+   kind AD, whose length counts values. */
 static void group_loops(void)
 {
     struct module module = {0};
@@ -778,17 +802,47 @@ static void group_loops(void)
                           .samples_least = 1, .samples_most = 1, .sample_length_least = 10, .sample_length_most = 10};
     struct chance chance = {3501};
     module_build(&module, &shape, &chance);
+    module_put_noise(&module, 11, &chance); /* kind AD takes 21 bytes */
     size_t header = 345 + 263;
     for (size_t i = 0; i < COUNT(starts); i++)
         for (size_t j = 0; j < COUNT(lengths); j++)
-            for (unsigned type = 0; type < 256; type++) {
+            for (unsigned turn = 0; turn < 2 * 256; turn++) {
+                unsigned type = turn % 256;
                 field_put(module.bytes, (struct field){(uint32_t)header + 4, 4}, starts[i]);
                 field_put(module.bytes, (struct field){(uint32_t)header + 8, 4}, lengths[j]);
                 module.bytes[header + 14] = (uint8_t)type;
+                module.bytes[header + 17] = turn < 256 ? 0 : 0xAD;
                 check(module.bytes, module.length);
                 if (type < 32)
                     press(module.bytes, module.length, module.length);
             }
+    module_free(&module);
+}
+
+/* A module of two samples, the first of kind AD: by every small length and those around which a size in 32 bits turns, at 8 and at
+   16 bits; whole, with a byte more and cut by a byte. */
+static void group_adpcm_modules(void)
+{
+    enum { HEADERS = 345 + 263, DATA = HEADERS + 2 * 40, SECOND = 3 };
+    const uint32_t others[] = {1000, 0x7FFFFFFE, 0x7FFFFFFF, 0x80000000, 0xFFFFFFDE, 0xFFFFFFDF, 0xFFFFFFE0, 0xFFFFFFE1,
+                               0xFFFFFFFD, 0xFFFFFFFE, 0xFFFFFFFF};
+    struct shape shape = {.song_length = 1, .channels = 1, .patterns = 1, .instruments = 1, .rows = 1, .cells = CELLS_NONE,
+                          .samples_least = 2, .samples_most = 2, .sample_length_least = SECOND, .sample_length_most = SECOND};
+    struct chance chance = {3551};
+    struct module module = {0};
+    module_build(&module, &shape, &chance);
+    module_put_noise(&module, 600, &chance);
+    module.bytes[HEADERS + 17] = 0xAD;
+    for (size_t i = 0; i < 70 + COUNT(others); i++)
+        for (unsigned type = 0; type < 256; type += 16) {
+            uint32_t length = i < 70 ? (uint32_t)i : others[i - 70];
+            field_put(module.bytes, (struct field){HEADERS, 4}, length);
+            module.bytes[HEADERS + 14] = (uint8_t)type;
+            size_t end = DATA + (length == 0 ? 0 : 16 + ((size_t)length + 1) / 2) + SECOND;
+            for (size_t cut = end - 1; cut <= end + 1 && end <= module.length; cut++)
+                try_file(module.bytes, cut);
+            try_file(module.bytes, module.length);
+        }
     module_free(&module);
 }
 
@@ -1273,6 +1327,85 @@ static void group_delta_limit(void)
     module_free(&noise);
 }
 
+/* ADPCM samples */
+
+static size_t adpcm_bytes(size_t length)
+{
+    return length == 0 ? 0 : 16 + length / 2 + length % 2;
+}
+
+/* With room that just does, with more, and with one too little; and with a byte more and a byte less. */
+static void try_adpcm(size_t length, const uint8_t *bytes)
+{
+    size_t count = adpcm_bytes(length);
+    adpcm(length, bytes, count, length);
+    adpcm(length, bytes, count, length + 3);
+    adpcm(length, bytes, count + 1, length);
+    if (length == 0)
+        return;
+    adpcm(length, bytes, count, length - 1);
+    adpcm(length, bytes, count - 1, length);
+}
+
+/* Every small length with every small byte count; and lengths whose byte count no memory holds, with what is left of it in 64 bits or
+   in 32. */
+static void group_adpcm_arguments(void)
+{
+    enum { SMALL = 36 };
+    static const size_t lengths[] = {65535, 65536, TWO_TO(31), TWO_TO(32) - 2, TWO_TO(32) - 1, TWO_TO(32), TWO_TO(32) + 1,
+                                     TWO_TO(33), TWO_TO(63), SIZE_MAX - 33, SIZE_MAX - 32, SIZE_MAX - 31, SIZE_MAX - 1, SIZE_MAX};
+    struct chance chance = {4701};
+    uint8_t bytes[SMALL];
+    bytes_by_chance(bytes, SMALL, &chance);
+    for (size_t length = 0; length <= SMALL; length++)
+        for (size_t count = 0; count <= SMALL; count++)
+            for (size_t room = 0; room <= SMALL + 1; room += count == adpcm_bytes(length) ? 1 : SMALL + 1)
+                adpcm(length, bytes, count, room);
+    for (size_t i = 0; i < COUNT(lengths); i++)
+        for (size_t count = 0; count <= SMALL; count++)
+            adpcm(lengths[i], bytes, count, SMALL);
+}
+
+/* Every pair of indexes over and over, by tables that count, of turning values, and by chance. */
+static void group_adpcm_values(void)
+{
+    enum { PAIRS = 65536, TABLES_TRIED = 20 };
+    static uint8_t bytes[16 + PAIRS + 1];
+    struct chance chance = {4801};
+    for (size_t i = 0; i < PAIRS; i++)
+        bytes[16 + i] = (uint8_t)(i + i / 256);
+    for (unsigned round = 0; round < TABLES_TRIED; round++) {
+        bytes_by_chance(bytes, 16, &chance);
+        for (uint8_t i = 0; i < 16 && round < TABLES_TRIED / 2; i++)
+            bytes[i] = round == 0 ? i : round == 1 ? 16 * i : (uint8_t)turning_values[(i + round) % COUNT(turning_values)];
+        try_adpcm(2 * PAIRS, bytes);
+        try_adpcm(2 * PAIRS - 1, bytes);
+    }
+}
+
+static void group_adpcm_chance(void)
+{
+    enum { MANY = 3000 };
+    static uint8_t bytes[16 + MANY];
+    struct chance chance = {4901};
+    for (unsigned round = 0; round < 3000; round++) {
+        size_t length = chance_below(&chance, round % 10 == 0 ? 2 * MANY - 2 : 80);
+        bytes_by_chance(bytes, adpcm_bytes(length) + 1, &chance);
+        try_adpcm(length, bytes);
+    }
+}
+
+/* The greatest length that a call takes, and the next ones. */
+static void group_adpcm_limit(void)
+{
+    struct chance chance = {5001};
+    struct module noise = {0};
+    module_put_noise(&noise, adpcm_bytes(ADPCM_MOST) + 1, &chance);
+    for (size_t length = ADPCM_MOST - 1; length <= ADPCM_MOST + 2; length++)
+        adpcm(length, noise.bytes, adpcm_bytes(length), length == ADPCM_MOST ? length : 0);
+    module_free(&noise);
+}
+
 /* Periods */
 
 static void must_be_period(uint64_t note, int64_t finetune, uint64_t want)
@@ -1345,6 +1478,9 @@ static const struct group groups[] = {
     {"decode and code: arguments at their limits", group_delta_arguments},
     {"code: values outside 8 bits", group_delta_outside},
     {"decode and code: samples by chance", group_delta_chance},
+    {"adpcm: arguments at their limits", group_adpcm_arguments},
+    {"adpcm: samples by chance", group_adpcm_chance},
+    {"modules: ADPCM samples", group_adpcm_modules},
     {"modules: loops", group_loops},
     {"modules: every field at its limits", group_every_field},
     {"modules: every two faults", group_two_faults},
@@ -1370,9 +1506,11 @@ static const struct group groups[] = {
     {"modules: every pattern form, 64 channels", group_wide_pattern_forms},
     {"tables: modules of every shape", group_table_shapes},
     {"decode and code: every value", group_delta_values},
+    {"adpcm: every pair of indexes", group_adpcm_values},
     {"modules: large ones of every shape", group_large_shapes},
     {"modules: the longest data", group_longest_data},
     {"decode and code: the most at once", group_delta_limit},
+    {"adpcm: the most at once", group_adpcm_limit},
     {"modules: the largest", group_large},
     {"modules: the longest pressed", group_longest_pressed},
 };
@@ -1394,7 +1532,7 @@ static void must_have_met_all(void)
     must_have_met(CALL_PACK, 9, 9);
     must_have_met(CALL_PACK, 14, 16);
     must_have_met(CALL_TABLES, 0, 14);
-    for (enum call_name name = CALL_DECODE; name <= CALL_CODE; name++) {
+    for (enum call_name name = CALL_DECODE; name <= CALL_ADPCM; name++) {
         must_have_met(name, 0, 0);
         must_have_met(name, 14, 14);
         must_have_met(name, 16, 16);

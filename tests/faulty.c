@@ -43,6 +43,11 @@ uint64_t fiddlemarsh_code(size_t width, const int16_t *values, size_t values_len
     return reference_loader_code(width, values, values_len, bytes, bytes_len);
 }
 
+uint64_t fiddlemarsh_adpcm(size_t length, const uint8_t *bytes, size_t bytes_len, int16_t *values, size_t values_len)
+{
+    return reference_loader_adpcm(length, bytes, bytes_len, values, values_len);
+}
+
 uint64_t fiddlemarsh_period(uint64_t note, int64_t finetune)
 {
     return reference_loader_period(note, finetune);

@@ -45,6 +45,19 @@ pattern 0: 64 rows, 32 notes
 pattern 1: 64 rows, 32 notes
 pattern 2: 64 rows, 0 notes
 sample 0: 1536 values of 8 bits, up to 96, finetune 0, relative note 12'
+# The same with its sample, whose header stands at 4466, as ADPCM of 1535 values, not looped.
+patch() { printf "$2" | dd of="$program.xm" bs=1 seek="$1" conv=notrunc 2>/dev/null; }
+cp "$example" "$program.xm"
+patch 4466 '\377\005' && patch 4480 '\000' && patch 4483 '\255'
+ok "it takes it with an ADPCM sample" run "$program.xm"
+ok "it opens that up" says 'accepted, ends at place 5290
+pattern 0: 64 rows, 32 notes
+pattern 1: 64 rows, 32 notes
+pattern 2: 64 rows, 0 notes
+sample 0: 1535 values of 8 bits, up to 126, finetune 0, relative note 12'
+patch 4480 '\020'
+ok "it refuses 16-bit ADPCM" refuses "$program.xm" "tables: refused, number 12 (sample_kind) at place 4466: the sample at this place is packed \
+as ADPCM and marked as 16-bit, which cannot both be: save it plain"
 head -c 400 "$example" >"$program.xm"
 ok "it refuses half of it" refuses "$program.xm" "tables: refused, number 1 (cut) at place 336: the file ends before all of it is there: \
 it was cut short on its way, or a size in it is wrong; save it anew and send it again"

@@ -55,7 +55,8 @@ static const struct refusal refusals[] = {
      "the instrument at this place has over 16 samples, or its header is cut: leave it 16, or save the module with another tracker"},
     {11, FIDDLEMARSH_SAMPLE_HEADER_SIZE, "sample_header_size",
      "the samples of the instrument at this place were written by a broken tool: save the module with another tracker"},
-    {12, FIDDLEMARSH_SAMPLE_KIND, "sample_kind", "the sample at this place is packed as ADPCM: save it plain"},
+    {12, FIDDLEMARSH_SAMPLE_KIND, "sample_kind",
+     "the sample at this place is packed as ADPCM and marked as 16-bit, which cannot both be: save it plain"},
     {13, FIDDLEMARSH_SAMPLE_LOOP_OR_LENGTH, "sample_loop_or_length",
      "the loop of the sample at this place does not lie inside it, or goes forward and back at once, or half a value is left at the "
      "sample's end: set its loop and its end again"},
@@ -121,11 +122,24 @@ static void test_counts(void)
     MUST(fiddlemarsh_samples(file, instruments) == 0 && fiddlemarsh_samples(file, NULL) == 0);
 }
 
+/* Two rows, and a sample header where the second one says. */
+static void test_sample_headers(void)
+{
+    uint8_t file[64] = {0};
+    const uint32_t rows[8] = {40, 64, 0, 8, 20, 64, 0, 8};
+    const uint32_t *row = rows + FIDDLEMARSH_SAMPLE_NUMBERS;
+    file[20] = 0x01, file[21] = 0x02, file[22] = 0x03, file[23] = 0x84;
+    MUST(fiddlemarsh_sample_header_length(file, row) == 0x84030201u && fiddlemarsh_sample_is_adpcm(file, row) == 0);
+    file[37] = 0xAD;
+    MUST(fiddlemarsh_sample_is_adpcm(file, row) == 1 && fiddlemarsh_sample_is_adpcm(file, rows) == 0);
+}
+
 static void test_constants(void)
 {
     MUST(FIDDLEMARSH_FILE_MOST == 16777216 && FIDDLEMARSH_DATA_MOST == 65535);
     MUST(FIDDLEMARSH_ROWS_MOST == 256 && FIDDLEMARSH_CHANNELS_MOST == 64);
     MUST(FIDDLEMARSH_PATTERNS_MOST == 256 && FIDDLEMARSH_INSTRUMENTS_MOST == 128 && FIDDLEMARSH_SAMPLES_MOST == 2048);
+    MUST(FIDDLEMARSH_VALUES_MOST == 33554432);
     MUST(FIDDLEMARSH_REAL_NOTE_MOST == 118);
     MUST(FIDDLEMARSH_CELL_BYTES == 5 && FIDDLEMARSH_CELLS_MOST == 81920);
     MUST(FIDDLEMARSH_CELLS_SIZE(256, 64) == 81920 && FIDDLEMARSH_CELLS_SIZE(1, 1) == 5 && FIDDLEMARSH_CELLS_SIZE(60 + 4, 3 + 1) == 1280);
@@ -141,7 +155,7 @@ static void test_constants(void)
     MUST(FIDDLEMARSH_SAMPLE_FINETUNE == 0 && FIDDLEMARSH_SAMPLE_RELATIVE_NOTE == 1);
     MUST(strcmp(FIDDLEMARSH_VERSION, TEXT(FIDDLEMARSH_VERSION_MAJOR) "." TEXT(FIDDLEMARSH_VERSION_MINOR) "." TEXT(
                                          FIDDLEMARSH_VERSION_PATCH)) == 0);
-    MUST(FIDDLEMARSH_VERSION_MAJOR == 3 && FIDDLEMARSH_VERSION_MINOR == 0 && FIDDLEMARSH_VERSION_PATCH == 0);
+    MUST(FIDDLEMARSH_VERSION_MAJOR == 4 && FIDDLEMARSH_VERSION_MINOR == 0 && FIDDLEMARSH_VERSION_PATCH == 0);
 }
 
 /* README has a row for each number, which ends with its sentence. */
@@ -176,6 +190,7 @@ int main(int argc, char **argv)
     test_refusals();
     test_answers();
     test_counts();
+    test_sample_headers();
     test_constants();
     test_readme(argv[1]);
     if (!wrong)

@@ -62,6 +62,7 @@ static const struct kind kinds[CALL_NAMES] = {
     {"tables", "end", 1, {"patterns", "instruments", "samples", "tunes"}, {4, 4, 4, 1}},
     {"decode", "values", 1, {"output"}, {2}},
     {"code", "bytes", 2, {"output"}, {1}},
+    {"adpcm", "values", 1, {"output"}, {2}},
     {"period", "number", 1, {NULL}, {0}},
 };
 
@@ -120,6 +121,8 @@ static void say_call(const struct call *call)
         fprintf(stderr, "rows %zu, channels %zu, ", call->rows, call->channels);
     if (call->name == CALL_DECODE || call->name == CALL_CODE)
         fprintf(stderr, "width %zu, ", call->width);
+    if (call->name == CALL_ADPCM)
+        fprintf(stderr, "length %zu, ", call->length);
     if (call->name == CALL_PERIOD)
         fprintf(stderr, "note %llu, finetune %lld, ", (unsigned long long)call->note, (long long)call->finetune);
     fprintf(stderr, "input of %zu bytes", input_bytes(call));
@@ -338,12 +341,14 @@ static uint64_t ask_reference(const struct call *call, uint8_t *const output[OUT
     case CALL_TABLES:
         return reference_loader_tables(call->input, call->input_len, NUMBERS_AT(output[0]), call->room, NUMBERS_AT(output[1]),
                                        rooms[0], NUMBERS_AT(output[2]), rooms[1], (int8_t *)output[3], rooms[2]);
-    case CALL_PERIOD:
-        return reference_loader_period(call->note, call->finetune);
     case CALL_DECODE:
         return reference_loader_decode(call->width, call->input, call->input_len, VALUES_AT(output[0]), call->room);
-    default:
+    case CALL_CODE:
         return reference_loader_code(call->width, call->input, call->input_len, output[0], call->room);
+    case CALL_ADPCM:
+        return reference_loader_adpcm(call->length, call->input, call->input_len, VALUES_AT(output[0]), call->room);
+    default:
+        return reference_loader_period(call->note, call->finetune);
     }
 }
 
@@ -362,12 +367,14 @@ static uint64_t ask_library(const struct call *call, const uint8_t *input, uint8
     case CALL_TABLES:
         return fiddlemarsh_tables(input, call->input_len, NUMBERS_AT(output[0]), call->room, NUMBERS_AT(output[1]), rooms[0],
                                   NUMBERS_AT(output[2]), rooms[1], (int8_t *)output[3], rooms[2]);
-    case CALL_PERIOD:
-        return fiddlemarsh_period(call->note, call->finetune);
     case CALL_DECODE:
         return fiddlemarsh_decode(call->width, input, call->input_len, VALUES_AT(output[0]), call->room);
-    default:
+    case CALL_CODE:
         return fiddlemarsh_code(call->width, (const int16_t *)(const void *)input, call->input_len, output[0], call->room);
+    case CALL_ADPCM:
+        return fiddlemarsh_adpcm(call->length, input, call->input_len, VALUES_AT(output[0]), call->room);
+    default:
+        return fiddlemarsh_period(call->note, call->finetune);
     }
 }
 

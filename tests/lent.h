@@ -6,7 +6,7 @@
 #include <stddef.h>
 #include <stdint.h>
 
-enum call_name { CALL_CHECK, CALL_UNPACK, CALL_PACK, CALL_PRESS, CALL_TABLES, CALL_DECODE, CALL_CODE, CALL_PERIOD, CALL_NAMES };
+enum call_name { CALL_CHECK, CALL_UNPACK, CALL_PACK, CALL_PRESS, CALL_TABLES, CALL_DECODE, CALL_CODE, CALL_ADPCM, CALL_PERIOD, CALL_NAMES };
 
 /* Lengths count what the slice holds: bytes, values of decoding and coding, numbers of a table. */
 struct call {
@@ -18,12 +18,13 @@ struct call {
     size_t room;     /* of what is lent for the answer; of the tables, that for patterns */
     size_t rooms[3]; /* of the other tables: instruments, samples, tunes */
     size_t width;    /* of decoding and coding */
+    size_t length;   /* of an ADPCM sample: how many values */
     uint64_t note;   /* note and finetune: of a period */
     int64_t finetune;
 };
 
 /* The most bytes of a call's input or room. */
-#define LENT_MOST (2 * 16777216 + 65536)
+#define LENT_MOST (4 * 16777216 + 65536)
 
 /* The most numbers that a table is lent with. */
 #define LENT_TABLE_MOST 16384

@@ -273,13 +273,21 @@ static void put_loop(struct module *module, size_t header, uint32_t length, uint
     put_field(module, header + 8, 4, loop_length);
 }
 
-/* Returns the length of the sample's data. */
+static uint32_t adpcm_bytes(uint32_t length)
+{
+    return length == 0 ? 0 : 16 + (length + 1) / 2;
+}
+
+/* Returns the bytes of the sample's data. */
 static uint32_t put_sample_header(struct module *module, const struct shape *shape, uint32_t size, struct chance *chance)
 {
     size_t start = module->length;
     module_put_noise(module, size, chance);
     uint32_t loop_bits = PICK(chance, 0, 0, 1, 2);
     uint32_t type = (uint32_t)chance_next(chance) & 0xFC; /* the other bits are kept */
+    bool adpcm = chance_percent(chance, shape->adpcm_percent);
+    if (adpcm)
+        type &= ~(uint32_t)16;
     uint32_t length = chance_between(chance, shape->sample_length_least, shape->sample_length_most);
     if (chance_percent(chance, 15) && shape->sample_length_least == 0)
         length = 0;
@@ -288,8 +296,8 @@ static uint32_t put_sample_header(struct module *module, const struct shape *sha
     put_field(module, start, 4, length);
     put_loop(module, start, length, loop_bits, chance);
     put_field(module, start + 14, 1, type | loop_bits);
-    put_field(module, start + 17, 1, PICK(chance, 0, 0, 0xAC, 0xAE, 0xDA, 0x2D, 255));
-    return length;
+    put_field(module, start + 17, 1, adpcm ? 0xAD : PICK(chance, 0, 0, 0xAC, 0xAE, 0xDA, 0x2D, 255));
+    return adpcm ? adpcm_bytes(length) : length;
 }
 
 static void put_instrument(struct module *module, const struct shape *shape, struct chance *chance)
@@ -345,6 +353,7 @@ struct shape shape_by_chance(struct chance *chance, bool large)
     shape.instrument_extra_most = PICK(chance, 0, 0, 4, 250);
     shape.sample_header_extra_most = PICK(chance, 0, 0, 1, 25);
     shape.sample_length_most = PICK(chance, 0, 1, 9, 100, 1000);
+    shape.adpcm_percent = PICK(chance, 0, 0, 30, 100);
     shape.trailing_most = PICK(chance, 0, 0, 1, 30);
     return shape;
 }

@@ -59,6 +59,7 @@ struct shape {
     uint32_t sample_header_extra_most; /* H above 40 */
     uint32_t sample_length_least;
     uint32_t sample_length_most;
+    uint32_t adpcm_percent;            /* of the samples are of kind AD */
     uint32_t trailing_most;            /* bytes behind the last instrument */
 };
 

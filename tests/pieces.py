@@ -130,6 +130,13 @@ def say_deltas(file, wanted, width, value_room, code_width, room):
     return decoded + (refusal or accepted(len(coded))) + sum_of_bytes(coded or b'', room)
 
 
+def say_values(file, wanted, room, left_out):
+    sample = rules.read_module(file).samples()[wanted]
+    data = sample.data[:len(sample.data) - left_out]
+    values, refusal = answered(rules.decode_sample, sample.head, data, room)
+    return (refusal or accepted(len(values))) + f' sum {checksum(filled([value % 65536 for value in values or []], VALUE, VALUES))}'
+
+
 def say_unpack(file, wanted, skipped, rows, channels, room):
     stored = rules.read_module(file).patterns[wanted].stored[skipped:]
     unpacked, refusal = answered(rules.unpack, rows, channels, stored, room)
@@ -138,7 +145,7 @@ def say_unpack(file, wanted, skipped, rows, channels, room):
 
 
 SAY = {'check': say_check, 'structures': say_structures, 'reader': say_reader, 'line': say_line, 'press': say_press,
-       'tables': say_tables, 'ask': say_ask, 'deltas': say_deltas, 'unpack': say_unpack}
+       'tables': say_tables, 'ask': say_ask, 'deltas': say_deltas, 'values': say_values, 'unpack': say_unpack}
 
 
 # The script
@@ -182,6 +189,16 @@ def delta_calls(wanted, sample):
         yield 'deltas', wanted, width, count, width, size - 1
 
 
+def value_calls(wanted, sample):
+    """By the header's kind: no number to spare, more room, and one too little; and a byte of the data left out."""
+    count = rules.little(sample.head, 0, 4) * 8 // rules.width_of(sample.head)
+    yield 'values', wanted, count, 0
+    yield 'values', wanted, count + 3, 0
+    if count:
+        yield 'values', wanted, count - 1, 0
+        yield 'values', wanted, count, 1
+
+
 def pattern_calls(channels, wanted, pattern):
     """No byte to spare, more room, and a byte too little; data out of step; other rows and channels."""
     rows, size = pattern.rows, len(pattern.cells)
@@ -205,6 +222,7 @@ def valid_calls(file, module):
     for wanted, pattern in enumerate(module.patterns):
         yield from islice(pattern_calls(module.channels, wanted, pattern), shown(wanted))
     for wanted, sample in enumerate(module.samples()):
+        yield from islice(value_calls(wanted, sample), shown(wanted))
         yield from islice(delta_calls(wanted, sample), shown(wanted))
 
 

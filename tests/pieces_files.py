@@ -128,6 +128,23 @@ def waves(make):
     return make.voices(*heads, data=narrow + wide + low)
 
 
+# Document 001's ADPCM example: the table, and the indexes of 14 values.
+ADPCM_EXAMPLE = bytes.fromhex('0001020408102040FFFEFCF8F0E0D0C0' '00080018310281')
+
+
+def adpcm_example(make):
+    """At its length and at one less, where the last high half is not used."""
+    return make.voices(make.head(14, kind=0xAD), make.head(13, kind=0xAD), data=2 * ADPCM_EXAMPLE)
+
+
+def every_adpcm(make):
+    """ADPCM samples of small lengths and longer ones, none, and looped to their last value, among plain ones of both widths."""
+    forms = [(1, 0, 0, 0, 0xAD), (4, 0, 0, 0x10), (2, 0, 2, 1, 0xAD), (0, 0, 0, 0, 0xAD), (3, 2, 1, 2, 0xAD), (31, 9, 9, 0xEC, 0xAD),
+             (5, 0, 0, 0), (257, 0, 257, 1, 0xAD), (300, 0, 0, 0, 0xAD)]
+    sizes = [17, 4, 17, 0, 18, 32, 5, 145, 166]
+    return make.voices(*(make.head(*form, size=43) for form in forms), data=make.noise(sum(sizes)), head_size=43)
+
+
 def long_and_trailing(make):
     """Long headers everywhere, and bytes after the last instrument."""
     patterns = make.pattern(3, [0x80] * 6, length=40) + make.pattern(100, length=9) + make.pattern(64, [0xE0] * 128, length=10)
@@ -173,6 +190,8 @@ VALID = {
     'every_instrument': every_instrument,
     'every_tune': every_tune,
     'waves': waves,
+    'adpcm_example': adpcm_example,
+    'every_adpcm': every_adpcm,
     'long_and_trailing': long_and_trailing,
     'largest_pattern': largest_pattern,
     'most_structures': most_structures,
@@ -230,8 +249,11 @@ DAMAGED_INSTRUMENT = {
     'sample_header_39': lambda make: make.voices(make.head(0, size=39), head_size=39),
     'sample_header_39_cut': lambda make: make.voices(count=2, head_size=39),
     'cut_sample_headers': lambda make: make.voices(make.head(0), count=2),
-    'adpcm': lambda make: make.voices(make.head(0), make.head(0, form=3, kind=0xAD)),
-    'loops_before_adpcm': lambda make: make.voices(make.head(0, form=3), make.head(0, kind=0xAD)),
+    'adpcm_16_bit': lambda make: make.voices(make.head(0), make.head(0, form=0x13, kind=0xAD)),
+    'loops_before_adpcm': lambda make: make.voices(make.head(0, form=3), make.head(0, form=0x10, kind=0xAD)),
+    'adpcm_loop_past_the_end': lambda make: make.voices(make.head(4, 2, 3, form=1, kind=0xAD), data=make.noise(18)),
+    'cut_adpcm_data': lambda make: make.voices(make.head(5, kind=0xAD), data=make.noise(18)),
+    'longest_adpcm': lambda make: make.voices(make.head(0xFFFFFFFF, kind=0xAD), data=make.noise(16)),
     'loop_bits_3': lambda make: make.voices(make.head(4, form=3), data=make.noise(4)),
     'odd_16_bit': lambda make: make.voices(make.head(3, form=16), data=make.noise(3)),
     'loop_past_the_end': lambda make: make.voices(make.head(4, 2, 3, form=1), data=make.noise(4)),

@@ -159,10 +159,20 @@ def width_of(head):
     return 16 if head[14] & 16 else 8
 
 
+def is_adpcm(head):
+    return head[17] == 0xAD
+
+
+def data_size(head):
+    """The bytes of a sample's data: ADPCM has a table of 16, and two values to a byte."""
+    length = little(head, 0, 4)
+    return 16 + (length + 1) // 2 if is_adpcm(head) and length else length
+
+
 def try_head(head, place):
     length, start, loop = (little(head, offset, 4) for offset in (0, 4, 8))
     bits = head[14] % 4
-    need(head[17] != 0xAD, 12, place)
+    need(not is_adpcm(head) or width_of(head) == 8, 12, place)
     need(bits != 3, 13, place)
     need(width_of(head) == 8 or length % 2 == 0, 13, place)
     need(loop == 0 or bits == 0 or start + loop <= length, 13, place)
@@ -176,10 +186,11 @@ def read_samples(file, instrument, heads, size, count):
         try_head(file[place:place + 40], place)
     samples, data_place = [], heads + count * size
     for place in places:
-        length = little(file, place, 4)
-        need(data_place + length <= len(file), 1, data_place)
-        samples.append(Sample(place, file[place:place + 40], data_place, file[data_place:data_place + length]))
-        data_place += length
+        head = file[place:place + 40]
+        size = data_size(head)
+        need(data_place + size <= len(file), 1, data_place)
+        samples.append(Sample(place, head, data_place, file[data_place:data_place + size]))
+        data_place += size
     return samples, data_place
 
 
@@ -262,6 +273,22 @@ def decode(width, data, room):
         value = signed(value + little(data, at, size), width)
         values.append(value)
     return values
+
+
+def decode_adpcm(length, data, room):
+    need(len(data) == (16 + (length + 1) // 2 if length else 0), 16, 0)
+    need(length <= room, 14, 0)
+    values, value = [], 0
+    for at in range(length):
+        index = data[16 + at // 2] // 16 ** (at % 2) % 16
+        value = signed(value + data[index], 8)
+        values.append(value)
+    return values
+
+
+def decode_sample(head, data, room):
+    """By the kind that the header says, and by its length or its width."""
+    return decode_adpcm(little(head, 0, 4), data, room) if is_adpcm(head) else decode(width_of(head), data, room)
 
 
 def code(width, values, room):

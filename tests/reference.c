@@ -27,7 +27,8 @@ enum {
     INSTRUMENT_RESERVED = 241,
     SAMPLES_MOST = 16,
     SAMPLE_HEADER = 40,
-    KIND_ADPCM = 0xAD
+    KIND_ADPCM = 0xAD,
+    DELTA_TABLE = 16        /* in front of an ADPCM sample's indexes */
 };
 
 static const char id_text[] = "Extended module: ";
@@ -312,6 +313,18 @@ static inline unsigned sample_width(uint8_t type)
     return type & 16 ? 16 : 8;
 }
 
+/* The bytes that a number of ADPCM values is stored in, two to a byte behind the table; none are stored in none. */
+static uint64_t adpcm_bytes(uint64_t length)
+{
+    return length == 0 ? 0 : DELTA_TABLE + length / 2 + length % 2;
+}
+
+/* The bytes of a sample's data. Below 2^32 for every length. */
+static uint32_t sample_bytes(const struct sample *sample)
+{
+    return sample->kind == KIND_ADPCM ? (uint32_t)adpcm_bytes(sample->length) : sample->length;
+}
+
 static bool sample_loops(const struct sample *sample)
 {
     return sample->loop_length > 0 && (sample->type & 3) != 0;
@@ -326,7 +339,7 @@ static uint64_t loop_end(const struct sample *sample)
 static struct reference_refusal try_sample_header(const uint8_t *file, size_t at)
 {
     struct sample sample = sample_fields(file + at);
-    if (sample.kind == KIND_ADPCM)
+    if (sample.kind == KIND_ADPCM && sample_width(sample.type) == 16)
         return refuse(12, at);
     if ((sample.type & 3) == 3)
         return refuse(13, at);
@@ -350,8 +363,10 @@ static inline struct instrument instrument_fields(const uint8_t *file, size_t at
 static size_t samples_end(const uint8_t *file, const struct instrument *instrument)
 {
     size_t end = instrument->data;
-    for (uint32_t i = 0; i < instrument->samples; i++)
-        end += number32(file + instrument->headers + (size_t)i * instrument->header_size);
+    for (uint32_t i = 0; i < instrument->samples; i++) {
+        struct sample sample = sample_fields(file + instrument->headers + (size_t)i * instrument->header_size);
+        end += sample_bytes(&sample);
+    }
     return end;
 }
 
@@ -369,10 +384,11 @@ static struct reference_refusal try_samples(const uint8_t *file, size_t file_len
             return refusal;
     }
     for (uint32_t i = 0; i < instrument->samples; i++) {
-        uint32_t length = number32(file + instrument->headers + (size_t)i * header_size);
-        if (length > file_len - instrument->end)
+        struct sample sample = sample_fields(file + instrument->headers + (size_t)i * header_size);
+        uint32_t bytes = sample_bytes(&sample);
+        if (bytes > file_len - instrument->end)
             return refuse(1, instrument->end);
-        instrument->end += length;
+        instrument->end += bytes;
     }
     return accepted;
 }
@@ -466,11 +482,11 @@ static void fill_sample_rows(const uint8_t *file, const struct instrument *instr
         struct sample sample = sample_fields(file + place);
         rows[i] = (struct reference_sample_row){.header_place = (uint32_t)place,
                                                 .data_place = (uint32_t)data,
-                                                .length = sample.length,
+                                                .length = sample_bytes(&sample),
                                                 .width = sample_width(sample.type),
                                                 .finetune = (int8_t)file[place + 13],
                                                 .relative_note = (int8_t)file[place + 16]};
-        data += sample.length;
+        data += sample_bytes(&sample);
     }
 }
 
@@ -786,6 +802,24 @@ REFERENCE_CALL struct reference_count reference_delta_code(size_t width, const i
     return (struct reference_count){accepted, (uint32_t)length};
 }
 
+/* At an odd length the last high half is not looked at. */
+REFERENCE_CALL struct reference_count reference_adpcm_decode(size_t length, const uint8_t *bytes, size_t byte_count,
+                                                             int16_t *values, size_t value_room)
+{
+    if (byte_count != adpcm_bytes(length))
+        return (struct reference_count){refuse(16, 0), 0};
+    if (length > value_room)
+        return (struct reference_count){refuse(14, 0), 0};
+    uint8_t value = 0;
+    for (size_t i = 0; i < length; i++) {
+        unsigned pair = bytes[DELTA_TABLE + i / 2];
+        unsigned index = i % 2 == 0 ? pair & 15 : pair >> 4;
+        value = (uint8_t)(value + bytes[index]);
+        values[i] = (int8_t)value;
+    }
+    return (struct reference_count){accepted, (uint32_t)length};
+}
+
 REFERENCE_CALL struct reference_stretch reference_sample_stretch(size_t file_len, const struct reference_sample_row *rows,
                                                                  size_t rows_lent, size_t number)
 {
@@ -869,8 +903,15 @@ REFERENCE_CALL uint64_t reference_loader_press(const uint8_t *file, size_t file_
     return loader_number(pressed.refusal, pressed.count);
 }
 
-/* Numbers to a row of each table, and the most bytes or values of a delta call. */
-enum { PATTERN_NUMBERS = 3, INSTRUMENT_NUMBERS = 3, SAMPLE_NUMBERS = 4, SAMPLE_TUNES = 2, DELTA_MOST = 16777216 };
+/* Numbers to a row of each table, the most bytes or values of a delta call, and the greatest ADPCM length. */
+enum {
+    PATTERN_NUMBERS = 3,
+    INSTRUMENT_NUMBERS = 3,
+    SAMPLE_NUMBERS = 4,
+    SAMPLE_TUNES = 2,
+    DELTA_MOST = 16777216,
+    ADPCM_MOST = 33554432
+};
 
 static void put_pattern_numbers(const struct reference_pattern_row *rows, uint32_t count, uint32_t *to)
 {
@@ -941,6 +982,15 @@ REFERENCE_CALL uint64_t reference_loader_code(size_t width, const int16_t *value
         return loader_number(refuse(16, 0), 0);
     struct reference_count coded = reference_delta_code(width, values, values_len, bytes, bytes_len);
     return loader_number(coded.refusal, coded.count);
+}
+
+REFERENCE_CALL uint64_t reference_loader_adpcm(size_t length, const uint8_t *bytes, size_t bytes_len, int16_t *values,
+                                               size_t values_len)
+{
+    if (length > ADPCM_MOST)
+        return loader_number(refuse(16, 0), 0);
+    struct reference_count summed = reference_adpcm_decode(length, bytes, bytes_len, values, values_len);
+    return loader_number(summed.refusal, summed.count);
 }
 
 REFERENCE_CALL uint64_t reference_loader_period(uint64_t note, int64_t finetune)

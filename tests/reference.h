@@ -45,7 +45,7 @@ struct reference_instrument_row {
 struct reference_sample_row {
     uint32_t header_place;
     uint32_t data_place;
-    uint32_t length; /* in bytes */
+    uint32_t length; /* in bytes, as they are stored */
     uint32_t width;  /* 8 or 16 */
     int8_t finetune;
     int8_t relative_note;
@@ -70,7 +70,8 @@ struct reference_structure {
     uint32_t place;
 };
 
-/* Refusal and one result number: the rows of unpacking, the length of pressing, the count of values or bytes of deltas. */
+/* Refusal and one result number: the rows of unpacking, the length of pressing, the count of values or bytes of deltas,
+   the count of ADPCM values. */
 struct reference_count {
     struct reference_refusal refusal;
     uint32_t count;
@@ -121,6 +122,10 @@ REFERENCE_CALL struct reference_count reference_delta_decode(size_t width, const
 REFERENCE_CALL struct reference_count reference_delta_code(size_t width, const int16_t *values, size_t value_count,
                                                            uint8_t *bytes, size_t room);
 
+/* An ADPCM sample's stored bytes into values; length is the header's, how many values. */
+REFERENCE_CALL struct reference_count reference_adpcm_decode(size_t length, const uint8_t *bytes, size_t byte_count,
+                                                             int16_t *values, size_t value_room);
+
 /* A period as a dividend and a divisor; 0 and 0 behind a refusal. */
 REFERENCE_CALL struct reference_period reference_period(uint64_t note, int64_t finetune);
 
@@ -147,6 +152,10 @@ REFERENCE_CALL uint64_t reference_loader_decode(size_t width, const uint8_t *byt
                                                 size_t values_len);
 REFERENCE_CALL uint64_t reference_loader_code(size_t width, const int16_t *values, size_t values_len, uint8_t *bytes,
                                               size_t bytes_len);
+
+/* A length above 33,554,432 gets 16. */
+REFERENCE_CALL uint64_t reference_loader_adpcm(size_t length, const uint8_t *bytes, size_t bytes_len, int16_t *values,
+                                               size_t values_len);
 
 REFERENCE_CALL uint64_t reference_loader_period(uint64_t note, int64_t finetune);
 

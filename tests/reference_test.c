@@ -1,5 +1,5 @@
-/* reference_test.c: the reference's patterns, tables, structures, deltas and stretches, held against numbers worked out by hand from
-   the rules paper; and laws between them over generated modules. */
+/* reference_test.c: the reference's patterns, tables, structures, deltas, ADPCM samples and stretches, held against numbers worked out
+   by hand from the rules paper; and laws between them over generated modules. */
 
 #include "modules.h"
 #include "reference.h"
@@ -256,6 +256,63 @@ static void deltas_have_a_limit(void)
     must(reference_loader_code(16, NULL, 16777217, NULL, 33554434) == (uint64_t)16 << 32);
 }
 
+/* ADPCM: document 001's table and indexes, with one value that wraps behind them. */
+static const uint8_t adpcm_bytes[] = {0x00, 0x01, 0x02, 0x04, 0x08, 0x10, 0x20, 0x40, 0xFF, 0xFE, 0xFC, 0xF8,
+                                      0xF0, 0xE0, 0xD0, 0xC0, 0x00, 0x08, 0x00, 0x18, 0x31, 0x02, 0x81, 0x77};
+
+static void adpcm_holds_the_descriptions_example(void)
+{
+    const int16_t want[] = {0, 0, -1, -1, -1, -1, -2, -1, 0, 4, 6, 6, 7, 6, 70, -122};
+    int16_t values[16];
+    for (size_t length = 13; length <= 16; length++) {
+        memset(values, 0x55, sizeof values);
+        must(reference_adpcm_decode(length, adpcm_bytes, 16 + (length + 1) / 2, values, 16).count == length);
+        must(memcmp(values, want, length * sizeof want[0]) == 0);
+        must(length == 16 || values[length] == 0x5555);
+    }
+}
+
+static void adpcm_refuses_in_order(void)
+{
+    int16_t values[14] = {7};
+    must(reference_adpcm_decode(0, NULL, 0, NULL, 0).refusal.number == 0 && reference_adpcm_decode(0, NULL, 0, NULL, 0).count == 0);
+    must(reference_adpcm_decode(0, adpcm_bytes, 16, values, 14).refusal.number == 16);
+    must(reference_adpcm_decode(1, adpcm_bytes, 17, values, 0).refusal.number == 14);
+    must(reference_adpcm_decode(14, adpcm_bytes, 22, values, 0).refusal.number == 16);
+    must(reference_adpcm_decode(14, adpcm_bytes, 24, values, 14).refusal.number == 16);
+    must(reference_adpcm_decode(14, adpcm_bytes, 23, values, 13).refusal.number == 14);
+    must(reference_adpcm_decode(SIZE_MAX, adpcm_bytes, 15, values, 14).refusal.number == 16);
+    must(reference_adpcm_decode(SIZE_MAX, adpcm_bytes, 16, values, 14).refusal.number == 16);
+    must(values[0] == 7);
+    must(reference_loader_adpcm(14, adpcm_bytes, 23, values, 14) == 14 && values[9] == 4);
+    must(reference_loader_adpcm(33554432, NULL, 16777232, NULL, 0) == (uint64_t)14 << 32);
+    must(reference_loader_adpcm(33554433, NULL, 16777233, NULL, 0) == (uint64_t)16 << 32);
+}
+
+/* The hand module with its first sample of kind AD: 3 values take 18 bytes, and what lies behind moves by 15. */
+static void adpcm_in_the_hand_module(void)
+{
+    uint8_t file[HAND_LENGTH];
+    struct reference_pattern_row patterns[2];
+    struct reference_instrument_row instruments[3];
+    struct reference_sample_row samples[2];
+    struct reference_tables tables = {patterns, 2, instruments, 3, samples, 2};
+    hand_module(file);
+    PUT(669, 1, 0xAD);
+    PUT(756, 4, 30), PUT(783, 2, 0);
+    must(reference_check_tables(file, sizeof file, &tables).end == 786);
+    must(samples[0].data_place == 734 && samples[0].length == 18 && samples[0].width == 8);
+    must(samples[1].data_place == 752 && samples[1].length == 4 && instruments[2].place == 756);
+    must(reference_check(file, 751).refusal.number == 1 && reference_check(file, 751).refusal.place == 734);
+    PUT(666, 1, 0x10);
+    must(reference_check(file, sizeof file).refusal.number == 12 && reference_check(file, sizeof file).refusal.place == 652);
+    PUT(652, 4, 0);
+    must(reference_check(file, sizeof file).refusal.number == 12);
+    PUT(666, 1, 0);
+    PUT(652, 4, 0xFFFFFFFF); /* its 2^31 + 16 bytes do not wrap */
+    must(reference_check(file, sizeof file).refusal.number == 1 && reference_check(file, sizeof file).refusal.place == 734);
+}
+
 static void a_short_table_leaves_all_alone(void)
 {
     uint8_t file[HAND_LENGTH];
@@ -429,6 +486,9 @@ int main(void)
     fifteen_starts_at_43_channels();
     tables_of_the_hand_module();
     flat_tables_of_the_hand_module();
+    adpcm_holds_the_descriptions_example();
+    adpcm_refuses_in_order();
+    adpcm_in_the_hand_module();
     a_short_table_leaves_all_alone();
     press_of_the_hand_module();
     structures_of_the_hand_module();

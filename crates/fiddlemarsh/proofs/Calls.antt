@@ -14,11 +14,12 @@ use Rattle.xm.specs.Table.{Checked, checking, checkingInto, Tables, roomOf, tab
 use Rattle.xm.specs.Packing.{cellBytes, rowsRead, lengthAndRows, unpacking, packing}
 use Rattle.xm.specs.Press.{pressedLength, pressing}
 use Rattle.xm.specs.Delta.{countWritten, decodingLimited, codingLimited}
+use Rattle.xm.specs.Adpcm.{adpcmLimited}
 use Rattle.xm.specs.Demands.{LoaderTells}
 use Rattle.xm.proofs.Demands.{loaders-tell}
 use Rattle.periods.specs.Period.{Period, tuning, bothNumbers}
 use Rattle.periods.proofs.Calls as periods
-use Rattle.fiddlemarsh.specs.Promise.{Checks, Unpacks, Packs, Presses, Fills, Decodes, Codes, Tunes, Tells, TellsKept}
+use Rattle.fiddlemarsh.specs.Promise.{Checks, Unpacks, Packs, Presses, Fills, Decodes, Codes, DecodesAdpcm, Tunes, Tells, TellsKept}
 
 -- At least 2^32 exactly when refused
 refused-exactly : {A : Type 0} (value : A → ℕ) (answer : Answer A) {number : ℕ} → LoaderTells value answer number
@@ -114,6 +115,15 @@ module _ (width : ℕ) (values : List ℤ) (lent : List ℕ) where
 
   pub code-once : {number other : ℕ} {held kept : List ℕ} → Codes width values lent number held → Codes width values lent other kept → (number ≡ other) × (held ≡ kept)
   code-once = once
+
+-- ADPCM to values
+module _ (count : ℕ) (bytes : List ℕ) (lent : List ℤ) where
+  pub adpcm-tells : {number : ℕ} {held : List ℤ} → DecodesAdpcm count bytes lent number held → TellsKept countWritten (adpcmLimited count bytes (length lent)) number lent held
+  adpcm-tells met =
+      tells-kept countWritten (λ (values : List ℤ). values) (adpcmLimited count bytes (length lent)) lent (met .0) (met .1) (loaders-tell .adpcm count bytes (length lent))
+
+  pub adpcm-once : {number other : ℕ} {held kept : List ℤ} → DecodesAdpcm count bytes lent number held → DecodesAdpcm count bytes lent other kept → (number ≡ other) × (held ≡ kept)
+  adpcm-once = once
 
 -- The period
 module _ (note : ℕ) (finetune : ℤ) where

@@ -11,6 +11,7 @@ use Rattle.xm.specs.Table.{checkLoader, checkIntoLoader, Tables, roomOf}
 use Rattle.xm.specs.Packing.{unpackLoader, unpackAfter, packLoader, packAfter}
 use Rattle.xm.specs.Press.{pressLoader, pressAfter}
 use Rattle.xm.specs.Delta.{decodeLoader, decodeLimitedAfter, codeLoader, codeLimitedAfter}
+use Rattle.xm.specs.Adpcm.{adpcmLoader, adpcmLimitedAfter}
 use Rattle.xm.specs.Demands.{LoaderTells}
 use Rattle.periods.specs.Period.{periodLoader}
 use Rattle.tables.specs.Into.{tablesThen}
@@ -36,6 +37,9 @@ Decodes width bytes lent number held = (number ≡ decodeLoader width bytes (len
 
 abbrev pub Codes : (width : ℕ) (values : List ℤ) (lent : List ℕ) (number : ℕ) (held : List ℕ) → Type 0
 Codes width values lent number held = (number ≡ codeLoader width values (length lent)) × (held ≡ codeLimitedAfter width values lent)
+
+abbrev pub DecodesAdpcm : (count : ℕ) (bytes : List ℕ) (lent : List ℤ) (number : ℕ) (held : List ℤ) → Type 0
+DecodesAdpcm count bytes lent number held = (number ≡ adpcmLoader count bytes (length lent)) × (held ≡ adpcmLimitedAfter count bytes lent)
 
 abbrev pub Tunes : (note : ℕ) (finetune : ℤ) (number : ℕ) → Type 0
 Tunes note finetune number = number ≡ periodLoader note finetune

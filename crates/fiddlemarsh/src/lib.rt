@@ -1,10 +1,11 @@
-// What the loader links: eight calls, each with the loader's one number as its answer.
+// What the loader links: nine calls, each with the loader's one number as its answer.
 ghost use mathlib.Core.Path.{_≡_};
 ghost use lib.ListN.{length};
 ghost use Rattle.xm.specs.Table.{checkLoader, checkIntoLoader, roomOf};
 ghost use Rattle.xm.specs.Packing.{unpackLoader, unpackAfter, packLoader, packAfter};
 ghost use Rattle.xm.specs.Press.{pressLoader, pressAfter};
 ghost use Rattle.xm.specs.Delta.{decodeLoader, decodeLimitedAfter, codeLoader, codeLimitedAfter};
+ghost use Rattle.xm.specs.Adpcm.{adpcmLoader, adpcmLimitedAfter};
 ghost use Rattle.periods.specs.Period.{periodLoader};
 ghost use Rattle.tables.specs.Into.{lent, tablesThen};
 
@@ -86,6 +87,16 @@ pub extern "C" fn fiddlemarsh_code(width: usize, values: &[i16], bytes: &mut [u8
 {
     let coded = loader::limit::code(width, values, bytes);
     loader::code_number(coded)
+}
+
+// `count` is the length that the sample's header says: how many values.
+#[no_mangle]
+pub extern "C" fn fiddlemarsh_adpcm(count: usize, bytes: &[u8], values: &mut [i16]) -> u64
+    ensures answer { λ r. ⌜ r ≡ adpcmLoader count (now (bytes .entry)) (length (now (values .entry))) ⌝ }
+    ensures memory { λ _. ⌜ now (values .exit) ≡ adpcmLimitedAfter count (now (bytes .entry)) (now (values .entry)) ⌝ }
+{
+    let decoded = loader::limit::decode_adpcm(count, bytes, values);
+    loader::decode_number(decoded)
 }
 
 #[no_mangle]

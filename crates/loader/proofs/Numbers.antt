@@ -13,6 +13,7 @@ use Rattle.xm.specs.Table.{Checked, checking, checkLoader, checkingInto, checkI
 use Rattle.xm.specs.Packing.{rowsRead, lengthAndRows, unpacking, unpackLoader, packing, packLoader}
 use Rattle.xm.specs.Press.{pressedLength, pressing, pressLoader}
 use Rattle.xm.specs.Delta.{countWritten, decodingLimited, decodeLoader, codingLimited, codeLoader}
+use Rattle.xm.specs.Adpcm.{adpcmLimited, adpcmLoader}
 use Rattle.xm.specs.Demands.{refusalMost, LoaderTells}
 use Rattle.xm.proofs.Demands.{demand₁, loaders-tell}
 use Rattle.walk.specs.declared.Verdict.{Verdict}
@@ -134,6 +135,15 @@ module _ (width : ℕ) (values : List ℤ) (room : ℕ) {coded : Coded} (met : c
   code-fits =
       rw code-same (fits length (codingLimited width values room) (codeLoader width values room) (loaders-tell .code width values room)
       (λ r e. demand₁ .code-limited width values .numbered room r e .1))
+
+module _ (count : ℕ) (bytes : List ℕ) (room : ℕ) {decoded : Decoded} (met : decoded ≡ decodeAnswer (adpcmLimited count bytes room)) where
+  pub adpcm-same : decodeNumber decoded ≡ adpcmLoader count bytes room
+  adpcm-same = ap decodeNumber met ∙ decode-cases (adpcmLimited count bytes room)
+
+  pub adpcm-fits : decodeNumber decoded < 2 ^ 64
+  adpcm-fits =
+      rw adpcm-same (fits length (adpcmLimited count bytes room) (adpcmLoader count bytes room) (loaders-tell .adpcm count bytes room)
+      (λ r e. demand₁ .adpcm-limited count bytes .numbered room r e .1))
 
 module _ (note : ℕ) (finetune : ℤ) {tuned : Tuned} (met : tuned ≡ tunedOf (tuning note finetune)) where
   pub period-same : periodNumber tuned ≡ periodLoader note finetune

@@ -1,4 +1,5 @@
-// The loader's limit: more than 16,777,216 bytes to decode or values to code get 16. So a count is always told from a refusal.
+// The loader's limits: more than 16,777,216 bytes to decode or values to code get 16, and so does an ADPCM length above 33,554,432. So
+// a count is always told from a refusal.
 use refusal::Fault;
 use samples::Coded;
 use samples::Decoded;
@@ -6,10 +7,13 @@ ghost use mathlib.Core.Path.{_≡_};
 ghost use lib.ListN.{length};
 ghost use Rattle.xm.specs.Got.{_at_};
 ghost use Rattle.xm.specs.Delta.{decodingLimited, decodeLimitedAfter, codingLimited, codeLimitedAfter};
+ghost use Rattle.xm.specs.Adpcm.{adpcmLimited, adpcmLimitedAfter};
 ghost use Rattle.refusal.specs.Fault.{faultOf};
 ghost use Rattle.samples.specs.Answers.{decodeAnswer, codeAnswer};
 
 const DELTA_MOST: usize = 16777216;
+
+const ADPCM_MOST: usize = 33554432;
 
 fn above_limit() -> Fault
     ensures { λ r. ⌜ r ≡ faultOf (16 at 0) ⌝ }
@@ -40,4 +44,15 @@ pub fn code(width: usize, values: &[i16], bytes: &mut [u8]) -> Coded
         return Coded::Refused(above_limit());
     }
     samples::code(width, values, bytes)
+}
+
+// ADPCM bytes to values; `count` is the header's length.
+pub fn decode_adpcm(count: usize, bytes: &[u8], values: &mut [i16]) -> Decoded
+    ensures answer { λ r. ⌜ r ≡ decodeAnswer (adpcmLimited count (now (bytes .entry)) (length (now (values .entry)))) ⌝ }
+    ensures memory { λ _. ⌜ now (values .exit) ≡ adpcmLimitedAfter count (now (bytes .entry)) (now (values .entry)) ⌝ }
+{
+    if count > ADPCM_MOST {
+        return Decoded::Refused(above_limit());
+    }
+    adpcm::decode_adpcm(count, bytes, values)
 }

@@ -17,7 +17,7 @@ use script::Numbers;
 use script::numbers_of;
 use write::say;
 
-// The call of a line, by its first two letters: check, structures, reader, line, press; tables, ask, deltas, unpack.
+// The call of a line, by its first two letters: check, structures, reader, line, press; tables, ask, deltas, values, unpack.
 fn run_call(file: &[u8], numbers: Numbers, first: u8, second: u8) {
     if first == b'c' {
         files::put_verdict(walk::check(file));

@@ -14,7 +14,7 @@ fn wide(number: u32) -> usize {
 }
 
 // A number of a table; 0 past its end.
-fn entry(table: &[u32], at: usize) -> usize {
+pub fn entry(table: &[u32], at: usize) -> usize {
     if at < table.len() { wide(table[at]) } else { 0 }
 }
 

@@ -1,6 +1,7 @@
-// A sample by its number, and its deltas both ways.
+// A sample by its number, its values by its header's kind, and its deltas both ways.
 use crate::lent::least;
 use crate::lent::part;
+use crate::patterns::entry;
 use crate::script::Numbers;
 use crate::sum;
 use crate::write::Answer;
@@ -10,6 +11,8 @@ use crate::write::put_answer;
 use crate::write::put_lent;
 use crate::write::put_sum;
 use crate::write::refused;
+ghost use Prim.Native.Nat.{_≤_};
+use adpcm::decode_adpcm;
 use asking::Asked;
 use asking::ask_sample;
 use asking::sample_refusal;
@@ -41,6 +44,61 @@ fn of_decoded(decoded: Decoded) -> Answer {
         Decoded::Values(count) => accepted(count, 0),
         Decoded::Refused(fault) => refused(fault),
     }
+}
+
+fn wide(byte: u8) -> usize
+    ensures { λ r. ⌜ r ≤ 255 ⌝ }
+{
+    byte as usize
+}
+
+// A byte of a sample header; 0 past its end.
+fn byte_in(head: &[u8], at: usize) -> usize
+    ensures { λ r. ⌜ r ≤ 255 ⌝ }
+{
+    if at < head.len() { wide(head[at]) } else { 0 }
+}
+
+// The length that a sample header says.
+fn length_in(head: &[u8]) -> usize {
+    let low = byte_in(head, 0) + 256 * byte_in(head, 1);
+    let high = byte_in(head, 2) + 256 * byte_in(head, 3);
+    low + 65536 * high
+}
+
+// A sample's data by what its header says: ADPCM, or deltas of the row's width.
+fn decode_by(head: &[u8], width: usize, data: &[u8], values: &mut [i16]) -> Decoded {
+    if byte_in(head, 17) == 0xAD {
+        return decode_adpcm(length_in(head), data, values);
+    }
+    samples::decode(width, data, values)
+}
+
+fn put_decoded(head: &[u8], width: usize, data: &[u8], wanted: usize, values: &mut [i16]) {
+    let room = least(wanted, values.len());
+    let decoded = decode_by(head, width, data, &mut values[0..room]);
+    put_answer(of_decoded(decoded));
+    put_sum(sum::of_values(values));
+}
+
+// Numbers: the sample, room for values, and how many bytes of its data are left out. The header stands where the row says.
+pub fn put_values(file: &[u8], numbers: Numbers, samples: &[u32]) {
+    let stretch = sample_stretch(file, samples, numbers.first);
+    let data = part(
+        stretch,
+        0,
+        stretch.len() - least(numbers.third, stretch.len()),
+    );
+    let row = 4 * least(numbers.first, 64);
+    let head = part(file, entry(samples, row), 40);
+    let mut values: [i16; 1040] = [23130; 1040];
+    put_decoded(
+        head,
+        entry(samples, row + 3),
+        data,
+        numbers.second,
+        &mut values,
+    );
 }
 
 // Answers how many values there are.

@@ -6,6 +6,7 @@ use crate::patterns::put_unpack;
 use crate::script::Numbers;
 use crate::stretches::put_ask;
 use crate::stretches::put_deltas;
+use crate::stretches::put_values;
 use crate::sum;
 use crate::write::put_sum;
 use tables::check_into;
@@ -45,6 +46,7 @@ fn run_on(file: &[u8], numbers: Numbers, call: u8, patterns: &[u32; 776], sample
     match call {
         b'a' => put_ask(file, numbers, samples),
         b'd' => put_deltas(file, numbers, samples, &mut lent),
+        b'v' => put_values(file, numbers, samples),
         _ => put_unpack(file, numbers, patterns, &mut lent),
     }
 }

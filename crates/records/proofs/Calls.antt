@@ -8,16 +8,16 @@ use lib.IntN.{ℤ}
 use lib.ListN.{length, getD, take, drop, length-map, List·getD-append, List·getD-map}
 use lib.Seq.{take-append-seam}
 use native.Mathlib.Omega.{arith}
-use Rattle.xm.specs.Number.{Bytes}
+use Rattle.xm.specs.Number.{Bytes, byteAt, longAt}
 use Rattle.xm.specs.Got.{Refusal, _at_, _>>_, ensure, checked}
 use Rattle.xm.specs.Format.{joined}
 use Rattle.xm.specs.Answer.{Answer, gives, refuses, numberOf, inFront}
-use Rattle.xm.specs.Delta.{decoding}
+use Rattle.xm.specs.Adpcm.{decodingBy}
 use Rattle.xm.specs.Table.{Checked, sampleRows, sampleStride, tuneStride, checkIntoNumbers, checkingInto, roomWith, rowsAfter, Tables, tablesAfter}
 use Rattle.xm.specs.Table as paper
 use Rattle.xm.specs.Asking.{Lies, asking, stretchOf, askingRows, noRow}
-use Rattle.xm.specs.Demands.{RowDecodes, AcceptedFile, liesAt}
-use Rattle.xm.proofs.Accepted.{accepted-files, sample-at}
+use Rattle.xm.specs.Demands.{AcceptedFile, liesAt}
+use Rattle.xm.proofs.Accepted.{accepted-files, decodes-at}
 use Rattle.xm.proofs.Table.{joined-map}
 use Rattle.refusal.specs.Fault.{faultOf}
 use Rattle.walk.specs.File.{verdictOf, verdictNumbers}
@@ -174,6 +174,10 @@ module _ (file : List ℕ) (plain : Bytes file) (patterns instruments : List ℕ
       ∙ ap (λ (rows : List paper.SampleRow). askingRows file rows number) (rows-in-front (sampleRows (c .found)) records)
       ∙ found .asked .records (drop (length (sampleRows (c .found))) (rowsOf records)) number low
 
-  -- and decodes at its width to the content's values.
-  pub stored-decodes : decoding (getD after number noRecord .width) (stretchOf file (askingRows file (rowsOf after) number)) (length (valuesAt c number)) ≡ gives (valuesAt c number)
-  stored-decodes = rw (stored-record, stored-asked) (sample-at (RowDecodes file) (sampleRows (c .found)) _ _ number low (found .rows-decode) .1)
+  -- and decodes to the content's values, at its width, by the kind and the length that stand at its header place.
+  abbrev storedRow : SampleRow
+  storedRow = getD after number noRecord
+
+  pub stored-decodes : decodingBy (byteAt (storedRow .«header_place» + 17) file) (longAt (storedRow .«header_place») file) (storedRow .width) (stretchOf file (askingRows file (rowsOf after) number)) (length (valuesAt c number))
+      ≡ gives (valuesAt c number)
+  stored-decodes = rw (stored-record, stored-asked) (decodes-at file (c .found) (c .end) found number low (length (valuesAt c number)) (omega arith))

@@ -27,7 +27,7 @@ pub code-one : (width : ℕ) (values : List ℤ) (lent : List ℕ) {answer other
 code-one width values lent d e = (d .0 ∙ sym (e .0), d .1 ∙ sym (e .1))
 
 -- The paper's numbers
-decode-cases : (answer : Answer (List ℤ)) → decodedNumbers (decodeAnswer answer) ≡ numbers (countWritten ∷ []) answer
+pub decode-cases : (answer : Answer (List ℤ)) → decodedNumbers (decodeAnswer answer) ≡ numbers (countWritten ∷ []) answer
 decode-cases (gives values) = refl
 decode-cases (refuses refusal) = refl
 

@@ -24,7 +24,7 @@ pub enum Coded {
 }
 
 // A width that is not 8 or 16, an odd byte count at 16, a value that does not fit 8 bits.
-fn bad_argument() -> Fault
+pub fn bad_argument() -> Fault
     ensures { λ r. ⌜ r ≡ faultOf (16 at 0) ⌝ }
 {
     Fault {
@@ -33,7 +33,7 @@ fn bad_argument() -> Fault
     }
 }
 
-fn no_room() -> Fault
+pub fn no_room() -> Fault
     ensures { λ r. ⌜ r ≡ faultOf (14 at 0) ⌝ }
 {
     Fault {
@@ -43,7 +43,7 @@ fn no_room() -> Fault
 }
 
 // A widened `i8` is one instruction, and the same choice made in 16 bits is not.
-fn value8(number: u8) -> i16
+pub fn value8(number: u8) -> i16
     ensures { λ r. ⌜ r ≡ signed 8 number ⌝ }
 {
     signed_byte(number) as i16
@@ -59,7 +59,7 @@ fn value16(number: u16) -> i16
     }
 }
 
-fn sum8(before: u8, stored: u8) -> u8
+pub fn sum8(before: u8, stored: u8) -> u8
     ensures { λ r. ⌜ r ≡ (before + stored) % 2 ^ 8 ⌝ }
 {
     std::num::wrapping_add_u8(before, stored)

@@ -1,16 +1,18 @@
 -- Laws of the steps over sample headers and sample data. Assumes nothing.
 use Prim.Native.Nat.{ℕ, zero, suc, _+_, _*_, _≤_, _<_}
+use mathlib.Core.Bool.{Bool, true, false, cond}
 use mathlib.Core.List.{List, [], _∷_}
 use mathlib.Core.Path.{_≡_, refl, sym, ap, ap₂, _∙_}
 use native.Mathlib.Nat.{add-assoc, mul-le-mul-right, zero-mul}
 use native.Mathlib.Omega.{arith}
+use lib.Dec.{eqb}
 use lib.IntN.{ℤ}
 use lib.ListN.{length, getD, drop, replicate, length-drop, length-append, length-replicate, getD-replicate}
 use lib.Seq.{getD-drop, take-take, drop-drop, length-take-le}
 use Rattle.xm.specs.Number.{byteAt, signed}
 use Rattle.xm.specs.Got.{Got, got, refused, _>>=_, _>>_, checked, _at_}
 use Rattle.xm.specs.Format.{each}
-use Rattle.xm.specs.Sample.{leastHead, headBytes, dataSize, Stretch, readHead, readData, headFormat, dataFormat, SamplesFound, samplesFormat, sizeOfFirst}
+use Rattle.xm.specs.Sample.{leastHead, headBytes, adpcm, adpcmSize, dataSizeBy, dataSize, Stretch, readHead, readData, headFormat, dataFormat, SamplesFound, samplesFormat, sizeOfFirst}
 use Rattle.xm.proofs.Number.{Agree, agree-byte, agree-long}
 use Rattle.xm.proofs.Got.{pass, step, test-holds, test-fails, step-refused, passed, bind-got, got-value, got-used, got-carry}
 use Rattle.xm.proofs.Format.{cons-path, read-length}
@@ -70,17 +72,31 @@ module _ (file : List ℕ) (place size : ℕ) {head : SampleHead} (v : HeadAt (h
     head-passed z =
         sym (ap (placeStep place) (read-by ∙ pass (headTestsOf place head) (fault-holds place (headTestsOf place head) (omega arith) (e ∙ same-fault place head) z) refl))
 
--- Sample data
-module _ (file : List ℕ) (headPlace size place : ℕ) {head : SampleHead} (v : HeadAt (headBytes size (drop headPlace file)) head) where
-  same-size : head .length ≡ dataSize (headBytes size (drop headPlace file))
-  same-size = ap SampleHead.length (v .value)
+-- Sample data: as many bytes as the header says, which are no more than a length can say
+module _ {bytes : List ℕ} {head : SampleHead} (v : HeadAt bytes head) where
+  pub head-size : dataSizeBy (head .kind) (head .length) ≡ dataSize bytes
+  unfolding dataSize
+  head-size = ap (λ (h : SampleHead). dataSizeBy (h .kind) (h .length)) (v .value)
 
-  pub data-cut : length file < place + head .length → place ≤ length file
+  pub size-small : dataSizeBy (head .kind) (head .length) < 4294967296
+  size-small = go (eqb (head .kind) adpcm) (head .length) (v .length-small)
+    where
+      go : (b : Bool) (n : ℕ) → n < 4294967296 → cond b (adpcmSize n) n < 4294967296
+      go true zero h = omega arith
+      go true (suc n) h = omega arith
+      go false n h = h
+
+module _ (file : List ℕ) (headPlace size place : ℕ) {head : SampleHead} (v : HeadAt (headBytes size (drop headPlace file)) head) {bytes : ℕ}
+    (said : bytes ≡ dataSizeBy (head .kind) (head .length)) where
+  same-size : bytes ≡ dataSize (headBytes size (drop headPlace file))
+  same-size = said ∙ head-size v
+
+  pub data-cut : length file < place + bytes → place ≤ length file
       → Refused (faultOf (1 at place)) ≡ placeStep place (readData (headBytes size (drop headPlace file)) place (drop place file))
   unfolding readData
   data-cut h l = sym (ap (placeStep place) (test-fails _ _ _ (λ q. omega (arith, same-size, length-drop place file))))
 
-  pub data-there : place + head .length ≤ length file → Next (place + head .length) ≡ placeStep place (readData (headBytes size (drop headPlace file)) place (drop place file))
+  pub data-there : place + bytes ≤ length file → Next (place + bytes) ≡ placeStep place (readData (headBytes size (drop headPlace file)) place (drop place file))
   unfolding readData
   data-there h = ap (λ (n : ℕ). Next (place + n)) same-size ∙ sym (ap (placeStep place) (pass _ (omega (arith, same-size, length-drop place file), tt) refl))
 

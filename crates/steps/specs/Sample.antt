@@ -26,7 +26,10 @@ pub record HeadAt (head : List ℕ) (r : SampleHead) : Type 0 where
   pub start-small : r .«loop_start» < 4294967296
   pub looped-small : r .«loop_length» < 4294967296
 
--- The tests of a header by its fields: "16-bit length odd", and "a looping sample's start + loop length above its length".
+-- The tests of a header by its fields: "kind AD with the 16-bit bit set", "16-bit length odd", and "a looping sample's start + loop length above its length".
+abbrev pub kindTest : (form kind place : ℕ) → Test
+kindTest form kind place = when (eqb (form / 16 % 2) 1) (unlike adpcm kind (12 at place))
+
 abbrev pub wideTest : (form length place : ℕ) → Test
 wideTest form length place = when (eqb (form / 16 % 2) 1) (even length (13 at place))
 
@@ -35,7 +38,7 @@ loopTest form length start looped place = when (ltb 0 looped && not (eqb (form %
 
 abbrev pub headTestsOf : (place : ℕ) → SampleHead → List Test
 headTestsOf place head =
-    unlike adpcm (head .kind) (12 at place)
+    kindTest (head .form) (head .kind) place
     ∷ unlike 3 (head .form % 4) (13 at place)
     ∷ wideTest (head .form) (head .length) place
     ∷ loopTest (head .form) (head .length) (head .«loop_start») (head .«loop_length») place

@@ -1,4 +1,5 @@
 // Sample headers and sample data. Data are never read, only stepped over.
+use adpcm::adpcm_size;
 use refusal::Fault;
 use refusal::Step;
 use slices::read::byte;
@@ -9,10 +10,13 @@ ghost use Prim.Native.Nat.{_+_, _*_, _≤_, _<_};
 ghost use lib.ListN.{length, drop, replicate};
 ghost use Rattle.xm.specs.Got.{passes};
 ghost use Rattle.xm.specs.Format.{each};
-ghost use Rattle.xm.specs.Sample.{leastHead, headBytes, readHead, readData, headFormat, dataFormat, samplesFormat};
+ghost use Rattle.xm.specs.Sample.{leastHead, headBytes, dataSizeBy, readHead, readData, headFormat, dataFormat, samplesFormat};
 ghost use Rattle.refusal.specs.Fault.{placeStep};
 ghost use Rattle.steps.specs.Test.{firstFault};
-ghost use Rattle.steps.specs.Sample.{HeadAt, wideTest, loopTest, headTestsOf, headsFrom};
+ghost use Rattle.steps.specs.Sample.{HeadAt, kindTest, wideTest, loopTest, headTestsOf, headsFrom};
+
+// "Kind AD"
+const ADPCM: usize = 0xAD;
 
 // The fields of a sample header that the walk and the tables use.
 pub struct SampleHead {
@@ -40,6 +44,26 @@ pub fn sample_head(file: &[u8], at: usize, size: usize) -> SampleHead
         relative_note: signed_byte(relative_note),
         kind: byte(file, at, 17),
     }
+}
+
+// The bytes that a sample's data take: of kind AD not its length.
+pub fn data_size(kind: usize, length: usize) -> usize
+    ensures { λ r. ⌜ r ≡ dataSizeBy kind length ⌝ }
+{
+    if kind == ADPCM {
+        return adpcm_size(length);
+    }
+    length
+}
+
+// Whether a 16-bit sample is of another kind than AD.
+fn kind_fits(form: usize, kind: usize) -> bool
+    ensures { λ r. ⌜ r ≡ passes (kindTest form kind 0) ⌝ }
+{
+    if form / 16 % 2 == 1 {
+        return kind != ADPCM;
+    }
+    true
 }
 
 // Whether a 16-bit sample's length is even.
@@ -76,7 +100,7 @@ fn head_fault(head: SampleHead) -> u32
     requires { ⌜ head .«loop_length» < 4294967296 ⌝ }
     ensures { λ r. ⌜ r ≡ firstFault (headTestsOf 0 head) ⌝ }
 {
-    if head.kind == 0xAD {
+    if !kind_fits(head.form, head.kind) {
         return 12;
     }
     if head.form % 4 == 3 {
@@ -114,14 +138,14 @@ fn read_data(file: &[u8], head: usize, size: usize, at: usize) -> Step
     ensures { λ r. ⌜ r ≡ placeStep at (readData (headBytes size (drop head (now (file .entry)))) at (drop at (now (file .entry)))) ⌝ }
 {
     let sample = sample_head(file, head, size);
-    let data_size = sample.length;
-    if file.len() - at < data_size {
+    let bytes = data_size(sample.kind, sample.length);
+    if file.len() - at < bytes {
         return Step::Refused(Fault {
             number: 1,
             place: at,
         });
     }
-    Step::Next(at + data_size)
+    Step::Next(at + bytes)
 }
 
 // All `count` headers, each of `size` bytes.

@@ -5,17 +5,17 @@ use mathlib.Core.Path.{_≡_, refl, sym, ap, _∙_}
 use native.Mathlib.Omega.{arith}
 use lib.IntN.{ℤ}
 use lib.ListN.{length, getD, drop}
-use Rattle.xm.specs.Number.{Bytes, part}
+use Rattle.xm.specs.Number.{Bytes, byteAt, longAt, part}
 use Rattle.xm.specs.Format.{joined}
 use Rattle.xm.specs.Answer.{Answer, gives, refuses}
 use Rattle.xm.specs.Stored.{Pattern, emptyRows}
 use Rattle.xm.specs.Packing.{cellBytes, unpacking}
-use Rattle.xm.specs.Delta.{decoding, valuesOf}
+use Rattle.xm.specs.Adpcm.{decodingBy, valuesOf}
 use Rattle.xm.specs.Press.{contentOf}
 use Rattle.xm.specs.Table.{PatternRow, patternRows, sampleRows, Checked, checkIntoNumbers, checkingInto, patternStride, sampleStride, patternNumbers, sampleNumbers, Tables, Room, roomOf, tablesAfter}
 use Rattle.xm.specs.Asking.{stretchOf, askingFlat, noRow}
-use Rattle.xm.specs.Demands.{headsIn, bytesIn, RowUnpacks, RowsUnpack, RowDecodes, AcceptedFile, liesAt}
-use Rattle.xm.proofs.Accepted.{accepted-files, number-at, sample-at}
+use Rattle.xm.specs.Demands.{headsIn, bytesIn, RowUnpacks, RowsUnpack, AcceptedFile, liesAt}
+use Rattle.xm.proofs.Accepted.{accepted-files, number-at, decodes-at}
 use Rattle.refusal.specs.declared.Fault.{Fault}
 use Rattle.walk.specs.declared.Verdict.{Verdict}
 use Rattle.walk.specs.declared.Verdict.the-variants.{Refused}
@@ -69,14 +69,23 @@ module _ (file : List ℕ) (plain : Bytes file) (lent : Tables) (c : Checked) (a
   unfolding tablesAfter
   filled-asked number low = rw accepted (found .asked .flat (drop (length (joined sampleNumbers (sampleRows (c .found)))) (lent .samples)) number low)
 
-  -- which decodes at the row's width to the content's values,
-  pub filled-decodes : (number : ℕ) → number < length (sampleRows (c .found))
-      → decoding (getD (filled .samples) (sampleStride * number + 3) 0) (stretchOf file (askingFlat file (filled .samples) number)) (length (valuesAt c number)) ≡ gives (valuesAt c number)
+  -- which decodes to the content's values, at the row's width, by the kind and the length that stand at the row's header place,
+  abbrev pub sampleNumber : (number k : ℕ) → ℕ
+  sampleNumber number k = getD (filled .samples) (sampleStride * number + k) 0
+
+  pub sample-number : (number k : ℕ) → number < length (sampleRows (c .found)) → k < sampleStride
+      → sampleNumber number k ≡ getD (sampleNumbers (getD (sampleRows (c .found)) number noRow)) k 0
   unfolding tablesAfter
-  filled-decodes number low =
+  sample-number number k low l =
       let rows = sampleRows (c .found) in
-      let width = number-at sampleStride sampleNumbers (λ row. refl) rows noRow (drop (length (joined sampleNumbers rows)) (lent .samples)) number 3 low (omega arith) in
-      rw (filled-asked number low) (rw (accepted, width) (sample-at (RowDecodes file) rows _ _ number low (found .rows-decode) .1))
+      rw accepted (number-at sampleStride sampleNumbers (λ row. refl) rows noRow (drop (length (joined sampleNumbers rows)) (lent .samples)) number k low l)
+
+  pub filled-decodes : (number : ℕ) → number < length (sampleRows (c .found))
+      → decodingBy (byteAt (sampleNumber number 0 + 17) file) (longAt (sampleNumber number 0) file) (sampleNumber number 3) (stretchOf file (askingFlat file (filled .samples) number)) (length (valuesAt c number))
+      ≡ gives (valuesAt c number)
+  filled-decodes number low =
+      rw (filled-asked number low, sample-number number 0 low (omega arith), sample-number number 3 low (omega arith))
+      (decodes-at file (c .found) (c .end) found number low (length (valuesAt c number)) (omega arith))
 
   -- and each pattern's data, by the numbers of its row, unpack to the content's rows and cells.
   abbrev patternAt : (number : ℕ) → Pattern

@@ -2,6 +2,7 @@
 use steps::header::header_part;
 use steps::instrument::InstrumentHead;
 use steps::pattern::pattern_head;
+use steps::sample::data_size;
 use steps::sample::sample_head;
 ghost use mathlib.Core.Bool.{true};
 ghost use mathlib.Core.Path.{_≡_};
@@ -37,7 +38,7 @@ pub fn data_end(file: &[u8], instrument: InstrumentHead) -> usize
     let mut place = head + left * size;
     while 0 < left {
         let sample = sample_head(file, head, size);
-        place += sample.length;
+        place += data_size(sample.kind, sample.length);
         head += size;
         left -= 1;
     }

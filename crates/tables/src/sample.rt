@@ -2,6 +2,7 @@
 use crate::place::first_instrument;
 use asking::SAMPLE_STRIDE;
 use steps::instrument::instrument_head;
+use steps::sample::data_size;
 use steps::sample::sample_head;
 ghost use mathlib.Core.Path.{_≡_};
 ghost use Prim.Native.Nat.{_+_, _*_, _<_, _≤_, _/_, _%_, _^_};
@@ -48,7 +49,7 @@ fn sample_row(file: &[u8], head: usize, size: usize, data_place: usize) -> Sampl
     SampleRow {
         header_place: head as u32,
         data_place: data_place as u32,
-        length: sample.length as u32,
+        length: data_size(sample.kind, sample.length) as u32,
         width: width_of(sample.form),
         finetune: sample.finetune,
         relative_note: sample.relative_note,

@@ -1,7 +1,7 @@
 -- The definitions worked on small numbers, by computation. Modules are checked in the order of their names, and this one before the laws: so a wrong
 -- definition is refused first by a number that differs. Assumes nothing.
 use Prim.Native.Nat.{ℕ}
-use mathlib.Core.List.{List, [], _∷_, map}
+use mathlib.Core.List.{List, [], _∷_, _++_, map}
 use mathlib.Core.Path.{_≡_, refl}
 use lib.Count.{ones, onesIn}
 use lib.IntN.{pos, negsuc}
@@ -14,12 +14,13 @@ use Rattle.xm.specs.Cell.{lengthBy, fieldsBy, cellAt, readCell, kept, ma
 use Rattle.xm.specs.Stored.{readCells, readStored, allZero, needsNoData, writeStored, cellsOf}
 use Rattle.xm.specs.Header.{restartInside, restartOf, readHeader, writeHeader}
 use Rattle.xm.specs.PatternInFile.{PatternFound, readPattern, writePattern}
-use Rattle.xm.specs.Sample.{Stretch, readHead, readData}
+use Rattle.xm.specs.Sample.{Stretch, dataSize, readHead, readData}
 use Rattle.xm.specs.Instrument.{InstrumentFound, readInstrument, writeVoice, writeInstrument, instrumentFormat}
 use Rattle.xm.specs.Module.{readWhole, plays}
 use Rattle.xm.specs.Packing.{unpacking, unpackNumbers, unpackAfter, packing, packNumbers, packLoader}
 use Rattle.xm.specs.Delta.{pairs, storedNumbers, sums, decoded, decoding, decodeNumbers}
-use Rattle.xm.specs.Table.{patternRow, InstrumentRow, instrumentRowsFrom, checking, checkNumbers, checkingInto, checkIntoLoader, patternNumbers, sampleNumbers}
+use Rattle.xm.specs.Adpcm.{halves, chosen, adpcmDecoded}
+use Rattle.xm.specs.Table.{patternRow, sampleRowAt, InstrumentRow, instrumentRowsFrom, checking, checkNumbers, checkingInto, checkIntoLoader, patternNumbers, sampleNumbers}
 use Rattle.xm.specs.Asking.{asking, askNumbers, askingFlat}
 use Rattle.xm.specs.Structure.{kindNumber, structuresOf, handHead}
 use Rattle.xm.specs.Press.{pressed}
@@ -37,8 +38,25 @@ long-header = refl
 
 -- A sample of one byte, 5, with another behind it
 pub one-byte : numbersIn Stretch.bytes (readData (1 ∷ replicate 39 0) 0 (5 ∷ 6 ∷ [])) ≡ 1 ∷ 5 ∷ []
-unfolding readData _>>_ ensure checked longAt
+unfolding readData dataSize _>>_ ensure checked longAt
 one-byte = refl
+
+-- Of kind AD: no values take no byte, one and two take 17, three take 18, and the row says so. Three values of the indexes 1, 2, 1 and a half that is
+-- not used; 160 is -96. At 8 bits the header is read, at 16 it is refused
+abbrev adpcmHead : (length type : ℕ) → List ℕ
+adpcmHead length type = length ∷ replicate 13 0 ++ type ∷ 0 ∷ 0 ∷ 0xAD ∷ replicate 22 0
+
+pub adpcm-bytes : map (λ (n : ℕ). sampleRowAt 0 0 (adpcmHead n 0) .size) (0 ∷ 1 ∷ 2 ∷ 3 ∷ []) ≡ 0 ∷ 17 ∷ 17 ∷ 18 ∷ []
+unfolding dataSize longAt
+adpcm-bytes = refl
+
+pub adpcm-values : adpcmDecoded 3 (0 ∷ 100 ∷ 60 ∷ replicate 13 7 ++ 0x21 ∷ 0xF1 ∷ []) ≡ pos 100 ∷ negsuc 95 ∷ pos 4 ∷ []
+unfolding adpcmDecoded chosen halves decoded storedNumbers pairs sums signed
+adpcm-values = refl
+
+pub adpcm-heads : map (λ (type : ℕ). numbersIn Stretch.bytes (readHead 40 0 (adpcmHead 0 type))) (0 ∷ 16 ∷ []) ≡ (40 ∷ adpcmHead 0 0) ∷ [] ∷ []
+unfolding readHead _>>_ ensure checked longAt
+adpcm-heads = refl
 
 -- A step of 1 from 127 wraps; two values are two
 pub wraps : decoded 8 (127 ∷ 1 ∷ []) ≡ pos 127 ∷ negsuc 127 ∷ []
@@ -104,5 +122,5 @@ two-channels = refl
 
 -- No bytes are refused; the song's file is read to its end, with and without tables
 pub song-checked : (checkNumbers [] ≡ 1 ∷ 0 ∷ 0 ∷ 0 ∷ 0 ∷ 0 ∷ 0 ∷ []) × (checkNumbers (pressed song) ≡ 0 ∷ 0 ∷ 662 ∷ 1 ∷ 2 ∷ 1 ∷ 1 ∷ []) × (checkIntoLoader (record { patterns = 2; instruments = 1; samples = 1 }) (pressed song) ≡ 662)
-unfolding checking checkingInto loaderNumber readWhole _>>=_ _>>_ ensure checked restartInside restartOf readHeader writeHeader readPattern writePattern readStored readCells readCell cellAt fieldsBy lengthBy ones onesIn writeStored needsNoData allZero writeCell goesPlain plainBy standsPlain plainShorter marked kepts marks kept readHead readData readInstrument writeVoice writeInstrument wordAt longAt
+unfolding checking checkingInto loaderNumber readWhole _>>=_ _>>_ ensure checked restartInside restartOf readHeader writeHeader readPattern writePattern readStored readCells readCell cellAt fieldsBy lengthBy ones onesIn writeStored needsNoData allZero writeCell goesPlain plainBy standsPlain plainShorter marked kepts marks kept readHead readData readInstrument writeVoice writeInstrument wordAt longAt dataSize
 song-checked = (refl, refl, refl)

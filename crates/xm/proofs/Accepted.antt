@@ -1,28 +1,26 @@
 -- What holds of every accepted file: regions, tables, rows, stretches, loops. Assumes nothing.
-use Prim.Native.Nat.{ℕ, zero, suc, _+_, _*_, _/_, _%_, _≤_, _<_}
-use mathlib.Core.Bool.{Bool, true, false, cond}
+use Prim.Native.Nat.{ℕ, zero, suc, _+_, _*_, _/_, _≤_, _<_}
 use mathlib.Core.List.{List, [], _∷_, _++_, map, append-assoc}
 use mathlib.Core.Path.{_≡_, refl, sym, ap, ap₂, _∙_, subst}
-use native.Mathlib.Nat.{zero-add, mul-zero, mul-suc}
+use native.Mathlib.Nat.{zero-add, add-zero, mul-zero, mul-suc}
 use native.Mathlib.Omega.{arith}
-use lib.Dec.{eqb}
-use lib.ListN.{length, getD, take, drop, replicate, length-append, length-take, length-map, length-replicate, List·getD-append}
+use lib.ListN.{length, getD, take, drop, replicate, length-append, length-take, length-map, length-replicate, List·getD-append, List·getD-map}
 use lib.Seq.{drop-at, take-at, getD-append-add}
-use Rattle.xm.specs.Number.{byteAt, part}
-use Rattle.xm.specs.Got.{Holds}
-use Rattle.xm.specs.Format.{sampleData, joined, EachGood, All}
+use Rattle.xm.specs.Number.{byteAt, longAt, part}
+use Rattle.xm.specs.Format.{sampleHeader, sampleData, joined, EachGood, All}
 use Rattle.xm.specs.PatternInFile.{PatternFound, GoodStored, patternFormat}
-use Rattle.xm.specs.Sample.{leastHead, Stretch, isWide, widthOf, dataSize}
+use Rattle.xm.specs.Sample.{leastHead, Stretch, dataSize}
 use Rattle.xm.specs.Instrument.{Instrument, InstrumentFound, instrumentView}
-use Rattle.xm.specs.Module.{patternsFor, moduleFormat}
-use Rattle.xm.specs.Delta.{widthTest, decoding, valuesOf}
+use Rattle.xm.specs.Module.{Found, patternsFor, moduleFormat}
+use Rattle.xm.specs.Adpcm.{decodingBy, valuesOf}
 use Rattle.xm.specs.Table.{SampleRow, patternRow, sampleCount, instrumentRowsFrom, sampleRow, sampleRowsOf, sampleRowsIn, sampleRows, sampleStride, sampleNumbers}
 use Rattle.xm.specs.Press.{contentOf}
 use Rattle.xm.specs.Answer.{gives}
+use Rattle.xm.specs.Region.{ofKind}
 use Rattle.xm.specs.Asking.{Lies, asking, stretchOf, askingFlat, askingRows, noRow, liesOf}
-use Rattle.xm.specs.Demands.{headsIn, bytesIn, RowUnpacks, RowsUnpack, FindsRows, HeadStands, HeadsStand, EachSample, RowReads, RowDecodes, liesAt, Asked, AsksExactly, LoopInside, AcceptedFiles}
+use Rattle.xm.specs.Demands.{headsIn, bytesIn, RowUnpacks, RowsUnpack, FindsRows, HeadStands, HeadsStand, EachSample, RowReads, RowDecodes, liesAt, Asked, AsksExactly, LoopInside, AcceptedFile, AcceptedFiles}
 use Rattle.xm.proofs.Number.{byte-part}
-use Rattle.xm.proofs.Got.{no-true, pass}
+use Rattle.xm.proofs.Got.{pass}
 use Rattle.xm.proofs.Answer.{answer-gives, answer-refuses, tests-fail}
 use Rattle.xm.proofs.Format.{joined-length, each-length}
 use Rattle.xm.proofs.Packing.{unpack-gives}
@@ -32,7 +30,7 @@ use Rattle.xm.proofs.Sample.{HeadTold, DataTold, Sized, SamplesTold}
 use Rattle.xm.proofs.Module.{module-keeps, module-adjoins, module-tells, whole-read}
 use Rattle.xm.proofs.Region.{Before, adjoin-regions, kind-before}
 use Rattle.xm.proofs.Table.{lies, heads-lie, tables-stand, joined-map}
-use Rattle.xm.proofs.Delta.{decoding-given}
+use Rattle.xm.proofs.Adpcm.{sample-decodes, values-counted, decoding-roomy}
 
 -- Lists of facts
 all-map : {A B : Type 0} (P : A → Type 0) (Q : B → Type 0) (f : A → B) → ((x : A) → P x → Q (f x)) → (xs : List A) → All P xs → All Q (map f xs)
@@ -87,30 +85,16 @@ module _ (file : List ℕ) (P : SampleRow → (head bytes : List ℕ) → Type 0
 
 -- A row says what its header says
 row-reads : (h b : Stretch) → RowReads (sampleRow h b) (h .bytes) (b .bytes)
+unfolding dataSize
 row-reads h b = (refl, refl, refl, refl)
 
--- Its stretch is the data, and decodes: at 16 bits its size is even
-width-test : (head : List ℕ) → Holds (widthTest (widthOf head))
-width-test head = go (isWide head)
-  where
-    go : (w : Bool) → Holds (widthTest (cond w 16 8))
-    go true = refl
-    go false = refl
-
-width-even : (head : List ℕ) (n : ℕ) → (isWide head ≡ true → n % 2 ≡ 0) → eqb (widthOf head) 16 ≡ true → n % 2 ≡ 0
-width-even head n h q = go (isWide head) h q
-  where
-    go : (w : Bool) → (w ≡ true → n % 2 ≡ 0) → eqb (cond w 16 8) 16 ≡ true → n % 2 ≡ 0
-    go true h q = h refl
-    go false h q = absurd (no-true q)
-
+-- Its stretch is the data, and decodes
 row-decodes : (file : List ℕ) (h b : Stretch) → HeadTold file h → DataTold file b → b .size ≡ dataSize (h .bytes) → RowDecodes file (sampleRow h b) (h .bytes) (b .bytes)
 row-decodes file h b t d z =
     let stretch : part (b .place) (dataSize (h .bytes)) file ≡ b .bytes = sym (d .bytes ∙ ap (λ (n : ℕ). part (b .place) n file) z) in (
       stretch,
-      ap (λ (s : List ℕ). decoding (widthOf (h .bytes)) s (length (valuesOf (h .bytes) (b .bytes)))) stretch
-          ∙ decoding-given (widthOf (h .bytes)) (b .bytes) (length (valuesOf (h .bytes) (b .bytes))) (width-test (h .bytes))
-          (width-even (h .bytes) (length (b .bytes)) (λ q. ap (λ (n : ℕ). n % 2) (d .long ∙ z) ∙ t .tests .1 .1 .0 q)) (omega arith),
+      rw stretch (sample-decodes (h .bytes) (b .bytes) (d .long ∙ z) (t .tests)),
+      values-counted (h .bytes) (b .bytes) (d .long ∙ z) (t .tests),
     )
 
 -- An instrument's own rows stand where its row says
@@ -242,3 +226,40 @@ accepted-files file found end b e =
           all-map (λ (i : InstrumentFound). SamplesTold file (i .samples)) _ instrumentView
           (λ i s. all-map (HeadTold file) LoopInside Stretch.bytes (loop-inside file) (i .samples .0) (s .heads)) (found .1 .1) (t .instruments);
     }
+
+-- The header of a sample, where its row says that it stands: each byte, and the length that its first four say
+stands-at : (file : List ℕ) (ls : List Lies) (heads : List (List ℕ)) (number k : ℕ) → number < length ls → k < leastHead → HeadsStand file ls heads
+    → byteAt k (getD heads number []) ≡ byteAt (getD (map Lies.place ls) number 0 + k) file
+stands-at file [] heads number k h l e = absurd (omega arith)
+stands-at file (x ∷ ls) [] number k h l e = absurd e
+stands-at file (x ∷ ls) (head ∷ heads) zero k h l e = e .0 k l
+stands-at file (x ∷ ls) (head ∷ heads) (suc number) k h l e = stands-at file ls heads number k (omega arith) l (e .1)
+
+long-same : (head file : List ℕ) (place : ℕ) → ((k : ℕ) → k < leastHead → byteAt k head ≡ byteAt (place + k) file) → longAt 0 head ≡ longAt place file
+unfolding longAt
+long-same head file place same = rw (same 0 (omega arith), same 1 (omega arith), same 2 (omega arith), same 3 (omega arith), add-zero place)
+
+module _ (file : List ℕ) (found : Found) (end : ℕ) (accepted : AcceptedFile file found end) (number : ℕ) (low : number < length (sampleRows found)) where
+  abbrev row : SampleRow
+  row = getD (sampleRows found) number noRow
+
+  abbrev pub headAt : List ℕ
+  headAt = getD (headsIn (contentOf found)) number []
+
+  abbrev pub bytesAt : List ℕ
+  bytesAt = getD (bytesIn (contentOf found)) number []
+
+  pub head-byte : (k : ℕ) → k < leastHead → byteAt k headAt ≡ byteAt (row .headerPlace + k) file
+  head-byte k l =
+      let ls = ofKind sampleHeader (moduleFormat .regions found) in
+      let places = accepted .tables .heads in
+      stands-at file ls (headsIn (contentOf found)) number k (omega (arith, ap length places, length-map ls Lies.place, length-map (sampleRows found) SampleRow.headerPlace)) l (accepted .heads-stand)
+      ∙ ap (λ (place : ℕ). byteAt (place + k) file) (ap (λ (all : List ℕ). getD all number 0) places ∙ List·getD-map SampleRow.headerPlace (sampleRows found) number noRow)
+
+  -- So its data decode by the kind and length that stand there
+  pub decodes-at : (room : ℕ) → length (valuesOf headAt bytesAt) ≤ room
+      → decodingBy (byteAt (row .headerPlace + 17) file) (longAt (row .headerPlace) file) (row .width) (part (row .dataPlace) (row .size) file) room ≡ gives (valuesOf headAt bytesAt)
+  decodes-at room enough =
+      rw (← head-byte 17 (omega arith), ← long-same headAt file (row .headerPlace) head-byte)
+      (decoding-roomy (byteAt 17 headAt) (longAt 0 headAt) (row .width) (part (row .dataPlace) (row .size) file) (valuesOf headAt bytesAt) room
+      (sample-at (RowDecodes file) (sampleRows found) _ _ number low (accepted .rows-decode) .1) enough)

@@ -8,8 +8,9 @@ use Rattle.xm.specs.Cell.{lengthBy, fieldsBy, cellAt, readCell, kept, ma
 use Rattle.xm.specs.Stored.{readCells, readStored, allZero, needsNoData, writeStored, cellsOf}
 use Rattle.xm.specs.Packing.{unpacking, packing}
 use Rattle.xm.specs.Delta.{pairs, storedNumbers, sums, decoded, decoding}
+use Rattle.xm.specs.Adpcm.{halves, chosen, adpcmDecoded, adpcmDecoding}
 use Rattle.xm.specs.Bench.{worked, pieces}
 
 pub bench : map worked pieces ≡ pieces
-unfolding unpacking packing decoding _>>=_ _>>_ ensure checked readStored readCells readCell cellAt fieldsBy lengthBy ones onesIn writeStored needsNoData allZero writeCell goesPlain plainBy standsPlain plainShorter marked kepts marks kept cellsOf decoded storedNumbers pairs sums signed
+unfolding unpacking packing decoding adpcmDecoding adpcmDecoded chosen halves _>>=_ _>>_ ensure checked readStored readCells readCell cellAt fieldsBy lengthBy ones onesIn writeStored needsNoData allZero writeCell goesPlain plainBy standsPlain plainShorter marked kepts marks kept cellsOf decoded storedNumbers pairs sums signed
 bench = refl

@@ -14,15 +14,17 @@ use Rattle.xm.specs.Header.{Header, songLengthAt, restartAt, restartInsi
 use Rattle.xm.specs.Sample.{Stretch}
 use Rattle.xm.specs.Instrument.{Instrument, InstrumentFound, instrumentView}
 use Rattle.xm.specs.Module.{Found, Content, moduleFormat, fileMost, readFile, plays}
-use Rattle.xm.specs.Delta.{sums, storedNumbers, decoded, decoding, coding, countWritten, limitTest}
+use Rattle.xm.specs.Delta.{sums, storedNumbers, decoded, decoding, coding, countWritten, deltaMost, limitTest}
+use Rattle.xm.specs.Adpcm.{chosen, adpcmDecoded, adpcmDecoding, adpcmMost}
 use Rattle.xm.specs.Table.{Checked, checkedAs, checkResults, checking, checkNumbers, checkLoader, checkingInto, checkIntoLoader, Tables, Room, roomOf, roomTests, tablesAfter, patternRows, instrumentRows, sampleRowsIn, sampleRows, patternStride, instrumentStride, sampleStride, tuneStride, patternNumbers, instrumentNumbers, sampleNumbers, sampleTunes}
 use Rattle.xm.specs.Press.{pressed, pressingAs, pressing, pressLoader}
-use Rattle.xm.specs.Demands.{KeepsItsWord, TablesKept, Demand₁, Demand₂, Demand₃, CheckTells, countsOf, RunningSums, PressesWhole, SameBytes, RoomFor, TablesTell, RestIgnored, RestartsRead, PlaysOrders, LoaderTells, Limited, LoadersTell}
+use Rattle.xm.specs.Demands.{KeepsItsWord, TablesKept, Demand₁, Demand₂, Demand₃, CheckTells, countsOf, RunningSums, AdpcmTells, PressesWhole, SameBytes, RoomFor, TablesTell, RestIgnored, RestartsRead, PlaysOrders, LoaderTells, Limited, LoadersTell}
 use Rattle.xm.proofs.Got.{refused-tests, refused-bind, got-never, pass, passed, step, step-refused, bind-got}
 use Rattle.xm.proofs.Answer.{answer-gives, answer-refuses, gives-got, gives-passed, gives-bound, gives-same, gives-refuses, refuses-refused, tests-fail, behind-holds, behind-fails, behind-gave, behind-refused, SoundRefusal, read-sound, word-kept, loader-tells, accepted-gives, reported-written}
 use Rattle.xm.proofs.Format.{joined-length}
 use Rattle.xm.proofs.Packing.{unpack-word, pack-word, unpacks-to-cells, pack-shortest, unpack-tells, pack-tells, pack-apart}
 use Rattle.xm.proofs.Delta.{valuesFrom, values-none, values-step, decoded-most, coded-most, decoding-gave, coding-gave, coding-decoding, decoding-coding}
+use Rattle.xm.proofs.Adpcm.{chosen-at, adpcm-length, adpcm-unfit, adpcm-room, adpcm-given, adpcm-gave}
 use Rattle.xm.proofs.Fault.{FileFault, module-faults, whole-faults}
 use Rattle.xm.proofs.Sample.{SamplesTold}
 use Rattle.xm.proofs.Module.{module-back, module-keeps, module-firm, module-tells, whole-read, whole-firm}
@@ -161,27 +163,38 @@ module _ (width : ℕ) (values : List ℤ) where
   code-word : KeepsItsWord (λ (bytes : List ℕ). bytes) (coding width values)
   code-word = word-kept _ (coding width values) (λ room r e. code-fault room r e .sound) (λ room bytes e. code-fits room bytes e .0)
 
--- and with the loader's limit, of any call that writes at most two for each that it reads
-limited : {A : Type 0} (count : ℕ) (own : Answer A) → Limited count own (behind (limitTest count) own)
-limited count own = record {
-  above = λ h. behind-fails (limitTest count) own (λ l. omega arith);
-  within = λ h. behind-holds (limitTest count) own (omega arith);
+module _ (count : ℕ) (bytes : List ℕ) where
+  adpcm-fault : (room : ℕ) (r : Refusal) → adpcmDecoding count bytes room ≡ refuses r → OwnFault r
+  unfolding adpcmDecoding
+  adpcm-fault room r e = refused-tests OwnFault _ _ (refuses-refused _ _ e) (omega arith) λ hs e. absurd (got-never e)
+
+  adpcm-fits : (room : ℕ) (values : List ℤ) → adpcmDecoding count bytes room ≡ gives values → (length values ≤ room) × (length values ≤ 2 * count)
+  adpcm-fits room values e = adpcm-gave count bytes room e λ fit l q. (omega (arith, ap length q), omega (arith, ap length q, adpcm-length count bytes fit))
+
+  adpcm-word : KeepsItsWord (λ (values : List ℤ). values) (adpcmDecoding count bytes)
+  adpcm-word = word-kept _ (adpcmDecoding count bytes) (λ room r e. adpcm-fault room r e .sound) (λ room values e. adpcm-fits room values e .0)
+
+-- and with the loader's limit, of any call that writes at most two for each that is counted
+limited : {A : Type 0} (most count : ℕ) (own : Answer A) → Limited most count own (behind (limitTest most count) own)
+limited most count own = record {
+  above = λ h. behind-fails (limitTest most count) own (λ l. omega arith);
+  within = λ h. behind-holds (limitTest most count) own (omega arith);
 }
 
-module _ {B : Type 0} (count : ℕ) (own : ℕ → Answer (List B)) (fault : (room : ℕ) (r : Refusal) → own room ≡ refuses r → OwnFault r)
+module _ {B : Type 0} (most : ℕ) (small : 2 * most < 2 ^ 32) (count : ℕ) (own : ℕ → Answer (List B)) (fault : (room : ℕ) (r : Refusal) → own room ≡ refuses r → OwnFault r)
     (fits : (room : ℕ) (xs : List B) → own room ≡ gives xs → (length xs ≤ room) × (length xs ≤ 2 * count)) where
-  limited-fault : (room : ℕ) (r : Refusal) → behind (limitTest count) (own room) ≡ refuses r → OwnFault r
-  limited-fault room r e = behind-refused (limitTest count) (own room) e (λ same. subst OwnFault same (omega arith)) (fault room r)
+  limited-fault : (room : ℕ) (r : Refusal) → behind (limitTest most count) (own room) ≡ refuses r → OwnFault r
+  limited-fault room r e = behind-refused (limitTest most count) (own room) e (λ same. subst OwnFault same (omega arith)) (fault room r)
 
-  limited-word : KeepsItsWord (λ (xs : List B). xs) (λ room. behind (limitTest count) (own room))
+  limited-word : KeepsItsWord (λ (xs : List B). xs) (λ room. behind (limitTest most count) (own room))
   limited-word =
-      word-kept _ (λ room. behind (limitTest count) (own room)) (λ room r e. limited-fault room r e .sound)
-      (λ room xs e. behind-gave (limitTest count) (own room) e λ l e. fits room xs e .0)
+      word-kept _ (λ room. behind (limitTest most count) (own room)) (λ room r e. limited-fault room r e .sound)
+      (λ room xs e. behind-gave (limitTest most count) (own room) e λ l e. fits room xs e .0)
 
-  limited-loads : (room : ℕ) → LoaderTells length (behind (limitTest count) (own room)) (loaderNumber countWritten (behind (limitTest count) (own room)))
+  limited-loads : (room : ℕ) → LoaderTells length (behind (limitTest most count) (own room)) (loaderNumber countWritten (behind (limitTest most count) (own room)))
   limited-loads room =
-      loader-tells length (behind (limitTest count) (own room)) (loaderNumber countWritten (behind (limitTest count) (own room))) refl
-      (λ xs e. behind-gave (limitTest count) (own room) e λ l e. omega (arith, l, fits room xs e .1))
+      loader-tells length (behind (limitTest most count) (own room)) (loaderNumber countWritten (behind (limitTest most count) (own room))) refl
+      (λ xs e. behind-gave (limitTest most count) (own room) e λ l e. omega (arith, l, fits room xs e .1))
       (λ r e. let f = limited-fault room r e in (f .sound .numbered .0, omega (arith, f .small)))
 
 running-sums : (width before : ℕ) (stored : List ℕ) → RunningSums width before stored (valuesFrom width before stored)
@@ -194,6 +207,18 @@ running-sums width before (d ∷ ds) = rw (values-step width before d ds) (refl,
 decoded-sums : (width : ℕ) (bytes : List ℕ) (values : List ℤ) (room : ℕ) → decoding width bytes room ≡ gives values → RunningSums width 0 (storedNumbers width bytes) values
 unfolding decoded
 decoded-sums width bytes values room e = decoding-gave width bytes room e λ h p l q. rw (← q) (running-sums width 0 (storedNumbers width bytes))
+
+-- ADPCM: the same running sums, of the chosen deltas
+adpcm-tells : (count : ℕ) (bytes : List ℕ) (room : ℕ) → AdpcmTells count bytes room
+unfolding adpcmDecoded decoded storedNumbers
+adpcm-tells count bytes room = record {
+  unfit = adpcm-unfit count bytes room;
+  no-room = adpcm-room count bytes room;
+  given-else = adpcm-given count bytes room;
+  as-many = adpcm-length count bytes;
+  deltas = chosen-at count bytes;
+  sums = running-sums 8 0 (chosen count bytes);
+}
 
 -- Pressing
 press-fault : (file : List ℕ) (room : ℕ) (r : Refusal) → Bytes file → pressing file room ≡ refuses r → OwnFault r
@@ -228,8 +253,10 @@ demand₁ = record {
   pack = pack-word;
   decode = decode-word;
   code = code-word;
-  decode-limited = λ width bytes. limited-word (length bytes) (decoding width bytes) (decode-fault width bytes) (decode-fits width bytes);
-  code-limited = λ width values. limited-word (length values) (coding width values) (code-fault width values) (code-fits width values);
+  decode-limited = λ width bytes. limited-word deltaMost (omega arith) (length bytes) (decoding width bytes) (decode-fault width bytes) (decode-fits width bytes);
+  code-limited = λ width values. limited-word deltaMost (omega arith) (length values) (coding width values) (code-fault width values) (code-fits width values);
+  adpcm = adpcm-word;
+  adpcm-limited = λ count bytes. limited-word adpcmMost (omega arith) count (adpcmDecoding count bytes) (adpcm-fault count bytes) (adpcm-fits count bytes);
   press = press-word;
 }
 
@@ -250,9 +277,11 @@ demand₂ = record {
       let stands = reported-written countWritten (λ values. values) (decoding width bytes (length out)) out values e (omega arith) in
       ap (λ (s : List ℤ). coding width s room) stands ∙ decoding-coding width bytes values (length out) room b e l;
   sums = decoded-sums;
+  adpcm = adpcm-tells;
 }
 
--- The further claims: `fifteen` stands in Packing, `accepted-files` and `asks-exactly` in Accepted, `readers-tell` in Structure
+-- The further claims: `fifteen` stands in Packing, `twelve-exactly` in Adpcm, `accepted-files` and `asks-exactly` in
+-- Accepted, `readers-tell` in Structure
 pub presses-whole : PressesWhole
 presses-whole content file f = record {
   no-longer = pressed-shortest moduleFormat module-back module-keeps f;
@@ -312,8 +341,10 @@ loaders-tell = record {
   pack-apart = pack-apart;
   press = press-loads;
   tables = into-loads;
-  decode = λ width bytes. limited-loads (length bytes) (decoding width bytes) (decode-fault width bytes) (decode-fits width bytes);
-  decode-limited = λ width bytes room. limited (length bytes) (decoding width bytes room);
-  code = λ width values. limited-loads (length values) (coding width values) (code-fault width values) (code-fits width values);
-  code-limited = λ width values room. limited (length values) (coding width values room);
+  decode = λ width bytes. limited-loads deltaMost (omega arith) (length bytes) (decoding width bytes) (decode-fault width bytes) (decode-fits width bytes);
+  decode-limited = λ width bytes room. limited deltaMost (length bytes) (decoding width bytes room);
+  code = λ width values. limited-loads deltaMost (omega arith) (length values) (coding width values) (code-fault width values) (code-fits width values);
+  code-limited = λ width values room. limited deltaMost (length values) (coding width values room);
+  adpcm = λ count bytes. limited-loads adpcmMost (omega arith) count (adpcmDecoding count bytes) (adpcm-fault count bytes) (adpcm-fits count bytes);
+  adpcm-limited = λ count bytes room. limited adpcmMost count (adpcmDecoding count bytes room);
 }

@@ -10,6 +10,7 @@ pub mod Short
 pub mod Row
 pub mod Packing
 pub mod Delta
+pub mod Adpcm
 pub mod Bench
 pub mod Wrong
 pub mod Header

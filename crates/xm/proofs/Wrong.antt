@@ -10,7 +10,7 @@ use Rattle.xm.specs.Cell.{lengthBy, fieldsBy, cellAt, readCell, kept, ma
 use Rattle.xm.specs.Stored.{readCells, readStored, allZero, needsNoData, writeStored}
 use Rattle.xm.specs.Header.{restartInside, restartOf, readHeader, writeHeader}
 use Rattle.xm.specs.PatternInFile.{readPattern, writePattern}
-use Rattle.xm.specs.Sample.{readHead, readData}
+use Rattle.xm.specs.Sample.{dataSize, readHead, readData}
 use Rattle.xm.specs.Instrument.{readInstrument, writeVoice, writeInstrument}
 use Rattle.xm.specs.Module.{readWhole}
 use Rattle.xm.specs.Press.{pressed}
@@ -19,7 +19,7 @@ use Rattle.xm.specs.Wrong.{song, wrongFiles, silence, inCells, withTempo
 pub wrong-longer :
     (map readsAs (pressed song ∷ wrongFiles) ≡ (song ∷ [], 662) ∷ (song ∷ [], 665) ∷ (song ∷ [], 664) ∷ (song ∷ [], 663) ∷ [])
     × (map readsAs (pressed silence ∷ inCells ∷ []) ≡ (silence ∷ [], 658) ∷ (silence ∷ [], 722) ∷ [])
-unfolding readWhole _>>=_ _>>_ ensure checked restartInside restartOf readHeader writeHeader readPattern writePattern readStored readCells readCell cellAt fieldsBy lengthBy ones onesIn writeStored needsNoData allZero writeCell goesPlain plainBy standsPlain plainShorter marked kepts marks kept readHead readData readInstrument writeVoice writeInstrument wordAt longAt
+unfolding readWhole _>>=_ _>>_ ensure checked restartInside restartOf readHeader writeHeader readPattern writePattern readStored readCells readCell cellAt fieldsBy lengthBy ones onesIn writeStored needsNoData allZero writeCell goesPlain plainBy standsPlain plainShorter marked kepts marks kept readHead readData readInstrument writeVoice writeInstrument wordAt longAt dataSize
 wrong-longer = (refl, refl)
 
 -- One file for two songs: they differ in the tempo, and the press that forgets it gives the same bytes of both
@@ -28,5 +28,5 @@ forgets = (refl, refl)
 
 -- Two files for one song: each reads as it and would be written as it stands, with its own byte at 340
 pub keeps-type : (map (λ (type : ℕ). readsAs (typed type)) (0 ∷ 1 ∷ []) ≡ (song ∷ [], 662) ∷ (song ∷ [], 662) ∷ []) × (map (λ (type : ℕ). getD (typed type) 340 9) (0 ∷ 1 ∷ []) ≡ 0 ∷ 1 ∷ [])
-unfolding readWhole _>>=_ _>>_ ensure checked restartInside restartOf readHeader writeHeader readPattern writePattern readStored readCells readCell cellAt fieldsBy lengthBy ones onesIn writeStored needsNoData allZero writeCell goesPlain plainBy standsPlain plainShorter marked kepts marks kept readHead readData readInstrument writeVoice writeInstrument wordAt longAt
+unfolding readWhole _>>=_ _>>_ ensure checked restartInside restartOf readHeader writeHeader readPattern writePattern readStored readCells readCell cellAt fieldsBy lengthBy ones onesIn writeStored needsNoData allZero writeCell goesPlain plainBy standsPlain plainShorter marked kepts marks kept readHead readData readInstrument writeVoice writeInstrument wordAt longAt dataSize
 keeps-type = (refl, refl)

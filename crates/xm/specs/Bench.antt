@@ -10,12 +10,14 @@ use Rattle.xm.specs.Cell.{cellSize, cellMost}
 use Rattle.xm.specs.Stored.{writeStored}
 use Rattle.xm.specs.Packing.{cellBytes, unpacking, packing}
 use Rattle.xm.specs.Delta.{decoding}
+use Rattle.xm.specs.Adpcm.{adpcmDecoding}
 
 pub data Piece : Type 0 where
   reads : (stored cell packed : List ℕ) → Piece
   gets : (stored : List ℕ) → Refusal → Piece
   packs : (cell packed : List ℕ) → Piece
   decodes : (width : ℕ) (bytes : List ℕ) (values : List ℤ) → Piece
+  decodesAdpcm : (length : ℕ) (bytes : List ℕ) (values : List ℤ) → Piece
 
 -- What an answer gives, as a list; nothing if it refuses.
 abbrev pub listIn : {A B : Type 0} → (A → List B) → Answer A → List B
@@ -37,6 +39,13 @@ worked (reads stored cell packed) = reads stored (unpacked stored) (packedTo (un
 worked (gets stored r) = gets stored (refusalIn (unpacking 1 1 stored cellSize))
 worked (packs cell packed) = packs cell (packedTo cell)
 worked (decodes width bytes values) = decodes width bytes (listIn (λ vs. vs) (decoding width bytes (length bytes)))
+worked (decodesAdpcm count bytes values) = decodesAdpcm count bytes (listIn (λ vs. vs) (adpcmDecoding count bytes count))
+
+-- Document 001's ADPCM example: "The contents of the compression table are almost always the same", then the indexes of 14 values.
+abbrev example : List ℕ
+example =
+    0x00 ∷ 0x01 ∷ 0x02 ∷ 0x04 ∷ 0x08 ∷ 0x10 ∷ 0x20 ∷ 0x40 ∷ 0xFF ∷ 0xFE ∷ 0xFC ∷ 0xF8 ∷ 0xF0 ∷ 0xE0 ∷ 0xD0 ∷ 0xC0
+    ∷ 0x00 ∷ 0x08 ∷ 0x00 ∷ 0x18 ∷ 0x31 ∷ 0x02 ∷ 0x81 ∷ []
 
 -- "a pattern of one empty cell packs to no bytes, not to 80"; "P 81 62 and P 62 00 00 00 00 now read as cells"; "a full cell may take six
 -- bytes".
@@ -58,4 +67,6 @@ pieces =
     ∷ decodes 8 (0x00 ∷ 0x01 ∷ 0xFF ∷ 0x02 ∷ 0x01 ∷ 0xFE ∷ []) (pos 0 ∷ pos 1 ∷ pos 0 ∷ pos 2 ∷ pos 3 ∷ pos 1 ∷ [])
     ∷ decodes 8 (0x7F ∷ 0x01 ∷ []) (pos 127 ∷ negsuc 127 ∷ [])
     ∷ decodes 16 (0xFF ∷ 0x7F ∷ 0x01 ∷ 0x00 ∷ []) (pos 32767 ∷ negsuc 32767 ∷ [])
+    ∷ decodesAdpcm 14 example (pos 0 ∷ pos 0 ∷ negsuc 0 ∷ negsuc 0 ∷ negsuc 0 ∷ negsuc 0 ∷ negsuc 1 ∷ negsuc 0 ∷ pos 0 ∷ pos 4 ∷ pos 6 ∷ pos 6 ∷ pos 7 ∷ pos 6 ∷ [])
+    ∷ decodesAdpcm 13 example (pos 0 ∷ pos 0 ∷ negsuc 0 ∷ negsuc 0 ∷ negsuc 0 ∷ negsuc 0 ∷ negsuc 1 ∷ negsuc 0 ∷ pos 0 ∷ pos 4 ∷ pos 6 ∷ pos 6 ∷ pos 7 ∷ [])
     ∷ []

@@ -10,7 +10,6 @@ use Rattle.xm.specs.Number.{word, signed}
 use Rattle.xm.specs.Got.{got, _>>_, Test, checked, present, atMost, even, holds, when, _at_}
 use Rattle.xm.specs.Format.{joined}
 use Rattle.xm.specs.Answer.{Answer, answered, behind, numbers, after, loaderNumber}
-use Rattle.xm.specs.Sample.{widthOf}
 use Rattle.xm.specs.Module.{fileMost}
 
 -- "16-bit data are two bytes, low first": the stored numbers of some bytes, and the bytes of stored numbers.
@@ -88,23 +87,19 @@ codeNumbers width values room = numbers (countWritten ∷ []) (coding width valu
 abbrev pub codeAfter : (width : ℕ) (values : List ℤ) (lent : List ℕ) → List ℕ
 codeAfter width values lent = after (λ bytes. bytes) (coding width values (length lent)) lent
 
--- The values of a sample: its header says the width.
-abbrev pub valuesOf : (head bytes : List ℕ) → List ℤ
-valuesOf head bytes = decoded (widthOf head) bytes
-
 -- The loader's calls: so that no number can be read two ways, more than 16,777,216 bytes to decode or values to code get 16. The other causes of
 -- 16 have the same place, so it does not matter which of them is tried first.
 abbrev pub deltaMost : ℕ
 deltaMost = fileMost
 
-abbrev pub limitTest : (count : ℕ) → Test
-limitTest count = atMost deltaMost count (16 at 0)
+abbrev pub limitTest : (most count : ℕ) → Test
+limitTest most count = atMost most count (16 at 0)
 
 abbrev pub decodingLimited : (width : ℕ) (bytes : List ℕ) (room : ℕ) → Answer (List ℤ)
-decodingLimited width bytes room = behind (limitTest (length bytes)) (decoding width bytes room)
+decodingLimited width bytes room = behind (limitTest deltaMost (length bytes)) (decoding width bytes room)
 
 abbrev pub codingLimited : (width : ℕ) (values : List ℤ) (room : ℕ) → Answer (List ℕ)
-codingLimited width values room = behind (limitTest (length values)) (coding width values room)
+codingLimited width values room = behind (limitTest deltaMost (length values)) (coding width values room)
 
 -- The loader's numbers, how many values and how many bytes, and the lent memory afterwards.
 abbrev pub decodeLoader : (width : ℕ) (bytes : List ℕ) (room : ℕ) → ℕ

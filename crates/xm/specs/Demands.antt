@@ -1,7 +1,7 @@
 -- The three demands, and the paper's further claims, as statements over these definitions. docs/PROMISES.md says where each is proved.
 -- `Demand₁`, `Demand₂`, `Demand₃`; then of packing `Fifteen` and `EmptyPatterns`; of pressing `PressesWhole` and `SameBytes`; of the check's
--- tables `TablesTell`; of accepted files `AcceptedFiles`, `AsksExactly`, `RestIgnored`, `RestartsRead`, `PlaysOrders`; of the small reader
--- `ReadersTell`; of the loader `LoadersTell`.
+-- tables `TablesTell`; of a sample header `TwelveExactly`; of accepted files `AcceptedFiles`, `AsksExactly`, `RestIgnored`, `RestartsRead`,
+-- `PlaysOrders`; of the small reader `ReadersTell`; of the loader `LoadersTell`.
 use Prim.Native.Nat.{ℕ, _+_, _*_, _/_, _%_, _^_, _≤_, _<_}
 use mathlib.Core.Bool.{true, cond}
 use mathlib.Core.List.{List, [], _∷_, _++_, map}
@@ -19,10 +19,11 @@ use Rattle.xm.specs.Stored.{rowsMost, Pattern, emptyRows, readStored, wr
 use Rattle.xm.specs.Header.{songLengthAt, restartAt}
 use Rattle.xm.specs.PatternInFile.{dataMost, leastPattern, writePattern}
 use Rattle.xm.specs.Packing.{argumentTests, cellBytes, unpacking, unpackNumbers, unpackAfter, unpackLoader, patternOf, packing, packNumbers, packAfter, packLoader}
-use Rattle.xm.specs.Sample.{leastHead, lengthOf, loopStart, loopLength, loops}
+use Rattle.xm.specs.Sample.{leastHead, headBytes, lengthOf, loopStart, loopLength, kindOf, isWide, loops, adpcm, deltaTable, adpcmSize, dataSizeBy, readHead}
 use Rattle.xm.specs.Instrument.{Instrument, InstrumentFound}
 use Rattle.xm.specs.Module.{Found, Content, moduleFormat, fileMost, readWhole, readFile, plays}
-use Rattle.xm.specs.Delta.{storedNumbers, decoding, coding, allFit, decodeNumbers, decodeAfter, codeNumbers, codeAfter, valuesOf, decodingLimited, decodeLoader, codingLimited, codeLoader}
+use Rattle.xm.specs.Delta.{storedNumbers, decoding, coding, allFit, decodeNumbers, decodeAfter, codeNumbers, codeAfter, decodingLimited, decodeLoader, codingLimited, codeLoader}
+use Rattle.xm.specs.Adpcm.{chosen, adpcmDecoded, adpcmDecoding, adpcmLimited, adpcmLoader, decodingBy, valuesOf}
 use Rattle.xm.specs.Table.{PatternRow, InstrumentRow, SampleRow, patternRows, instrumentRows, sampleRowsIn, sampleRows, Checked, checkedAs, checking, checkNumbers, checkLoader, Room, checkingInto, checkIntoLoader, Tables, roomOf, tablesAfter, sampleNumbers}
 use Rattle.xm.specs.Asking.{Lies, asking, stretchOf, askingFlat, askingRows, noRow, liesOf}
 use Rattle.xm.specs.Structure.{isStructure, structures, ended, handed, reading, called, readFor}
@@ -63,6 +64,8 @@ pub record Demand₁ : Type 0 where
   pub code : (width : ℕ) (values : List ℤ) → KeepsItsWord (λ (bytes : List ℕ). bytes) (coding width values)
   pub decode-limited : (width : ℕ) (bytes : List ℕ) → KeepsItsWord (λ (values : List ℤ). values) (decodingLimited width bytes)
   pub code-limited : (width : ℕ) (values : List ℤ) → KeepsItsWord (λ (bytes : List ℕ). bytes) (codingLimited width values)
+  pub adpcm : (count : ℕ) (bytes : List ℕ) → KeepsItsWord (λ (values : List ℤ). values) (adpcmDecoding count bytes)
+  pub adpcm-limited : (count : ℕ) (bytes : List ℕ) → KeepsItsWord (λ (values : List ℤ). values) (adpcmLimited count bytes)
   pub press : (file : List ℕ) → Bytes file → KeepsItsWord (λ (bytes : List ℕ). bytes) (pressing file)
 
 -- An acceptable file of a content, within a format: bytes that are read as it.
@@ -129,6 +132,20 @@ RunningSums width before [] (v ∷ vs) = ⊥
 RunningSums width before (d ∷ ds) [] = ⊥
 RunningSums width before (d ∷ ds) (v ∷ vs) = (v ≡ signed width ((before + d) % 2 ^ width)) × RunningSums width ((before + d) % 2 ^ width) ds vs
 
+-- ADPCM decoding: 16 exactly when the byte count doesn't fit the length, then 14 exactly when the values are more than the room; else as many
+-- values as the length says, which are the running sums of the chosen deltas: of number i, what document 001's loop takes, by the low
+-- half of its byte at an even number and by the high half at an odd one.
+abbrev pub deltaAt : (bytes : List ℕ) (i : ℕ) → ℕ
+deltaAt bytes i = byteAt (cond (eqb (i % 2) 0) (byteAt (deltaTable + i / 2) bytes % 16) (byteAt (deltaTable + i / 2) bytes / 16)) bytes
+
+pub record AdpcmTells (count : ℕ) (bytes : List ℕ) (room : ℕ) : Type 0 where
+  pub unfit : (length bytes ≡ adpcmSize count → ⊥) → adpcmDecoding count bytes room ≡ refuses (16 at 0)
+  pub no-room : length bytes ≡ adpcmSize count → room < count → adpcmDecoding count bytes room ≡ refuses (14 at 0)
+  pub given-else : length bytes ≡ adpcmSize count → count ≤ room → adpcmDecoding count bytes room ≡ gives (adpcmDecoded count bytes)
+  pub as-many : length bytes ≡ adpcmSize count → length (adpcmDecoded count bytes) ≡ count
+  pub deltas : length bytes ≡ adpcmSize count → (i : ℕ) → i < count → getD (chosen count bytes) i 0 ≡ deltaAt bytes i
+  pub sums : RunningSums 8 0 (chosen count bytes) (adpcmDecoded count bytes)
+
 pub record Demand₂ : Type 0 where
   pub check : CheckTells
   pub press : PressReadsBack moduleFormat
@@ -139,6 +156,7 @@ pub record Demand₂ : Type 0 where
   pub code : (width : ℕ) (bytes : List ℕ) (out : List ℤ) (room : ℕ) → Bytes bytes → accepts (decodeNumbers width bytes (length out))
       → length bytes ≤ room → coding width (take (resultIn (decodeNumbers width bytes (length out)) 0) (decodeAfter width bytes out)) room ≡ gives bytes
   pub sums : (width : ℕ) (bytes : List ℕ) (values : List ℤ) (room : ℕ) → decoding width bytes room ≡ gives values → RunningSums width 0 (storedNumbers width bytes) values
+  pub adpcm : (count : ℕ) (bytes : List ℕ) (room : ℕ) → AdpcmTells count bytes room
 
 -- DEMAND 3. "For well-formed cells, a pattern is refused as too large exactly when no stored form of at most 65,535 bytes reads back as
 -- those cells"; if it is not, it is refused for room exactly when none is as short as the room; otherwise what is written is one, and
@@ -265,10 +283,11 @@ EachSample P (row ∷ rows) [] bytes = ⊥
 EachSample P (row ∷ rows) (h ∷ hs) [] = ⊥
 EachSample P (row ∷ rows) (h ∷ hs) (b ∷ bs) = P row h b × EachSample P rows hs bs
 
--- A sample row says what its header says; its stretch is the content's data, which decodes at the row's width.
+-- A sample row says what its header says; its stretch is the content's data, which decodes by the header's kind and length and at the row's
+-- width, to as many values as that length has of that width.
 abbrev pub RowReads : SampleRow → (head bytes : List ℕ) → Type 0
 RowReads row head bytes =
-    (row .size ≡ longAt 0 head)
+    (row .size ≡ dataSizeBy (byteAt 17 head) (longAt 0 head))
     × (row .width ≡ cond (eqb (byteAt 14 head / 16 % 2) 1) 16 8)
     × (row .finetune ≡ signed 8 (byteAt 13 head))
     × (row .relativeNote ≡ signed 8 (byteAt 16 head))
@@ -276,7 +295,8 @@ RowReads row head bytes =
 abbrev pub RowDecodes : (file : List ℕ) → SampleRow → (head bytes : List ℕ) → Type 0
 RowDecodes file row head bytes =
     (part (row .dataPlace) (row .size) file ≡ bytes)
-    × (decoding (row .width) (part (row .dataPlace) (row .size) file) (length (valuesOf head bytes)) ≡ gives (valuesOf head bytes))
+    × (decodingBy (byteAt 17 head) (longAt 0 head) (row .width) (part (row .dataPlace) (row .size) file) (length (valuesOf head bytes)) ≡ gives (valuesOf head bytes))
+    × (length (valuesOf head bytes) ≡ longAt 0 head / (row .width / 8))
 
 -- A sample asked for by number, of the tables as the check leaves them, whatever stood in them beyond: the row's stretch, which holds the
 -- content's data.
@@ -294,6 +314,11 @@ abbrev pub AsksExactly : Type 0
 AsksExactly = (file : List ℕ) (rows number : ℕ) (row : Lies)
     → ((number < rows) × (row .place + row .size ≤ length file) → asking file rows number row ≡ gives row)
     × (((number < rows) × (row .place + row .size ≤ length file) → ⊥) → asking file rows number row ≡ refuses (16 at 0))
+
+-- "12 now means kind AD with the 16-bit bit set": a header that is present gets 12 exactly then, whatever else is wrong with it.
+abbrev pub TwelveExactly : Type 0
+TwelveExactly = (size place : ℕ) (s : List ℕ) → size ≤ length s
+    → (readHead size place s ≡ refused (12 at place)) ↔ ((isWide (headBytes size s) ≡ true) × (kindOf (headBytes size s) ≡ adpcm))
 
 -- "Adding loop start and loop length in 32 bits, where they wrap" is ruled out: of each sample of an accepted file that loops.
 abbrev pub LoopInside : List ℕ → Type 0
@@ -353,10 +378,11 @@ pub record LoaderTells {A : Type 0} (f : A → ℕ) (answer : Answer A) (number 
   pub accepted : (a : A) → answer ≡ gives a → (number ≡ f a) × (number < 2 ^ 32)
   pub refused : (r : Refusal) → answer ≡ refuses r → (2 ^ 32 ≤ number) × (number / 2 ^ 32 ≡ r .number) × (number % 2 ^ 32 ≡ r .place)
 
--- The loader's delta calls: 16 for more than 16,777,216 bytes or values, and otherwise what the call without that limit answers.
-pub record Limited {A : Type 0} (count : ℕ) (own limited : Answer A) : Type 0 where
-  pub above : 16777216 < count → limited ≡ refuses (16 at 0)
-  pub within : count ≤ 16777216 → limited ≡ own
+-- The loader's calls on samples: 16 above a limit, 16,777,216 bytes or values of deltas and an ADPCM length of 33,554,432, and otherwise what the
+-- call without that limit answers.
+pub record Limited {A : Type 0} (most count : ℕ) (own limited : Answer A) : Type 0 where
+  pub above : most < count → limited ≡ refuses (16 at 0)
+  pub within : count ≤ most → limited ≡ own
 
 pub record LoadersTell : Type 0 where
   pub check : (file : List ℕ) → Bytes file → LoaderTells Checked.end (checking file) (checkLoader file)
@@ -368,6 +394,8 @@ pub record LoadersTell : Type 0 where
   pub press : (file : List ℕ) (room : ℕ) → Bytes file → LoaderTells length (pressing file room) (pressLoader file room)
   pub tables : (room : Room) (file : List ℕ) → Bytes file → LoaderTells Checked.end (checkingInto room file) (checkIntoLoader room file)
   pub decode : (width : ℕ) (bytes : List ℕ) (room : ℕ) → LoaderTells length (decodingLimited width bytes room) (decodeLoader width bytes room)
-  pub decode-limited : (width : ℕ) (bytes : List ℕ) (room : ℕ) → Limited (length bytes) (decoding width bytes room) (decodingLimited width bytes room)
+  pub decode-limited : (width : ℕ) (bytes : List ℕ) (room : ℕ) → Limited 16777216 (length bytes) (decoding width bytes room) (decodingLimited width bytes room)
   pub code : (width : ℕ) (values : List ℤ) (room : ℕ) → LoaderTells length (codingLimited width values room) (codeLoader width values room)
-  pub code-limited : (width : ℕ) (values : List ℤ) (room : ℕ) → Limited (length values) (coding width values room) (codingLimited width values room)
+  pub code-limited : (width : ℕ) (values : List ℤ) (room : ℕ) → Limited 16777216 (length values) (coding width values room) (codingLimited width values room)
+  pub adpcm : (count : ℕ) (bytes : List ℕ) (room : ℕ) → LoaderTells length (adpcmLimited count bytes room) (adpcmLoader count bytes room)
+  pub adpcm-limited : (count : ℕ) (bytes : List ℕ) (room : ℕ) → Limited 33554432 count (adpcmDecoding count bytes room) (adpcmLimited count bytes room)

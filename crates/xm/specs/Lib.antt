@@ -13,6 +13,7 @@ pub mod Short
 pub mod Row
 pub mod Packing
 pub mod Delta
+pub mod Adpcm
 pub mod Table
 pub mod Asking
 pub mod Structure

@@ -1,6 +1,6 @@
 -- A sample header, the sample data, and all of an instrument's: "k sample headers of H bytes each, then the k samples' data, back to
 -- back in order".
-use Prim.Native.Nat.{ℕ, _+_, _/_, _%_}
+use Prim.Native.Nat.{ℕ, zero, suc, _+_, _/_, _%_}
 use mathlib.Core.Bool.{Bool, cond, _&&_, not}
 use mathlib.Core.List.{List, [], _∷_}
 use mathlib.Core.Path.{_≡_}
@@ -54,18 +54,33 @@ widthOf head = cond (isWide head) 16 8
 abbrev pub loops : List ℕ → Bool
 loops head = ltb 0 (loopLength head) && not (eqb (loopBits head) 0)
 
--- The bytes that its data takes.
-abbrev pub dataSize : List ℕ → ℕ
-dataSize head = lengthOf head
-
--- "kind is AD hex (ADPCM)"
+-- "Kind AD": ADPCM
 abbrev pub adpcm : ℕ
 adpcm = 0xAD
 
--- "each header's 12 then 13"; 13: "loop bits are 3; 16-bit length odd; or a looping sample's start + loop length above its length"
+abbrev pub isAdpcm : List ℕ → Bool
+isAdpcm head = eqb (kindOf head) adpcm
+
+-- "if the length is above 0, a 16-byte table of deltas is followed by (length + 1) / 2 bytes, rounded down"
+abbrev pub deltaTable : ℕ
+deltaTable = 16
+
+abbrev pub adpcmSize : (length : ℕ) → ℕ
+adpcmSize zero = 0
+adpcmSize (suc n) = deltaTable + (suc n + 1) / 2
+
+-- The bytes that its data takes: "The stored bytes, table included, are the content, and a sample row's length counts them."
+abbrev pub dataSizeBy : (kind length : ℕ) → ℕ
+dataSizeBy kind length = cond (eqb kind adpcm) (adpcmSize length) length
+
+unfoldable pub dataSize : List ℕ → ℕ
+dataSize head = dataSizeBy (kindOf head) (lengthOf head)
+
+-- "each header's 12 then 13"; "12 now means kind AD with the 16-bit bit set"; 13: "loop bits are 3; 16-bit length odd; or a looping sample's
+-- start + loop length above its length"
 abbrev pub headTests : (place : ℕ) → List ℕ → List Test
 headTests place head =
-    unlike adpcm (kindOf head) (12 at place)
+    when (isWide head) (unlike adpcm (kindOf head) (12 at place))
     ∷ unlike 3 (loopBits head) (13 at place)
     ∷ when (isWide head) (even (lengthOf head) (13 at place))
     ∷ when (loops head) (atMost (lengthOf head) (loopStart head + loopLength head) (13 at place))

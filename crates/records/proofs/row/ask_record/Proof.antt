@@ -3,6 +3,7 @@ use Prim.Native.Nat.{ℕ}
 use mathlib.Core.Path.{sym, ap, ap₂, _∙_}
 use native.Mathlib.Omega.{arith}
 use Rattle.xm.specs.Number.{longAt}
+use Rattle.xm.specs.Sample.{dataSize}
 use Rattle.xm.specs.Asking.{asking, askingRows}
 use Rattle.asking.specs.Ask.{askedOf}
 use Rattle.records.specs.Records.{rowsGiven}
@@ -21,7 +22,7 @@ ask-row-requires : tie.Need-ask-row-requires
 ask-row-requires c κs = search needs
 
 returns : tie.Need-returns
-unfolding longAt
+unfolding longAt dataSize
 returns c =
     c .ask-row .ensures
     ∙ sym (ap (λ (a : RowAsked). askedOf (askingRows (c .before .before .before .before .args .file .now) (rowsGiven a) 0)) (c .before .enum-told .given .1))

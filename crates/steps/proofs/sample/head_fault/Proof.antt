@@ -2,7 +2,7 @@
 use mathlib.Core.Path.{sym}
 use native.Mathlib.Omega.{arith}
 use Rattle.xm.specs.Got.{Test}
-use Rattle.steps.specs.Sample.{wideTest, loopTest}
+use Rattle.steps.specs.Sample.{kindTest, wideTest, loopTest}
 use Rattle.steps.specs.declared.sample.SampleHead.{SampleHead}
 use Rattle.steps.proofs.Tests.{test-passed, test-failed, fault-at, fault-none}
 use borrow.Author.Needs.{needs}
@@ -10,6 +10,9 @@ use Rattle.steps.proofs.sample.head_fault.Statement.{statement}
 use Rattle.steps.proofs.sample.head_fault.Tie as tie
 
 -- The tests that are functions of the code
+abbrev kind : (head : SampleHead) → Test
+kind head = kindTest (head .form) (head .kind) 0
+
 abbrev wide : (head : SampleHead) → Test
 wide head = wideTest (head .form) (head .length) 0
 
@@ -20,17 +23,25 @@ pub head-fault-spec : {M : Type 1} → statement M
 head-fault-spec =
     tie.close
     (tie.spec
-    (λ c. sym (fault-at 0 _ tt (omega arith, tt) (λ h. omega arith)))
-    (λ c. sym (fault-at 1 _ (omega arith) (omega arith, tt) (λ h. omega arith)))
     (search needs)
-    (λ c. sym (fault-at 2 _ (omega arith) (omega arith, tt) (test-failed (wide (c .before .before .before .before .before .before .args .head)) (c .before .wide-fits .ensures) (c .if3 .taken))))
+    (λ c. sym (fault-at 0 _ tt (omega arith, tt) (test-failed (kind (c .before .before .args .head)) (c .before .kind-fits .ensures) (c .if1 .taken))))
+    (λ c.
+    let other = test-passed (kind (c .before .before .before .before .args .head)) (c .before .before .before .kind-fits .ensures) (c .before .before .if1 .left) in
+    sym (fault-at 1 _ (other, tt) (omega arith, tt) (λ h. omega arith)))
+    (search needs)
+    (λ c.
+    let head = c .before .before .before .before .before .before .args .head in
+    let other = test-passed (kind head) (c .before .before .before .before .before .kind-fits .ensures) (c .before .before .before .before .if1 .left) in
+    sym (fault-at 2 _ (other, (omega arith, tt)) (omega arith, tt) (test-failed (wide head) (c .before .wide-fits .ensures) (c .if3 .taken))))
     (search needs)
     (λ c.
     let head = c .before .before .before .before .before .before .before .before .args .head in
+    let other = test-passed (kind head) (c .before .before .before .before .before .before .before .kind-fits .ensures) (c .before .before .before .before .before .before .if1 .left) in
     let fits = test-passed (wide head) (c .before .before .before .wide-fits .ensures) (c .before .before .if3 .left) in
-    sym (fault-at 3 _ (omega arith, (omega arith, (fits, tt))) (omega arith, tt) (test-failed (looped head) (c .before .loop-fits .ensures) (c .if4 .taken))))
+    sym (fault-at 3 _ (other, (omega arith, (fits, tt))) (omega arith, tt) (test-failed (looped head) (c .before .loop-fits .ensures) (c .if4 .taken))))
     (λ c.
     let head = c .before .before .before .before .before .before .before .before .args .head in
+    let other = test-passed (kind head) (c .before .before .before .before .before .before .before .kind-fits .ensures) (c .before .before .before .before .before .before .if1 .left) in
     let fits = test-passed (wide head) (c .before .before .before .wide-fits .ensures) (c .before .before .if3 .left) in
-    sym (fault-none _ (omega arith, (omega arith, (fits, (test-passed (looped head) (c .before .loop-fits .ensures) (c .if4 .left), tt))))))
+    sym (fault-none _ (other, (omega arith, (fits, (test-passed (looped head) (c .before .loop-fits .ensures) (c .if4 .left), tt))))))
     )

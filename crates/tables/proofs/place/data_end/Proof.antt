@@ -1,11 +1,12 @@
 -- `tables::place::data_end` meets its contract. The loop's invariant: so many samples are left to be stepped over. Assumes nothing.
 use Prim.Native.Nat.{_+_}
-use mathlib.Core.Path.{ap}
+use mathlib.Core.Path.{_∙_}
 use native.Mathlib.Omega.{arith}
+use borrow.Author.Needs.{needs}
 use lib.ListN.{drop}
 use Rattle.tables.specs.Place.{dataBefore}
 use Rattle.tables.specs.Sought.{Left}
-use Rattle.steps.specs.declared.sample.SampleHead.{SampleHead}
+use Rattle.steps.proofs.SampleLaws.{head-size}
 use Rattle.tables.proofs.PlaceLoops.{left-start, left-on, left-room, left-end}
 use Rattle.tables.proofs.place.data_end.Statement.{statement}
 use Rattle.tables.proofs.place.data_end.Tie as tie
@@ -31,9 +32,12 @@ sample-head-requires c κs =
     let l = c .loop-test .taken in
     omega (arith, left-room _ _ _ w l, w .wide l)
 
+data-size-requires : tie.Need-data-size-requires Inv-loop μ-loop
+data-size-requires c κs = search needs
+
 add-place-2 : tie.Need-add-place-2 Inv-loop μ-loop
 add-place-2 c =
-    let w = left-on _ _ _ (c .before .before .before .loop .inv) (c .before .before .loop-test .taken) (ap SampleHead.length (c .before .sample-head .ensures .value)) in
+    let w = left-on _ _ _ (c .before .before .before .loop .inv) (c .before .before .loop-test .taken) (c .data-size .ensures ∙ head-size (c .before .sample-head .ensures)) in
     omega (arith, w .same, w .inside, c .before .before .before .before .before .pre .small)
 
 add-head : tie.Need-add-head Inv-loop μ-loop
@@ -48,7 +52,7 @@ loop-less c = omega arith
 
 loop-again : tie.Need-loop-again Inv-loop μ-loop
 loop-again c =
-    left-on _ _ _ (c .before .before .before .loop .inv) (c .before .before .loop-test .taken) (ap SampleHead.length (c .before .sample-head .ensures .value))
+    left-on _ _ _ (c .before .before .before .loop .inv) (c .before .before .loop-test .taken) (c .data-size .ensures ∙ head-size (c .before .sample-head .ensures))
 
 returns : tie.Need-returns Inv-loop μ-loop
 returns c = left-end _ _ _ (c .before .loop .inv) (omega arith)
@@ -56,4 +60,4 @@ returns c = left-end _ _ _ (c .before .loop .inv) (omega arith)
 pub data-end-spec : {M : Type 1} → statement M
 data-end-spec =
     tie.close
-    (tie.spec Inv-loop μ-loop mul-place add-place loop-holds sample-head-requires add-place-2 add-head sub-left loop-less loop-again returns)
+    (tie.spec Inv-loop μ-loop mul-place add-place loop-holds sample-head-requires data-size-requires add-place-2 add-head sub-left loop-less loop-again returns)

@@ -1,0 +1,13 @@
+-- `steps::sample::data_size` meets its contract. Assumes nothing.
+use borrow.Author.Needs.{needs}
+use borrow.Author.Tests.{eq-eqb, ne-eqb}
+use Rattle.steps.proofs.sample.data_size.Statement.{statement}
+use Rattle.steps.proofs.sample.data_size.Tie as tie
+
+pub data-size-spec : {M : Type 1} → statement M
+data-size-spec =
+    tie.close
+    (tie.spec
+    (search needs)
+    (λ c. rw (eq-eqb _ _ (c .before .if1 .taken)) (c .adpcm-size .ensures))
+    (λ c. rw (ne-eqb _ _ (c .if1 .left))))
