@@ -26,6 +26,11 @@ use Rattle.xm.specs.Structure.{kindNumber, structuresOf, handHead}
 use Rattle.xm.specs.Press.{pressed}
 use Rattle.xm.specs.Wrong.{song}
 
+-- A note of 200 is read whole; a full cell with a note of 128 is written marked, in six bytes, and with one of 127 plain
+pub high-notes : (cellAt (0x81 ∷ 200 ∷ []) ≡ 200 ∷ 0 ∷ 0 ∷ 0 ∷ 0 ∷ []) × (writeCell (128 ∷ 1 ∷ 2 ∷ 3 ∷ 4 ∷ []) ≡ 0x9F ∷ 128 ∷ 1 ∷ 2 ∷ 3 ∷ 4 ∷ []) × (writeCell (127 ∷ 1 ∷ 2 ∷ 3 ∷ 4 ∷ []) ≡ 127 ∷ 1 ∷ 2 ∷ 3 ∷ 4 ∷ [])
+unfolding cellAt fieldsBy writeCell goesPlain plainBy standsPlain plainShorter marked kepts marks kept
+high-notes = (refl, refl, refl)
+
 -- The bytes used and some numbers of what is read; none of a refusal
 abbrev pub numbersIn : {A : Type 0} → (A → List ℕ) → Got A → List ℕ
 numbersIn f (got a n) = n ∷ f a
