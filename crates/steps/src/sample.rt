@@ -60,7 +60,8 @@ pub fn data_size(kind: usize, length: usize) -> usize
 fn kind_fits(form: usize, kind: usize) -> bool
     ensures { λ r. ⌜ r ≡ passes (kindTest form kind 0) ⌝ }
 {
-    if form / 16 % 2 == 1 {
+    let wide = form / 16 % 2;
+    if wide == 1 {
         return kind != ADPCM;
     }
     true
@@ -100,7 +101,8 @@ fn head_fault(head: SampleHead) -> u32
     requires { ⌜ head .«loop_length» < 4294967296 ⌝ }
     ensures { λ r. ⌜ r ≡ firstFault (headTestsOf 0 head) ⌝ }
 {
-    if !kind_fits(head.form, head.kind) {
+    let storable = kind_fits(head.form, head.kind);
+    if !storable {
         return 12;
     }
     if head.form % 4 == 3 {

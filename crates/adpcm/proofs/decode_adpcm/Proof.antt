@@ -1,5 +1,4 @@
 -- `adpcm::decode_adpcm` meets its contract: the law of each exit. Assumes nothing.
-use mathlib.Core.Path.{sym, _∙_}
 use native.Mathlib.Omega.{arith}
 use borrow.Author.Needs.{needs}
 use denote.Ref.{now}
@@ -12,18 +11,18 @@ returns : tie.Need-returns
 returns c =
     let a = c .before .before .before .before .args in
     decode-refused (a .count) (now (a .bytes)) (now (a .values)) (c .bad-argument .ensures)
-    (adpcm-unfit _ _ _ (λ fit. c .before .if1 .taken (fit ∙ sym (c .before .before .adpcm-size .ensures))))
+    (adpcm-unfit _ _ _ (λ fit. omega (arith, fit, c .before .if1 .taken, c .before .before .adpcm-size .ensures)))
 
 returns-2 : tie.Need-returns-2
 returns-2 c =
     let a = c .before .before .before .before .before .args in
     decode-refused (a .count) (now (a .bytes)) (now (a .values)) (c .no-room .ensures)
-    (adpcm-room _ _ _ (c .before .before .if1 .left ∙ c .before .before .before .adpcm-size .ensures) (omega arith))
+    (adpcm-room _ _ _ (omega (arith, c .before .before .if1 .left, c .before .before .before .adpcm-size .ensures)) (omega arith))
 
 returns-3 : tie.Need-returns-3
 returns-3 c =
     let a = c .before .before .before .before .before .before .before .args in
-    decode-done (a .count) (now (a .bytes)) (now (a .values)) (c .before .before .before .before .if1 .left ∙ c .before .before .before .before .before .adpcm-size .ensures) (omega arith)
+    decode-done (a .count) (now (a .bytes)) (now (a .values)) (omega (arith, c .before .before .before .before .if1 .left, c .before .before .before .before .before .adpcm-size .ensures)) (omega arith)
     (c .before .write-values .ensures)
 
 pub decode-adpcm-spec : {M : Type 1} → statement M

@@ -1,6 +1,7 @@
 -- `steps::sample::data_size` meets its contract. Assumes nothing.
 use borrow.Author.Needs.{needs}
 use borrow.Author.Tests.{eq-eqb, ne-eqb}
+use Rattle.xm.specs.Sample.{adpcm}
 use Rattle.steps.proofs.sample.data_size.Statement.{statement}
 use Rattle.steps.proofs.sample.data_size.Tie as tie
 
@@ -9,5 +10,5 @@ data-size-spec =
     tie.close
     (tie.spec
     (search needs)
-    (λ c. rw (eq-eqb _ _ (c .before .if1 .taken)) (c .adpcm-size .ensures))
-    (λ c. rw (ne-eqb _ _ (c .if1 .left))))
+    (λ c. rw (eq-eqb _ adpcm (c .before .if1 .taken)) (c .adpcm-size .ensures))
+    (λ c. rw (ne-eqb _ adpcm (c .if1 .left))))

@@ -24,7 +24,7 @@ head-fault-spec =
     tie.close
     (tie.spec
     (search needs)
-    (λ c. sym (fault-at 0 _ tt (omega arith, tt) (test-failed (kind (c .before .before .args .head)) (c .before .kind-fits .ensures) (c .if1 .taken))))
+    (λ c. sym (fault-at 0 _ tt (omega arith, tt) (search test-failed)))
     (λ c.
     let other = test-passed (kind (c .before .before .before .before .args .head)) (c .before .before .before .kind-fits .ensures) (c .before .before .if1 .left) in
     sym (fault-at 1 _ (other, tt) (omega arith, tt) (λ h. omega arith)))
