@@ -11,7 +11,7 @@ include $(ROOT)names.mk
 LIBRARY = $(ROOT)target/staticlib/libfiddlemarsh.a
 LISTING = $(ROOT)target/bin/listing
 HEADER = $(ROOT)include/fiddlemarsh.h
-PROGRAM_SOURCES = $(patsubst %,$(ROOT)cli/%.c,fiddlemarsh check press same period input output names say)
+PROGRAM_SOURCES = $(patsubst %,$(ROOT)cli/%.c,fiddlemarsh check press same samples period input output names say)
 BUILD = build
 CFLAGS = -O2 -g
 WARNINGS = -std=c11 -Wall -Wextra

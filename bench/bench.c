@@ -67,7 +67,7 @@ struct side {
 static struct {
     uint32_t patterns[3 * FILE_PATTERNS];
     uint32_t instruments[3 * FILE_INSTRUMENTS];
-    uint32_t samples[4 * FILE_SAMPLES];
+    uint32_t samples[7 * FILE_SAMPLES];
     int8_t tunes[2 * FILE_SAMPLES];
 } flat;
 
@@ -213,11 +213,12 @@ static void must_agree(const struct set *set)
 
 static bool same_sample(size_t number)
 {
-    const uint32_t *numbers = &flat.samples[4 * number];
+    const uint32_t *numbers = &flat.samples[7 * number];
     const int8_t *tunes = &flat.tunes[2 * number];
     const struct reference_sample_row *row = &rows.samples[number];
     return numbers[0] == row->header_place && numbers[1] == row->data_place && numbers[2] == row->length &&
-           numbers[3] == row->width && tunes[0] == row->finetune && tunes[1] == row->relative_note;
+           numbers[3] == row->width && numbers[4] == row->loop_kind && numbers[5] == row->loop_start &&
+           numbers[6] == row->loop_length && tunes[0] == row->finetune && tunes[1] == row->relative_note;
 }
 
 /* The same of the tables, and of the structures that the reader hands over. */

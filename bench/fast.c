@@ -424,11 +424,12 @@ static inline uint32_t sample_bytes(const uint8_t *header)
 
 static uint64_t try_sample_header(const uint8_t *header, size_t at)
 {
-    uint32_t length = number32(header), loop_length = number32(header + 8), type = header[14];
+    uint32_t length = number32(header), loop_start = number32(header + 4), loop_length = number32(header + 8), type = header[14];
+    bool loops = loop_length > 0 && (type & 3) != 0;
     if (header[17] == 0xAD && type & 16)
         return refuse(12, at);
     if ((type & 3) == 3 || (type & 16 && length % 2 != 0) ||
-        (loop_length > 0 && (type & 3) != 0 && (uint64_t)number32(header + 4) + loop_length > length))
+        (loops && (uint64_t)loop_start + loop_length > length) || (loops && type & 16 && (loop_start | loop_length) % 2 != 0))
         return refuse(13, at);
     return 0;
 }

@@ -11,6 +11,9 @@ enum status check_files(struct manner manner, int count, char **named);
 /* Says which files are one song, and which are alone. */
 enum status same_files(struct manner manner, int count, char **named);
 
+/* The sheet of a module's samples, a line each. */
+enum status say_samples(struct manner manner, char *named);
+
 /* Says a note's period with its finetune, as two whole numbers and their quotient. */
 enum status say_period(const char *note, const char *finetune);
 

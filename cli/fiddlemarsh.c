@@ -1,4 +1,5 @@
-/* fiddlemarsh.c: checks, presses and compares FastTracker II modules, and tells periods, from the command line, over libfiddlemarsh. */
+/* fiddlemarsh.c: checks, presses and compares FastTracker II modules, and tells samples and periods, from the command line, over
+   libfiddlemarsh. */
 
 #define _GNU_SOURCE /* getopt_long */
 
@@ -15,12 +16,14 @@
 #include <unistd.h>
 
 static const char help[] =
-    "Checks, presses and compares FastTracker II (XM) modules, and tells periods.\n"
+    "Checks, presses and compares FastTracker II (XM) modules, and tells their\n"
+    "samples and periods.\n"
     "\n"
     "usage: fiddlemarsh check [--quiet] [--tsv] FILE...\n"
     "       fiddlemarsh press [--quiet] IN OUT\n"
     "       fiddlemarsh press [--quiet] --into DIR FILE...\n"
     "       fiddlemarsh same [--quiet] [--tsv] FILE...\n"
+    "       fiddlemarsh samples [--tsv] FILE\n"
     "       fiddlemarsh period NOTE FINETUNE\n"
     "       fiddlemarsh --help | --version\n"
     "\n"
@@ -38,12 +41,21 @@ static const char help[] =
     "name (in it, not the file's) is another song; so are tempo, tracker name and\n"
     "all else that press keeps.\n"
     "\n"
+    "samples prints the sheet for setting a board up, a line a sample: instrument and\n"
+    "sample, counted from 1; its name; where its data begin in the file and how many\n"
+    "bytes they are; width in bits; kind, delta or ADPCM; how many values it has; its\n"
+    "loop, none, forward or both ways, with start and length counted in samples and\n"
+    "not bytes; finetune and relative note. With --tsv the columns have a tab between\n"
+    "two, for a spreadsheet, and nothing else is told; a name is escaped as below, so\n"
+    "is a first = + - or @ of it, and an empty one is -. Refusals go to standard\n"
+    "error.\n"
+    "\n"
     "period says the Amiga period of a real note, 0 to 118, with its finetune, -128\n"
     "to 127, as two whole numbers and their quotient: 29024 / 2 = 14512.\n"
     "\n"
     "  -q, --quiet      tell only what needs a person: refused files, and trouble;\n"
     "                   with same also the songs that come more than once\n"
-    "  -t, --tsv        one record a file, for scripts\n"
+    "  -t, --tsv        one record a file, for scripts; with samples one a sample\n"
     "  -i, --into DIR   press every FILE into DIR, which must be there\n"
     "  -h, --help       this text\n"
     "  -V, --version    the version of the program and its library\n"
@@ -51,7 +63,8 @@ static const char help[] =
     "A FILE or IN of - is standard input. A FILE that is a directory stands for the\n"
     "files in it, and in directories in it, whose names end in .xm or .XM; links to\n"
     "directories are not followed. same reads files twice if others look like them,\n"
-    "so it takes regular files alone, and no standard input.\n"
+    "so it takes regular files alone, and no standard input. samples takes one file,\n"
+    "and no directory.\n"
     "\n"
     "OUT, and each file in DIR, is written whole or not at all: on any refusal or\n"
     "trouble it stays as it was, and there is no half file. IN and OUT may be the\n"
@@ -139,7 +152,7 @@ static enum status run_check(const struct request *request, int count, char **na
 static enum status run_press(const struct request *request, int count, char **named)
 {
     if (request->manner.tsv)
-        return wrong_usage("--tsv is for check and same", NULL);
+        return wrong_usage("--tsv is for check, same and samples", NULL);
     if (request->into == NULL && count != 2)
         return wrong_usage("press wants IN and OUT, or --into DIR and FILEs", NULL);
     if (request->into == NULL && is_standard_input(named[1]))
@@ -162,6 +175,15 @@ static enum status run_same(const struct request *request, int count, char **nam
     if (names_standard_input(count, named))
         return wrong_usage("same may have to read a file twice, and standard input comes once: name a file", NULL);
     return same_files(request->manner, count, named);
+}
+
+static enum status run_samples(const struct request *request, int count, char **named)
+{
+    if (request->into != NULL || request->manner.quiet)
+        return wrong_usage("samples has no such option", NULL);
+    if (count != 1)
+        return wrong_usage("samples wants one FILE", NULL);
+    return say_samples(request->manner, named[0]);
 }
 
 static enum status run_period(const struct request *request, int count, char **named)
@@ -193,7 +215,7 @@ static enum status run(int count, char **arguments)
     if (request.version)
         return puts("fiddlemarsh " FIDDLEMARSH_VERSION), ACCEPTED;
     if (optind >= count)
-        return wrong_usage("a command is wanted: check, press, same or period", NULL);
+        return wrong_usage("a command is wanted: check, press, same, samples or period", NULL);
     const char *command = arguments[optind++];
     if (strcmp(command, "check") == 0)
         return run_check(&request, count - optind, arguments + optind);
@@ -201,6 +223,8 @@ static enum status run(int count, char **arguments)
         return run_press(&request, count - optind, arguments + optind);
     if (strcmp(command, "same") == 0)
         return run_same(&request, count - optind, arguments + optind);
+    if (strcmp(command, "samples") == 0)
+        return run_samples(&request, count - optind, arguments + optind);
     if (strcmp(command, "period") == 0)
         return run_period(&request, count - optind, arguments + optind);
     return wrong_usage("no such command: ", command);

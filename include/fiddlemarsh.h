@@ -46,8 +46,8 @@
        check               384    file_len: what stands in headers and patterns is read once, sample data are passed over
        unpack              304    data_len + rows x channels
        pack                 72    cells_len
-       press               576    file_len: as the check, and once more what is written
-       tables              464    file_len: as the check, and once more the headers
+       press               584    file_len: as the check, and once more what is written
+       tables              480    file_len: as the check, and once more the headers
        decode               24    bytes_len
        code                 24    values_len
        adpcm                40    length
@@ -81,10 +81,10 @@
 extern "C" {
 #endif
 
-#define FIDDLEMARSH_VERSION_MAJOR 4
+#define FIDDLEMARSH_VERSION_MAJOR 5
 #define FIDDLEMARSH_VERSION_MINOR 0
 #define FIDDLEMARSH_VERSION_PATCH 0
-#define FIDDLEMARSH_VERSION "4.0.0"
+#define FIDDLEMARSH_VERSION "5.0.0"
 
 /* The refusal numbers, and the place that comes with each. */
 enum fiddlemarsh_number {
@@ -116,7 +116,8 @@ enum fiddlemarsh_number {
     FIDDLEMARSH_SAMPLE_HEADER_SIZE = 11,
     /* A sample's kind is AD hex (ADPCM), and its type has the 16-bit bit set. Place: the sample header's start. */
     FIDDLEMARSH_SAMPLE_KIND = 12,
-    /* A sample's loop bits are 3, its length is odd at 16 bits, or it loops past its own end. Place: the sample header's start. */
+    /* A sample's loop bits are 3, its length is odd at 16 bits, it loops past its own end, or it loops at 16 bits and its loop start or
+       loop length is odd. Place: the sample header's start. */
     FIDDLEMARSH_SAMPLE_LOOP_OR_LENGTH = 13,
     /* The buffer lent for the answer is too short. Tried last of all: with a longer buffer the call would succeed. Place 0. */
     FIDDLEMARSH_ROOM = 14,
@@ -158,12 +159,20 @@ enum fiddlemarsh_number {
 #define FIDDLEMARSH_INSTRUMENT_FIRST_SAMPLE 2 /* the number of its first one, or of the next one if it has none */
 #define FIDDLEMARSH_INSTRUMENT_TABLE_MOST 384
 
-#define FIDDLEMARSH_SAMPLE_NUMBERS 4
+#define FIDDLEMARSH_SAMPLE_NUMBERS 7
 #define FIDDLEMARSH_SAMPLE_HEADER_PLACE 0
 #define FIDDLEMARSH_SAMPLE_DATA_PLACE 1
-#define FIDDLEMARSH_SAMPLE_LENGTH 2 /* bytes of its data, as they are stored */
-#define FIDDLEMARSH_SAMPLE_WIDTH 3  /* 8 or 16 bits to a value */
-#define FIDDLEMARSH_SAMPLE_TABLE_MOST 8192
+#define FIDDLEMARSH_SAMPLE_LENGTH 2      /* bytes of its data, as they are stored */
+#define FIDDLEMARSH_SAMPLE_WIDTH 3       /* 8 or 16 bits to a value */
+#define FIDDLEMARSH_SAMPLE_LOOP_KIND 4   /* one of the three below */
+#define FIDDLEMARSH_SAMPLE_LOOP_START 5  /* how many values come before the loop; 0 of a sample that doesn't loop */
+#define FIDDLEMARSH_SAMPLE_LOOP_LENGTH 6 /* how many values it has; 0 of a sample that doesn't loop */
+#define FIDDLEMARSH_SAMPLE_TABLE_MOST 14336
+
+/* How a sample loops. The loop lies among its values: start + loop length is at most fiddlemarsh_sample_values. */
+#define FIDDLEMARSH_LOOP_NONE 0
+#define FIDDLEMARSH_LOOP_FORWARD 1
+#define FIDDLEMARSH_LOOP_BOTH_WAYS 2
 
 #define FIDDLEMARSH_SAMPLE_TUNES 2
 #define FIDDLEMARSH_SAMPLE_FINETUNE 0
@@ -283,6 +292,11 @@ static inline uint32_t fiddlemarsh_sample_header_length(const uint8_t *file, con
     return header[0] + 256u * header[1] + 65536u * header[2] + 16777216u * header[3];
 }
 
+/* How many values its data are, of either kind: what decoding gives. */
+static inline uint32_t fiddlemarsh_sample_values(const uint8_t *file, const uint32_t *row)
+{
+    return fiddlemarsh_sample_header_length(file, row) / (row[FIDDLEMARSH_SAMPLE_WIDTH] / 8);
+}
 
 /* Taking an answer apart. */
 
@@ -422,8 +436,8 @@ static inline const char *fiddlemarsh_refusal_words(uint32_t number)
     case FIDDLEMARSH_SAMPLE_KIND:
         return "the sample at this place is packed as ADPCM and marked as 16-bit, which cannot both be: save it plain";
     case FIDDLEMARSH_SAMPLE_LOOP_OR_LENGTH:
-        return "the loop of the sample at this place does not lie inside it, or goes forward and back at once, or half a value is "
-               "left at the sample's end: set its loop and its end again";
+        return "the loop of the sample at this place does not lie inside it, or goes forward and back at once, or begins or ends "
+               "within a value, or half a value is left at the sample's end: set its loop and its end again";
     case FIDDLEMARSH_ROOM:
         return "the room lent for the answer is too short: nothing is wrong with the module, the program has to lend more";
     case FIDDLEMARSH_PACKED_TOO_LONG:
@@ -489,9 +503,13 @@ static inline const char *fiddlemarsh_refusal_words(uint32_t number)
            int highest = 0;
            for (uint32_t i = 0; i < fiddlemarsh_decoded_values(answer); i++)
                highest = values[i] > highest ? values[i] : highest;
-           printf("sample %u: %u values of %u bits, up to %d, finetune %d, relative note %d\n", (unsigned)number,
+           printf("sample %u: %u values of %u bits, up to %d, finetune %d, relative note %d", (unsigned)number,
                   (unsigned)fiddlemarsh_decoded_values(answer), (unsigned)row[FIDDLEMARSH_SAMPLE_WIDTH], highest,
                   tune[FIDDLEMARSH_SAMPLE_FINETUNE], tune[FIDDLEMARSH_SAMPLE_RELATIVE_NOTE]);
+           if (row[FIDDLEMARSH_SAMPLE_LOOP_KIND] != FIDDLEMARSH_LOOP_NONE)
+               printf(", then %u values from %u on over and over", (unsigned)row[FIDDLEMARSH_SAMPLE_LOOP_LENGTH],
+                      (unsigned)row[FIDDLEMARSH_SAMPLE_LOOP_START]);
+           putchar('\n');
        }
 
        int main(int argc, char **argv)

@@ -1,6 +1,6 @@
 #!/bin/sh
 # cli.sh: the command-line program as a person and a script would use it: usage, checking, names, directories, records. cli_press.sh
-# has pressing, cli_same.sh which files are one song. The last line is 'cli: N passed, 0 failed'.
+# has pressing, cli_same.sh which files are one song, cli_samples.sh the sheet of samples. The last line is 'cli: N passed, 0 failed'.
 #
 #   cli.sh PROGRAM EXAMPLE README     README's table has the words of each refusal
 readme=$(realpath "$3") || exit 2

@@ -29,7 +29,7 @@
 
 enum { TABLES = 4 };
 
-static const size_t strides[TABLES] = {3, 3, 4, 2}; /* numbers to a row */
+static const size_t strides[TABLES] = {3, 3, 7, 2}; /* numbers to a row */
 
 static uint64_t tables(const uint8_t *file, size_t length, const size_t rooms[TABLES])
 {
@@ -791,13 +791,13 @@ static void group_every_field(void)
     }
 }
 
-/* Loops that end before, at and behind the sample's end, alone and with sums that pass 32 bits; of a plain sample, and of one of
-   kind AD, whose length counts values. */
+/* Loops that end before, at and behind the sample's end, alone and with sums that pass 32 bits, of even and odd numbers; of a plain
+   sample, and of one of kind AD, whose length counts values. */
 static void group_loops(void)
 {
     struct module module = {0};
-    const uint32_t starts[] = {0, 1, 9, 10, 11, 0x7FFFFFFF, 0x80000000, 0xFFFFFFF0, 0xFFFFFFFE, 0xFFFFFFFF};
-    const uint32_t lengths[] = {0, 1, 2, 9, 10, 11, 17, 26, 0x7FFFFFFF, 0x80000000, 0xFFFFFFFF};
+    const uint32_t starts[] = {0, 1, 2, 8, 9, 10, 11, 0x7FFFFFFF, 0x80000000, 0xFFFFFFF0, 0xFFFFFFFE, 0xFFFFFFFF};
+    const uint32_t lengths[] = {0, 1, 2, 7, 8, 9, 10, 11, 17, 26, 0x7FFFFFFF, 0x80000000, 0xFFFFFFFF};
     struct shape shape = {.song_length = 1, .channels = 1, .patterns = 1, .instruments = 1, .rows = 1, .cells = CELLS_NONE,
                           .samples_least = 1, .samples_most = 1, .sample_length_least = 10, .sample_length_most = 10};
     struct chance chance = {3501};
@@ -1174,7 +1174,7 @@ static void group_table_shapes(void)
 /* The room that is always enough, and a number less of each, for a module that needs all of it. */
 static void try_most_tables(const uint8_t *file, size_t length)
 {
-    const size_t most[TABLES] = {256 * 3, 128 * 3, 2048 * 4, 2048 * 2};
+    const size_t most[TABLES] = {256 * 3, 128 * 3, 2048 * 7, 2048 * 2};
     size_t rooms[TABLES];
     for (unsigned table = 0; table <= TABLES; table++) {
         memcpy(rooms, most, sizeof rooms);

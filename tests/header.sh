@@ -44,7 +44,7 @@ ok "it opens it up" says 'accepted, ends at place 6042
 pattern 0: 64 rows, 32 notes
 pattern 1: 64 rows, 32 notes
 pattern 2: 64 rows, 0 notes
-sample 0: 1536 values of 8 bits, up to 96, finetune 0, relative note 12'
+sample 0: 1536 values of 8 bits, up to 96, finetune 0, relative note 12, then 256 values from 1280 on over and over'
 # The same with its sample, whose header stands at 4466, as ADPCM of 1535 values, not looped.
 patch() { printf "$2" | dd of="$program.xm" bs=1 seek="$1" conv=notrunc 2>/dev/null; }
 cp "$example" "$program.xm"

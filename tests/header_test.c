@@ -58,8 +58,8 @@ static const struct refusal refusals[] = {
     {12, FIDDLEMARSH_SAMPLE_KIND, "sample_kind",
      "the sample at this place is packed as ADPCM and marked as 16-bit, which cannot both be: save it plain"},
     {13, FIDDLEMARSH_SAMPLE_LOOP_OR_LENGTH, "sample_loop_or_length",
-     "the loop of the sample at this place does not lie inside it, or goes forward and back at once, or half a value is left at the "
-     "sample's end: set its loop and its end again"},
+     "the loop of the sample at this place does not lie inside it, or goes forward and back at once, or begins or ends within a value, "
+     "or half a value is left at the sample's end: set its loop and its end again"},
     {14, FIDDLEMARSH_ROOM, "room",
      "the room lent for the answer is too short: nothing is wrong with the module, the program has to lend more"},
     {15, FIDDLEMARSH_PACKED_TOO_LONG, "packed_too_long",
@@ -126,10 +126,12 @@ static void test_counts(void)
 static void test_sample_headers(void)
 {
     uint8_t file[64] = {0};
-    const uint32_t rows[8] = {40, 64, 0, 8, 20, 64, 0, 8};
+    const uint32_t rows[14] = {40, 64, 0, 8, 0, 0, 0, 20, 64, 0, 16, 0, 0, 0};
     const uint32_t *row = rows + FIDDLEMARSH_SAMPLE_NUMBERS;
     file[20] = 0x01, file[21] = 0x02, file[22] = 0x03, file[23] = 0x84;
     MUST(fiddlemarsh_sample_header_length(file, row) == 0x84030201u && fiddlemarsh_sample_is_adpcm(file, row) == 0);
+    file[40] = 7;
+    MUST(fiddlemarsh_sample_values(file, rows) == 7 && fiddlemarsh_sample_values(file, row) == 0x42018100u);
     file[37] = 0xAD;
     MUST(fiddlemarsh_sample_is_adpcm(file, row) == 1 && fiddlemarsh_sample_is_adpcm(file, rows) == 0);
 }
@@ -148,14 +150,16 @@ static void test_constants(void)
     MUST(FIDDLEMARSH_PATTERN_DATA_PLACE == 0 && FIDDLEMARSH_PATTERN_DATA_SIZE == 1 && FIDDLEMARSH_PATTERN_ROWS == 2);
     MUST(FIDDLEMARSH_INSTRUMENT_NUMBERS == 3 && FIDDLEMARSH_INSTRUMENT_TABLE_MOST == 384);
     MUST(FIDDLEMARSH_INSTRUMENT_PLACE == 0 && FIDDLEMARSH_INSTRUMENT_SAMPLES == 1 && FIDDLEMARSH_INSTRUMENT_FIRST_SAMPLE == 2);
-    MUST(FIDDLEMARSH_SAMPLE_NUMBERS == 4 && FIDDLEMARSH_SAMPLE_TABLE_MOST == 8192);
+    MUST(FIDDLEMARSH_SAMPLE_NUMBERS == 7 && FIDDLEMARSH_SAMPLE_TABLE_MOST == 14336);
     MUST(FIDDLEMARSH_SAMPLE_HEADER_PLACE == 0 && FIDDLEMARSH_SAMPLE_DATA_PLACE == 1);
     MUST(FIDDLEMARSH_SAMPLE_LENGTH == 2 && FIDDLEMARSH_SAMPLE_WIDTH == 3);
+    MUST(FIDDLEMARSH_SAMPLE_LOOP_KIND == 4 && FIDDLEMARSH_SAMPLE_LOOP_START == 5 && FIDDLEMARSH_SAMPLE_LOOP_LENGTH == 6);
+    MUST(FIDDLEMARSH_LOOP_NONE == 0 && FIDDLEMARSH_LOOP_FORWARD == 1 && FIDDLEMARSH_LOOP_BOTH_WAYS == 2);
     MUST(FIDDLEMARSH_SAMPLE_TUNES == 2 && FIDDLEMARSH_TUNE_TABLE_MOST == 4096);
     MUST(FIDDLEMARSH_SAMPLE_FINETUNE == 0 && FIDDLEMARSH_SAMPLE_RELATIVE_NOTE == 1);
     MUST(strcmp(FIDDLEMARSH_VERSION, TEXT(FIDDLEMARSH_VERSION_MAJOR) "." TEXT(FIDDLEMARSH_VERSION_MINOR) "." TEXT(
                                          FIDDLEMARSH_VERSION_PATCH)) == 0);
-    MUST(FIDDLEMARSH_VERSION_MAJOR == 4 && FIDDLEMARSH_VERSION_MINOR == 0 && FIDDLEMARSH_VERSION_PATCH == 0);
+    MUST(FIDDLEMARSH_VERSION_MAJOR == 5 && FIDDLEMARSH_VERSION_MINOR == 0 && FIDDLEMARSH_VERSION_PATCH == 0);
 }
 
 /* README has a row for each number, which ends with its sentence. */

@@ -259,15 +259,16 @@ static void put_pattern(struct module *module, const struct shape *shape, struct
         note_field(module, start + header_length, 1);
 }
 
-static void put_loop(struct module *module, size_t header, uint32_t length, uint32_t loop_bits, struct chance *chance)
+static void put_loop(struct module *module, size_t header, uint32_t length, uint32_t type, struct chance *chance)
 {
+    uint32_t loop_bits = type & 3, whole = type & 16 ? ~(uint32_t)1 : ~(uint32_t)0; /* 16-bit samples loop by two bytes */
     uint32_t loop_start = (uint32_t)chance_next(chance);
     uint32_t loop_length = (uint32_t)chance_next(chance);
     if (loop_bits != 0 && chance_percent(chance, 20)) {
         loop_length = 0; /* doesn't loop, whatever the start */
     } else if (loop_bits != 0) {
-        loop_start = chance_between(chance, 0, length);
-        loop_length = chance_percent(chance, 50) ? length - loop_start : chance_between(chance, 0, length - loop_start);
+        loop_start = chance_between(chance, 0, length) & whole;
+        loop_length = chance_percent(chance, 50) ? length - loop_start : chance_between(chance, 0, length - loop_start) & whole;
     }
     put_field(module, header + 4, 4, loop_start);
     put_field(module, header + 8, 4, loop_length);
@@ -284,7 +285,7 @@ static uint32_t put_sample_header(struct module *module, const struct shape *sha
     size_t start = module->length;
     module_put_noise(module, size, chance);
     uint32_t loop_bits = PICK(chance, 0, 0, 1, 2);
-    uint32_t type = (uint32_t)chance_next(chance) & 0xFC; /* the other bits are kept */
+    uint32_t type = ((uint32_t)chance_next(chance) & 0xFC) | loop_bits; /* the other bits are kept */
     bool adpcm = chance_percent(chance, shape->adpcm_percent);
     if (adpcm)
         type &= ~(uint32_t)16;
@@ -294,8 +295,8 @@ static uint32_t put_sample_header(struct module *module, const struct shape *sha
     if (type & 16)
         length &= ~(uint32_t)1;
     put_field(module, start, 4, length);
-    put_loop(module, start, length, loop_bits, chance);
-    put_field(module, start + 14, 1, type | loop_bits);
+    put_loop(module, start, length, type, chance);
+    put_field(module, start + 14, 1, type);
     put_field(module, start + 17, 1, adpcm ? 0xAD : PICK(chance, 0, 0, 0xAC, 0xAE, 0xDA, 0x2D, 255));
     return adpcm ? adpcm_bytes(length) : length;
 }

@@ -23,7 +23,7 @@ MEMORY = 81936
 LISTED_MOST = 65535
 BEYOND = 16
 VALUES = 1040
-TABLES = 776, 392, 264, 132
+TABLES = 776, 392, 456, 132
 BYTE, VALUE, ENTRY = 0x5A, 0x5A5A, 0x5A5A5A5A
 
 
@@ -164,7 +164,7 @@ def table_calls(module):
 def ask_calls(file, module):
     """Each sample; a row whose data is in no file; a number past the rows; and files cut where data ends, and a byte before."""
     samples = module.samples()
-    lent = 4 * len(samples) + 6
+    lent = rules.STRIDE * (len(samples) + 1) + 2
     for wanted in range(len(samples) + 2):
         yield 'ask', wanted, lent, len(file)
     for wanted, sample in list(enumerate(samples))[:4]:

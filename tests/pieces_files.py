@@ -145,6 +145,13 @@ def every_adpcm(make):
     return make.voices(*(make.head(*form, size=43) for form in forms), data=make.noise(sum(sizes)), head_size=43)
 
 
+def every_loop(make):
+    """Loops forward and both ways, at both widths, at a sample's start and end; odd numbers at 8 bits, and where nothing loops."""
+    forms = [(9, 3, 5, 1), (9, 0, 9, 2), (9, 8, 1, 0xED), (12, 0, 12, 0x11), (12, 4, 8, 0x12), (12, 10, 2, 0xFE), (12, 3, 5, 0x10),
+             (12, 3, 0, 0x11), (12, 0xFFFFFFFF, 0, 2), (9, 7, 1, 0)]
+    return make.voices(*(make.head(*form) for form in forms), data=make.noise(sum(form[0] for form in forms)))
+
+
 def long_and_trailing(make):
     """Long headers everywhere, and bytes after the last instrument."""
     patterns = make.pattern(3, [0x80] * 6, length=40) + make.pattern(100, length=9) + make.pattern(64, [0xE0] * 128, length=10)
@@ -192,6 +199,7 @@ VALID = {
     'waves': waves,
     'adpcm_example': adpcm_example,
     'every_adpcm': every_adpcm,
+    'every_loop': every_loop,
     'long_and_trailing': long_and_trailing,
     'largest_pattern': largest_pattern,
     'most_structures': most_structures,
@@ -255,6 +263,9 @@ DAMAGED_INSTRUMENT = {
     'cut_adpcm_data': lambda make: make.voices(make.head(5, kind=0xAD), data=make.noise(18)),
     'longest_adpcm': lambda make: make.voices(make.head(0xFFFFFFFF, kind=0xAD), data=make.noise(16)),
     'loop_bits_3': lambda make: make.voices(make.head(4, form=3), data=make.noise(4)),
+    'odd_loop_start': lambda make: make.voices(make.head(8, 1, 2, form=0x11), data=make.noise(8)),
+    'odd_loop_length': lambda make: make.voices(make.head(0), make.head(8, 2, 3, form=0x12), data=make.noise(8)),
+    'odd_loop_of_adpcm': lambda make: make.voices(make.head(8, 1, 3, form=0x11, kind=0xAD), data=make.noise(20)),
     'odd_16_bit': lambda make: make.voices(make.head(3, form=16), data=make.noise(3)),
     'loop_past_the_end': lambda make: make.voices(make.head(4, 2, 3, form=1), data=make.noise(4)),
     'loop_sum_of_33_bits': lambda make: make.voices(make.head(4, 0xFFFFFFFF, 2, form=1), data=make.noise(4)),

@@ -47,7 +47,7 @@ class Sample:
     data: bytes
 
     def row(self):
-        return self.place, self.data_place, len(self.data), width_of(self.head)
+        return self.place, self.data_place, len(self.data), width_of(self.head), *loop_of(self.head)
 
     def tunes(self):
         return signed(self.head[13], 8), signed(self.head[16], 8)
@@ -169,13 +169,24 @@ def data_size(head):
     return 16 + (length + 1) // 2 if is_adpcm(head) and length else length
 
 
+def loops(head):
+    return little(head, 8, 4) > 0 and head[14] % 4 > 0
+
+
+def loop_of(head):
+    """Kind, start and length of a sample's loop, in samples; without a loop they are 0."""
+    size = width_of(head) // 8
+    return (head[14] % 4, little(head, 4, 4) // size, little(head, 8, 4) // size) if loops(head) else (0, 0, 0)
+
+
 def try_head(head, place):
     length, start, loop = (little(head, offset, 4) for offset in (0, 4, 8))
-    bits = head[14] % 4
     need(not is_adpcm(head) or width_of(head) == 8, 12, place)
-    need(bits != 3, 13, place)
+    need(head[14] % 4 != 3, 13, place)
     need(width_of(head) == 8 or length % 2 == 0, 13, place)
-    need(loop == 0 or bits == 0 or start + loop <= length, 13, place)
+    need(not loops(head) or start + loop <= length, 13, place)
+    need(not loops(head) or width_of(head) == 8 or start % 2 == 0, 13, place)
+    need(not loops(head) or width_of(head) == 8 or loop % 2 == 0, 13, place)
 
 
 def read_samples(file, instrument, heads, size, count):
@@ -252,10 +263,14 @@ def structures(module):
         yield from (('sample', sample.place) for sample in instrument.samples)
 
 
+# Numbers to a row of a sample table
+STRIDE = 7
+
+
 def ask(file, table, wanted):
-    """Place and length of a sample's data, by a table of four numbers to a row."""
-    need(wanted < len(table) // 4, 16, 0)
-    place, length = table[4 * wanted + 1:4 * wanted + 3]
+    """Place and length of a sample's data, by a table."""
+    need(wanted < len(table) // STRIDE, 16, 0)
+    place, length = table[STRIDE * wanted + 1:STRIDE * wanted + 3]
     need(place + length <= len(file), 16, 0)
     return place, length
 

@@ -347,6 +347,10 @@ static struct reference_refusal try_sample_header(const uint8_t *file, size_t at
         return refuse(13, at);
     if (sample_loops(&sample) && loop_end(&sample) > sample.length)
         return refuse(13, at);
+    if (sample_width(sample.type) == 16 && sample_loops(&sample) && sample.loop_start % 2 != 0)
+        return refuse(13, at);
+    if (sample_width(sample.type) == 16 && sample_loops(&sample) && sample.loop_length % 2 != 0)
+        return refuse(13, at);
     return accepted;
 }
 
@@ -474,6 +478,12 @@ static size_t fill_pattern_rows(const uint8_t *file, size_t at, uint32_t pattern
     return at;
 }
 
+/* A loop's number in samples, not bytes; 0 of a sample that doesn't loop. */
+static uint32_t loop_number(const struct sample *sample, uint32_t bytes)
+{
+    return sample_loops(sample) ? bytes / (sample_width(sample->type) / 8) : 0;
+}
+
 static void fill_sample_rows(const uint8_t *file, const struct instrument *instrument, struct reference_sample_row *rows)
 {
     size_t data = instrument->data;
@@ -484,6 +494,9 @@ static void fill_sample_rows(const uint8_t *file, const struct instrument *instr
                                                 .data_place = (uint32_t)data,
                                                 .length = sample_bytes(&sample),
                                                 .width = sample_width(sample.type),
+                                                .loop_kind = sample_loops(&sample) ? sample.type & 3 : 0,
+                                                .loop_start = loop_number(&sample, sample.loop_start),
+                                                .loop_length = loop_number(&sample, sample.loop_length),
                                                 .finetune = (int8_t)file[place + 13],
                                                 .relative_note = (int8_t)file[place + 16]};
         data += sample_bytes(&sample);
@@ -907,7 +920,7 @@ REFERENCE_CALL uint64_t reference_loader_press(const uint8_t *file, size_t file_
 enum {
     PATTERN_NUMBERS = 3,
     INSTRUMENT_NUMBERS = 3,
-    SAMPLE_NUMBERS = 4,
+    SAMPLE_NUMBERS = 7,
     SAMPLE_TUNES = 2,
     DELTA_MOST = 16777216,
     ADPCM_MOST = 33554432
@@ -938,6 +951,9 @@ static void put_sample_numbers(const struct reference_sample_row *rows, uint32_t
         to[1] = rows->data_place;
         to[2] = rows->length;
         to[3] = rows->width;
+        to[4] = rows->loop_kind;
+        to[5] = rows->loop_start;
+        to[6] = rows->loop_length;
         tunes[0] = rows->finetune;
         tunes[1] = rows->relative_note;
     }

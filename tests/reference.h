@@ -47,6 +47,9 @@ struct reference_sample_row {
     uint32_t data_place;
     uint32_t length; /* in bytes, as they are stored */
     uint32_t width;  /* 8 or 16 */
+    uint32_t loop_kind; /* 0 none, 1 forward, 2 both ways; without a loop its start and length are 0, too */
+    uint32_t loop_start; /* in samples, as is the length */
+    uint32_t loop_length;
     int8_t finetune;
     int8_t relative_note;
 };
@@ -141,7 +144,7 @@ REFERENCE_CALL uint64_t reference_loader_pack(size_t rows, size_t channels, cons
                                               uint8_t *out, size_t out_len);
 REFERENCE_CALL uint64_t reference_loader_press(const uint8_t *file, size_t file_len, uint8_t *out, size_t out_len);
 
-/* Tables of flat numbers: three to a pattern, three to an instrument; of a sample four, and its two tunes apart. Lengths count
+/* Tables of flat numbers: three to a pattern, three to an instrument; of a sample seven, and its two tunes apart. Lengths count
    numbers, and what is left of a last row that is not whole counts for none. */
 REFERENCE_CALL uint64_t reference_loader_tables(const uint8_t *file, size_t file_len, uint32_t *patterns, size_t patterns_len,
                                                 uint32_t *instruments, size_t instruments_len, uint32_t *samples,

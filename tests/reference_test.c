@@ -195,6 +195,11 @@ static void hand_module(uint8_t *file)
     PUT(741, 4, 30), PUT(768, 2, 0);
 }
 
+static void put_loop(uint8_t *file, uint32_t header, uint32_t start, uint32_t length, uint32_t type)
+{
+    PUT(header + 4, 4, start), PUT(header + 8, 4, length), PUT(header + 14, 1, type);
+}
+
 static void tables_of_the_hand_module(void)
 {
     uint8_t file[HAND_LENGTH];
@@ -223,20 +228,21 @@ static void tables_of_the_hand_module(void)
 static void flat_tables_of_the_hand_module(void)
 {
     const uint32_t want_patterns[] = {348, 2, 1, 359, 0, 7}, want_instruments[] = {359, 0, 0, 388, 2, 0, 741, 0, 2, 7, 7};
-    const uint32_t want_samples[] = {652, 734, 3, 8, 693, 737, 4, 16, 7, 7, 7};
+    const uint32_t want_samples[] = {652, 734, 3, 8, 2, 1, 2, 693, 737, 4, 16, 0, 0, 0, 7, 7, 7, 7, 7, 7};
     const int8_t want_tunes[] = {-128, 127, -1, -128, 7};
     uint8_t file[HAND_LENGTH];
-    uint32_t patterns[6], instruments[11], samples[11] = {[8] = 7, 7, 7};
+    uint32_t patterns[6], instruments[11], samples[20] = {[14] = 7, 7, 7, 7, 7, 7};
     int8_t tunes[5] = {[4] = 7};
     instruments[9] = instruments[10] = 7;
     hand_module(file);
-    must(reference_loader_tables(file, sizeof file, patterns, 6, instruments, 11, samples, 11, tunes, 5) == 771);
+    put_loop(file, 652, 1, 2, 2);
+    must(reference_loader_tables(file, sizeof file, patterns, 6, instruments, 11, samples, 20, tunes, 5) == 771);
     must(memcmp(patterns, want_patterns, sizeof patterns) == 0 && memcmp(instruments, want_instruments, sizeof instruments) == 0);
     must(memcmp(samples, want_samples, sizeof samples) == 0 && memcmp(tunes, want_tunes, sizeof tunes) == 0);
-    must(reference_loader_tables(file, sizeof file, patterns, 5, instruments, 9, samples, 8, tunes, 4) == (uint64_t)14 << 32);
-    must(reference_loader_tables(file, sizeof file, patterns, 6, instruments, 8, samples, 8, tunes, 4) == (uint64_t)14 << 32);
-    must(reference_loader_tables(file, sizeof file, patterns, 6, instruments, 9, samples, 7, tunes, 4) == (uint64_t)14 << 32);
-    must(reference_loader_tables(file, sizeof file, patterns, 6, instruments, 9, samples, 8, tunes, 3) == (uint64_t)14 << 32);
+    must(reference_loader_tables(file, sizeof file, patterns, 5, instruments, 9, samples, 14, tunes, 4) == (uint64_t)14 << 32);
+    must(reference_loader_tables(file, sizeof file, patterns, 6, instruments, 8, samples, 14, tunes, 4) == (uint64_t)14 << 32);
+    must(reference_loader_tables(file, sizeof file, patterns, 6, instruments, 9, samples, 13, tunes, 4) == (uint64_t)14 << 32);
+    must(reference_loader_tables(file, sizeof file, patterns, 6, instruments, 9, samples, 14, tunes, 3) == (uint64_t)14 << 32);
     must(reference_loader_tables(file, 770, NULL, 0, NULL, 0, NULL, 0, NULL, 0) == ((uint64_t)1 << 32 | 741));
 }
 
@@ -313,6 +319,46 @@ static void adpcm_in_the_hand_module(void)
     must(reference_check(file, sizeof file).refusal.number == 1 && reference_check(file, sizeof file).refusal.place == 734);
 }
 
+static bool loops_so(const struct reference_sample_row *row, uint32_t kind, uint32_t start, uint32_t length)
+{
+    return row->loop_kind == kind && row->loop_start == start && row->loop_length == length;
+}
+
+/* Loops of its samples of 3 values of 8 bits and 2 of 16: in samples, and 0 in all three where there is none. */
+static void loops_in_the_hand_module(void)
+{
+    uint8_t file[HAND_LENGTH];
+    struct reference_pattern_row patterns[2];
+    struct reference_instrument_row instruments[3];
+    struct reference_sample_row samples[2];
+    struct reference_tables tables = {patterns, 2, instruments, 3, samples, 2};
+    hand_module(file);
+    put_loop(file, 652, 1, 2, 2), put_loop(file, 693, 2, 2, 0x11);
+    must(reference_check_tables(file, sizeof file, &tables).end == 771);
+    must(loops_so(&samples[0], 2, 1, 2) && loops_so(&samples[1], 1, 1, 1));
+    put_loop(file, 652, 1, 2, 0), put_loop(file, 693, 2, 0, 0x12); /* no loop bits; no loop length */
+    must(reference_check_tables(file, sizeof file, &tables).end == 771);
+    must(loops_so(&samples[0], 0, 0, 0) && loops_so(&samples[1], 0, 0, 0));
+}
+
+/* Half samples: 13 where a 16-bit sample loops, behind its other causes and 12. */
+static void odd_loops_in_the_hand_module(void)
+{
+    static const struct {
+        uint32_t start, length, type, number;
+    } loops[] = {{1, 2, 0x11, 13}, {2, 1, 0x12, 13}, {1, 1, 0x11, 13}, {2, 2, 0x11, 0}, {1, 1, 0x10, 0}, {1, 0, 0x11, 0}, {1, 3, 1, 0}};
+    uint8_t file[HAND_LENGTH];
+    hand_module(file);
+    for (size_t i = 0; i < sizeof loops / sizeof loops[0]; i++) {
+        put_loop(file, 693, loops[i].start, loops[i].length, loops[i].type);
+        struct reference_refusal refusal = reference_check(file, sizeof file).refusal;
+        must(refusal.number == loops[i].number && refusal.place == (loops[i].number == 0 ? 0 : 693));
+    }
+    put_loop(file, 693, 1, 1, 0x11);
+    PUT(710, 1, 0xAD);
+    must(reference_check(file, sizeof file).refusal.number == 12);
+}
+
 static void a_short_table_leaves_all_alone(void)
 {
     uint8_t file[HAND_LENGTH];
@@ -320,7 +366,7 @@ static void a_short_table_leaves_all_alone(void)
     for (unsigned which = 0; which < 3; which++) {
         struct reference_pattern_row patterns[2] = {{1, 1, 1}};
         struct reference_instrument_row instruments[3] = {{1, 1, 1}};
-        struct reference_sample_row samples[2] = {{1, 1, 1, 1, 1, 1}};
+        struct reference_sample_row samples[2] = {{1, 1, 1, 1, 1, 1, 1, 1, 1}};
         struct reference_tables tables = {patterns, 2, instruments, 3, samples, 2};
         tables.pattern_room -= which == 0;
         tables.instrument_room -= which == 1;
@@ -489,6 +535,8 @@ int main(void)
     adpcm_holds_the_descriptions_example();
     adpcm_refuses_in_order();
     adpcm_in_the_hand_module();
+    loops_in_the_hand_module();
+    odd_loops_in_the_hand_module();
     a_short_table_leaves_all_alone();
     press_of_the_hand_module();
     structures_of_the_hand_module();

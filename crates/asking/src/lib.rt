@@ -6,7 +6,7 @@ ghost use Rattle.xm.specs.Asking.{asking, stretchOf, askingFlat};
 ghost use Rattle.asking.specs.Ask.{askedOf, liesIn, Inside, stretchAsked, refusalAsked};
 
 // Numbers to a sample's row in a table over flat numbers.
-pub const SAMPLE_STRIDE: usize = 4;
+pub const SAMPLE_STRIDE: usize = 7;
 
 // Where a sample's data lies.
 pub struct Stretch {

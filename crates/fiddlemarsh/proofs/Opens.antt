@@ -1,5 +1,6 @@
 -- How a loader opens a module: called by the numbers of a row that the check with tables has filled, unpacking gives the content's cells of
--- that pattern, and decoding, by the kind that stands in its header, the content's values of that sample. Assumes nothing.
+-- that pattern, and decoding, by the kind that stands in its header, the content's values of that sample, among which its loop lies. Assumes
+-- nothing.
 use Prim.Native.Nat.{ℕ, _+_, _*_, _≤_, _<_}
 use mathlib.Core.List.{List}
 use mathlib.Core.Path.{_≡_, refl, ap, _∙_}
@@ -17,12 +18,13 @@ use Rattle.xm.specs.Delta.{countWritten, decoding, decodingLimited}
 use Rattle.xm.specs.Adpcm.{adpcmDecoding, adpcmLimited, decodingBy}
 use Rattle.xm.specs.Press.{contentOf}
 use Rattle.xm.specs.Table.{Checked, checkingInto, Tables, roomOf, patternRows, sampleRows, patternStride, sampleStride}
+use Rattle.xm.specs.Demands.{LoopReads}
 use Rattle.xm.proofs.Module.{whole-read}
 use Rattle.xm.proofs.Adpcm.{size-half, adpcm-gave}
 use Rattle.xm.proofs.Accepted.{accepted-files, decodes-at}
 use Rattle.xm.proofs.Demands.{loaders-tell}
 use Rattle.tables.proofs.IntoLaws.{into-accepted}
-use Rattle.tables.proofs.Calls.{valuesAt, sample-number, filled-unpacks}
+use Rattle.tables.proofs.Calls.{headAt, valuesAt, sample-number, filled-loops, filled-unpacks}
 use Rattle.fiddlemarsh.specs.Promise.{Unpacks, Fills, Decodes, DecodesAdpcm}
 
 -- A number and a memory of an answer that gives something
@@ -48,7 +50,7 @@ module _ (file : List ℕ) (plain : Bytes file) (lent : Tables) (c : Checked) (a
         → (answer ≡ patternIn k .rows) × (then ≡ inFront (cellBytes (patternIn k)) cells)
     opens-pattern k cells low enough = rw (met .1) (told rowsRead cellBytes _ cells (filled-unpacks file plain lent c accepted k (length cells) low enough))
 
-    -- of a sample's row: header place, data place, length, width; and of its header the length and the kind
+    -- of a sample's row: header place, data place, length, width, loop kind, loop start, loop length; and of its header the length and the kind
     abbrev pub sampleNumber : (k column : ℕ) → ℕ
     sampleNumber k column = getD (held .samples) (sampleStride * k + column) 0
 
@@ -66,6 +68,11 @@ module _ (file : List ℕ) (plain : Bytes file) (lent : Tables) (c : Checked) (a
     part-small place size =
         into-accepted (roomOf lent) file c accepted λ q room. whole-read moduleFormat file (c .found) (c .end) q λ small e.
         omega (arith, length-take size (drop place file), length-drop place file)
+
+    -- A sample's loop is that of its header, in samples, and lies within the content's values
+    pub opens-loop : (k : ℕ) → k < length (sampleRows (c .found))
+        → LoopReads (headAt c k) (sampleNumber k 3) (sampleNumber k 4) (sampleNumber k 5) (sampleNumber k 6) × (sampleNumber k 5 + sampleNumber k 6 ≤ length (valuesAt c k))
+    opens-loop k low = rw (met .1) (filled-loops file plain lent c accepted k low)
 
     -- By the kind that stands in its header a sample's data decode to the content's values
     module _ (k : ℕ) (low : k < length (sampleRows (c .found))) (values : List ℤ) (enough : length (valuesAt c k) ≤ length values) where

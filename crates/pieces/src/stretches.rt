@@ -14,6 +14,7 @@ use crate::write::refused;
 ghost use Prim.Native.Nat.{_≤_};
 use adpcm::decode_adpcm;
 use asking::Asked;
+use asking::SAMPLE_STRIDE;
 use asking::ask_sample;
 use asking::sample_refusal;
 use asking::sample_stretch;
@@ -89,7 +90,7 @@ pub fn put_values(file: &[u8], numbers: Numbers, samples: &[u32]) {
         0,
         stretch.len() - least(numbers.third, stretch.len()),
     );
-    let row = 4 * least(numbers.first, 64);
+    let row = SAMPLE_STRIDE * least(numbers.first, 64);
     let head = part(file, entry(samples, row), 40);
     let mut values: [i16; 1040] = [23130; 1040];
     put_decoded(

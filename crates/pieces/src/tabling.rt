@@ -16,7 +16,7 @@ use walk::Verdict;
 const ALL: Numbers = Numbers {
     first: 776,
     second: 392,
-    third: 264,
+    third: 456,
     fourth: 132,
     fifth: 0,
 };
@@ -30,7 +30,7 @@ fn put_tables(
     verdict: Verdict,
     patterns: &[u32; 776],
     instruments: &[u32; 392],
-    samples: &[u32; 264],
+    samples: &[u32; 456],
     tunes: &[i8; 132],
 ) {
     put_verdict(verdict);
@@ -41,7 +41,7 @@ fn put_tables(
 }
 
 // The call of a line, on filled tables.
-fn run_on(file: &[u8], numbers: Numbers, call: u8, patterns: &[u32; 776], samples: &[u32; 264]) {
+fn run_on(file: &[u8], numbers: Numbers, call: u8, patterns: &[u32; 776], samples: &[u32; 456]) {
     let mut lent = memory();
     match call {
         b'a' => put_ask(file, numbers, samples),
@@ -56,12 +56,12 @@ fn run_on(file: &[u8], numbers: Numbers, call: u8, patterns: &[u32; 776], sample
 pub fn run_tables(file: &[u8], numbers: Numbers, call: u8) {
     let mut patterns: [u32; 776] = [1515870810; 776];
     let mut instruments: [u32; 392] = [1515870810; 392];
-    let mut samples: [u32; 264] = [1515870810; 264];
+    let mut samples: [u32; 456] = [1515870810; 456];
     let mut tunes: [i8; 132] = [90; 132];
     let lent = rooms(call, numbers);
     let pattern_room = least(lent.first, 776);
     let instrument_room = least(lent.second, 392);
-    let sample_room = least(lent.third, 264);
+    let sample_room = least(lent.third, 456);
     let tune_room = least(lent.fourth, 132);
     let verdict = check_into(
         file,

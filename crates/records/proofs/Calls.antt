@@ -16,8 +16,8 @@ use Rattle.xm.specs.Adpcm.{decodingBy}
 use Rattle.xm.specs.Table.{Checked, sampleRows, sampleStride, tuneStride, checkIntoNumbers, checkingInto, roomWith, rowsAfter, Tables, tablesAfter}
 use Rattle.xm.specs.Table as paper
 use Rattle.xm.specs.Asking.{Lies, asking, stretchOf, askingRows, noRow}
-use Rattle.xm.specs.Demands.{AcceptedFile, liesAt}
-use Rattle.xm.proofs.Accepted.{accepted-files, decodes-at}
+use Rattle.xm.specs.Demands.{LoopReads, AcceptedFile, liesAt}
+use Rattle.xm.proofs.Accepted.{accepted-files, loop-at, decodes-at}
 use Rattle.xm.proofs.Table.{joined-map}
 use Rattle.refusal.specs.Fault.{faultOf}
 use Rattle.walk.specs.File.{verdictOf, verdictNumbers}
@@ -25,7 +25,7 @@ use Rattle.walk.specs.declared.Verdict.{Verdict}
 use Rattle.tables.specs.Into.{lent, checkedInto, roomFor, patternsAfter, instrumentsAfter}
 use Rattle.tables.specs.Place.{sampleRow, numbersOf, tunesOf}
 use Rattle.tables.specs.declared.sample.SampleRow.{SampleRow}
-use Rattle.tables.proofs.Calls.{into-numbers, valuesAt}
+use Rattle.tables.proofs.Calls.{into-numbers, headAt, valuesAt}
 use Rattle.tables.proofs.IntoLaws.{into-accepted}
 use Rattle.records.specs.Records.{rowOf, rowsOf, recordsOf, noRecord, checkedRecords, recordsAfter, rowAsking, rowAskingIn, rowAskedOf, rowsGiven, rowAskedNumbers, rowAskedTunes, rowNumbers, rowTunes}
 use Rattle.records.specs.declared.row.RowAsked.{RowAsked}
@@ -174,10 +174,15 @@ module _ (file : List ℕ) (plain : Bytes file) (patterns instruments : List ℕ
       ∙ ap (λ (rows : List paper.SampleRow). askingRows file rows number) (rows-in-front (sampleRows (c .found)) records)
       ∙ found .asked .records (drop (length (sampleRows (c .found))) (rowsOf records)) number low
 
-  -- and decodes to the content's values, at its width, by the kind and the length that stand at its header place.
+  -- decodes to the content's values, at its width, by the kind and the length that stand at its header place,
   abbrev storedRow : SampleRow
   storedRow = getD after number noRecord
 
   pub stored-decodes : decodingBy (byteAt (storedRow .«header_place» + 17) file) (longAt (storedRow .«header_place») file) (storedRow .width) (stretchOf file (askingRows file (rowsOf after) number)) (length (valuesAt c number))
       ≡ gives (valuesAt c number)
   stored-decodes = rw (stored-record, stored-asked) (decodes-at file (c .found) (c .end) found number low (length (valuesAt c number)) (omega arith))
+
+  -- with its header's loop, in samples, within these values.
+  pub stored-loops : LoopReads (headAt c number) (storedRow .width) (storedRow .«loop_kind») (storedRow .«loop_start») (storedRow .«loop_length»)
+      × (storedRow .«loop_start» + storedRow .«loop_length» ≤ length (valuesAt c number))
+  stored-loops = rw stored-record (loop-at file (c .found) (c .end) found number low)

@@ -2,11 +2,11 @@
 use Prim.Native.Nat.{ℕ, _+_}
 use mathlib.Core.List.{List, [], _∷_, map}
 use lib.IntN.{ℤ, pos}
-use lib.ListN.{length, getD}
+use lib.ListN.{length, getD, replicate}
 use Rattle.xm.specs.Got.{got, _>>_, checked, present, _at_, listIn}
 use Rattle.xm.specs.Answer.{Answer, gives, refuses, answered, numbers, after}
 use Rattle.xm.specs.Module.{readFile}
-use Rattle.xm.specs.Table.{Checked, sampleRows, sampleTunes, roomWith, checkingInto}
+use Rattle.xm.specs.Table.{Checked, sampleRows, sampleStride, sampleTunes, roomWith, checkingInto}
 use Rattle.xm.specs.Table as paper
 use Rattle.xm.specs.Asking.{noRow}
 use Rattle.refusal.specs.Fault.{faultOf}
@@ -24,6 +24,9 @@ rowOf r = record {
   dataPlace = r .«data_place»;
   size = r .length;
   width = r .width;
+  loopKind = r .«loop_kind»;
+  loopStart = r .«loop_start»;
+  loopLength = r .«loop_length»;
   finetune = r .finetune;
   relativeNote = r .«relative_note»;
 }
@@ -72,10 +75,11 @@ abbrev pub rowsGiven : RowAsked → List paper.SampleRow
 rowsGiven (asked.Row row) = rowOf row ∷ []
 rowsGiven (asked.Refused fault) = []
 
--- The paper's numbers for each case: number and place of the refusal, header place, data place, length, width; and the two tunes.
+-- The paper's numbers for each case: number and place of the refusal, header place, data place, length, width, loop kind, loop start, loop
+-- length; and the two tunes.
 abbrev pub rowAskedNumbers : RowAsked → List ℕ
 rowAskedNumbers (asked.Row row) = 0 ∷ 0 ∷ numbersOf row
-rowAskedNumbers (asked.Refused fault) = fault .number ∷ fault .place ∷ 0 ∷ 0 ∷ 0 ∷ 0 ∷ []
+rowAskedNumbers (asked.Refused fault) = fault .number ∷ fault .place ∷ replicate sampleStride 0
 
 abbrev pub rowAskedTunes : RowAsked → List ℤ
 rowAskedTunes (asked.Row row) = tunesOf row
@@ -83,7 +87,15 @@ rowAskedTunes (asked.Refused fault) = pos 0 ∷ pos 0 ∷ []
 
 -- and the same of the definition's answer.
 abbrev pub rowNumbers : Answer paper.SampleRow → List ℕ
-rowNumbers = numbers (paper.SampleRow.headerPlace ∷ paper.SampleRow.dataPlace ∷ paper.SampleRow.size ∷ paper.SampleRow.width ∷ [])
+rowNumbers = numbers (
+    paper.SampleRow.headerPlace
+    ∷ paper.SampleRow.dataPlace
+    ∷ paper.SampleRow.size
+    ∷ paper.SampleRow.width
+    ∷ paper.SampleRow.loopKind
+    ∷ paper.SampleRow.loopStart
+    ∷ paper.SampleRow.loopLength
+    ∷ [])
 
 abbrev pub rowTunes : Answer paper.SampleRow → List ℤ
 rowTunes (gives row) = sampleTunes row

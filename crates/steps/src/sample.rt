@@ -10,10 +10,10 @@ ghost use Prim.Native.Nat.{_+_, _*_, _≤_, _<_};
 ghost use lib.ListN.{length, drop, replicate};
 ghost use Rattle.xm.specs.Got.{passes};
 ghost use Rattle.xm.specs.Format.{each};
-ghost use Rattle.xm.specs.Sample.{leastHead, headBytes, dataSizeBy, readHead, readData, headFormat, dataFormat, samplesFormat};
+ghost use Rattle.xm.specs.Sample.{leastHead, headBytes, loopsBy, dataSizeBy, readHead, readData, headFormat, dataFormat, samplesFormat};
 ghost use Rattle.refusal.specs.Fault.{placeStep};
 ghost use Rattle.steps.specs.Test.{firstFault};
-ghost use Rattle.steps.specs.Sample.{HeadAt, kindTest, wideTest, loopTest, headTestsOf, headsFrom};
+ghost use Rattle.steps.specs.Sample.{HeadAt, kindTest, wideTest, loopTest, wholeTest, headTestsOf, headsFrom};
 
 // "Kind AD"
 const ADPCM: usize = 0xAD;
@@ -77,16 +77,23 @@ fn wide_fits(form: usize, length: usize) -> bool
     true
 }
 
+// Whether a sample loops: its loop length is above 0, and its loop bits are not 0.
+pub fn loops(form: usize, looped: usize) -> bool
+    ensures { λ r. ⌜ r ≡ loopsBy form looped ⌝ }
+{
+    if looped == 0 {
+        return false;
+    }
+    form % 4 != 0
+}
+
 // Whether a looping sample's loop ends inside it.
 fn loop_fits(form: usize, length: usize, start: usize, looped: usize) -> bool
     requires { ⌜ start < 4294967296 ⌝ }
     requires { ⌜ looped < 4294967296 ⌝ }
     ensures { λ r. ⌜ r ≡ passes (loopTest form length start looped 0) ⌝ }
 {
-    if looped == 0 {
-        return true;
-    }
-    if form % 4 == 0 {
+    if !loops(form, looped) {
         return true;
     }
     if length < start + looped {
@@ -95,7 +102,19 @@ fn loop_fits(form: usize, length: usize, start: usize, looped: usize) -> bool
     true
 }
 
-// The number of a header's first fault, or 0: 12, then the three causes of 13.
+// Whether a number of a loop, its start or its length, is a whole count of samples: even, where a 16-bit sample loops.
+fn whole_fits(form: usize, looped: usize, number: usize) -> bool
+    ensures { λ r. ⌜ r ≡ passes (wholeTest form looped number 0) ⌝ }
+{
+    if form / 16 % 2 == 1 {
+        if loops(form, looped) {
+            return number % 2 == 0;
+        }
+    }
+    true
+}
+
+// The number of a header's first fault, or 0: 12, then the causes of 13.
 fn head_fault(head: SampleHead) -> u32
     requires { ⌜ head .«loop_start» < 4294967296 ⌝ }
     requires { ⌜ head .«loop_length» < 4294967296 ⌝ }
@@ -112,6 +131,12 @@ fn head_fault(head: SampleHead) -> u32
         return 13;
     }
     if !loop_fits(head.form, head.length, head.loop_start, head.loop_length) {
+        return 13;
+    }
+    if !whole_fits(head.form, head.loop_length, head.loop_start) {
+        return 13;
+    }
+    if !whole_fits(head.form, head.loop_length, head.loop_length) {
         return 13;
     }
     0

@@ -14,8 +14,8 @@ use Rattle.xm.specs.Adpcm.{decodingBy, valuesOf}
 use Rattle.xm.specs.Press.{contentOf}
 use Rattle.xm.specs.Table.{PatternRow, patternRows, sampleRows, Checked, checkIntoNumbers, checkingInto, patternStride, sampleStride, patternNumbers, sampleNumbers, Tables, Room, roomOf, tablesAfter}
 use Rattle.xm.specs.Asking.{stretchOf, askingFlat, noRow}
-use Rattle.xm.specs.Demands.{headsIn, bytesIn, RowUnpacks, RowsUnpack, AcceptedFile, liesAt}
-use Rattle.xm.proofs.Accepted.{accepted-files, number-at, decodes-at}
+use Rattle.xm.specs.Demands.{headsIn, bytesIn, RowUnpacks, RowsUnpack, LoopReads, AcceptedFile, liesAt}
+use Rattle.xm.proofs.Accepted.{accepted-files, number-at, loop-at, decodes-at}
 use Rattle.refusal.specs.declared.Fault.{Fault}
 use Rattle.walk.specs.declared.Verdict.{Verdict}
 use Rattle.walk.specs.declared.Verdict.the-variants.{Refused}
@@ -52,9 +52,12 @@ unpacks-at file channels (r ∷ rs) [] row p number low u = absurd u
 unpacks-at file channels (r ∷ rs) (q ∷ qs) row p zero low u = u .0
 unpacks-at file channels (r ∷ rs) (q ∷ qs) row p (suc number) low u = unpacks-at file channels rs qs row p number (omega arith) (u .1)
 
--- The content's values of a sample
+-- The content's header of a sample, and its values
+abbrev pub headAt : Checked → (number : ℕ) → List ℕ
+headAt c number = getD (headsIn (contentOf (c .found))) number []
+
 abbrev pub valuesAt : Checked → (number : ℕ) → List ℤ
-valuesAt c number = valuesOf (getD (headsIn (contentOf (c .found))) number []) (getD (bytesIn (contentOf (c .found))) number [])
+valuesAt c number = valuesOf (headAt c number) (getD (bytesIn (contentOf (c .found))) number [])
 
 -- Of the tables that an accepted check leaves
 module _ (file : List ℕ) (plain : Bytes file) (lent : Tables) (c : Checked) (accepted : checkingInto (roomOf lent) file ≡ gives c) where
@@ -86,6 +89,14 @@ module _ (file : List ℕ) (plain : Bytes file) (lent : Tables) (c : Checked) (a
   filled-decodes number low =
       rw (filled-asked number low, sample-number number 0 low (omega arith), sample-number number 3 low (omega arith))
       (decodes-at file (c .found) (c .end) found number low (length (valuesAt c number)) (omega arith))
+
+  -- whose row has its header's loop, in samples, within these values,
+  pub filled-loops : (number : ℕ) → number < length (sampleRows (c .found))
+      → LoopReads (headAt c number) (sampleNumber number 3) (sampleNumber number 4) (sampleNumber number 5) (sampleNumber number 6)
+      × (sampleNumber number 5 + sampleNumber number 6 ≤ length (valuesAt c number))
+  filled-loops number low =
+      rw (sample-number number 3 low (omega arith), sample-number number 4 low (omega arith), sample-number number 5 low (omega arith), sample-number number 6 low (omega arith))
+      (loop-at file (c .found) (c .end) found number low)
 
   -- and each pattern's data, by the numbers of its row, unpack to the content's rows and cells.
   abbrev patternAt : (number : ℕ) → Pattern

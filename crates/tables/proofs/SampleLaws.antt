@@ -1,5 +1,6 @@
 -- A sample's row in the file, and the search for it. Assumes nothing.
 use Prim.Native.Nat.{ℕ, zero, suc, _+_, _-_, _≤_, _<_}
+use mathlib.Core.Bool.{Bool, true, false, cond}
 use mathlib.Core.List.{List, _∷_, _++_}
 use mathlib.Core.Path.{_≡_, refl, sym, ap, _∙_}
 use native.Mathlib.Numerals.{add-one}
@@ -10,7 +11,7 @@ use lib.Seq.{drop-cons, drop-drop}
 use Rattle.xm.specs.Number.{Bytes}
 use Rattle.xm.specs.Got.{Got, got, refused, AllHold, listIn}
 use Rattle.xm.specs.Format.{joined}
-use Rattle.xm.specs.Sample.{leastHead, headBytes, dataSize}
+use Rattle.xm.specs.Sample.{leastHead, headBytes, inSamples, dataSize}
 use Rattle.xm.specs.Instrument.{InstrumentFound, instrumentFormat, instrumentTests}
 use Rattle.xm.specs.Module.{Found, fileMost, readFile}
 use Rattle.xm.specs.Table as row
@@ -27,10 +28,15 @@ use Rattle.tables.proofs.InstrumentLaws.{InstrumentStands, instruments-
 use Rattle.tables.proofs.PlaceLoops.{left-start, left-room, left-on, left-end}
 
 -- The row by its fields
-pub row-path : {a a′ b b′ l l′ w w′ : ℕ} {f f′ n n′ : ℤ} → a ≡ a′ → b ≡ b′ → l ≡ l′ → w ≡ w′ → f ≡ f′ → n ≡ n′
-    → _≡_ {A = SampleRow} (record { «header_place» = a; «data_place» = b; length = l; width = w; finetune = f; «relative_note» = n })
-    (record { «header_place» = a′; «data_place» = b′; length = l′; width = w′; finetune = f′; «relative_note» = n′ })
-row-path p q r t u v = cc
+pub row-path : {a a′ b b′ l l′ w w′ k k′ s s′ o o′ : ℕ} {f f′ n n′ : ℤ} → a ≡ a′ → b ≡ b′ → l ≡ l′ → w ≡ w′ → k ≡ k′ → s ≡ s′ → o ≡ o′ → f ≡ f′ → n ≡ n′
+    → _≡_ {A = SampleRow} (record { «header_place» = a; «data_place» = b; length = l; width = w; «loop_kind» = k; «loop_start» = s; «loop_length» = o; finetune = f; «relative_note» = n })
+    (record { «header_place» = a′; «data_place» = b′; length = l′; width = w′; «loop_kind» = k′; «loop_start» = s′; «loop_length» = o′; finetune = f′; «relative_note» = n′ })
+row-path p q r t u v x y z = cc
+
+-- A count in samples is no more than that in bytes
+pub samples-few : (wide : Bool) (n : ℕ) → inSamples (cond wide 16 8) n ≤ n
+samples-few true n = omega arith
+samples-few false n = omega arith
 
 -- The next sample that is left of an instrument lies in the file, and so does what is behind it
 pub record SampleFits (file : List ℕ) (head size place : ℕ) : Type 0 where

@@ -17,6 +17,15 @@ module _ {A : Type 0} (out : List A) (to : ℕ) where
   three : to + 3 ≡ suc (suc (suc to))
   three = omega arith
 
+  four : to + 4 ≡ suc (suc (suc (suc to)))
+  four = omega arith
+
+  five : to + 5 ≡ suc (suc (suc (suc (suc to))))
+  five = omega arith
+
+  six : to + 6 ≡ suc (suc (suc (suc (suc (suc to)))))
+  six = omega arith
+
   pub stored-two : (a b : A) → to + 2 ≤ length out → set (set out to a) (to + 1) b ≡ lay out to (a ∷ b ∷ [])
   unfolding lay
   stored-two a b h = rw one (sets-eq (a ∷ b ∷ []) out to h ∙ append-assoc (take to out) (a ∷ b ∷ []) (drop (to + 2) out))
@@ -25,6 +34,9 @@ module _ {A : Type 0} (out : List A) (to : ℕ) where
   unfolding lay
   stored-three a b c h = rw (one, two) (sets-eq (a ∷ b ∷ c ∷ []) out to h ∙ append-assoc (take to out) (a ∷ b ∷ c ∷ []) (drop (to + 3) out))
 
-  pub stored-four : (a b c d : A) → to + 4 ≤ length out → set (set (set (set out to a) (to + 1) b) (to + 2) c) (to + 3) d ≡ lay out to (a ∷ b ∷ c ∷ d ∷ [])
+  pub stored-seven : (a b c d e f g : A) → to + 7 ≤ length out
+      → set (set (set (set (set (set (set out to a) (to + 1) b) (to + 2) c) (to + 3) d) (to + 4) e) (to + 5) f) (to + 6) g ≡ lay out to (a ∷ b ∷ c ∷ d ∷ e ∷ f ∷ g ∷ [])
   unfolding lay
-  stored-four a b c d h = rw (one, two, three) (sets-eq (a ∷ b ∷ c ∷ d ∷ []) out to h ∙ append-assoc (take to out) (a ∷ b ∷ c ∷ d ∷ []) (drop (to + 4) out))
+  stored-seven a b c d e f g h =
+      let all = a ∷ b ∷ c ∷ d ∷ e ∷ f ∷ g ∷ [] in
+      rw (one, two, three, four, five, six) (sets-eq all out to h ∙ append-assoc (take to out) all (drop (to + 7) out))

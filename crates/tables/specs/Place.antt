@@ -42,13 +42,16 @@ sampleRow r = record {
   «data_place» = r .dataPlace;
   length = r .size;
   width = r .width;
+  «loop_kind» = r .loopKind;
+  «loop_start» = r .loopStart;
+  «loop_length» = r .loopLength;
   finetune = r .finetune;
   «relative_note» = r .relativeNote;
 }
 
 -- and its numbers in the tables.
 abbrev pub numbersOf : SampleRow → List ℕ
-numbersOf r = r .«header_place» ∷ r .«data_place» ∷ r .length ∷ r .width ∷ []
+numbersOf r = r .«header_place» ∷ r .«data_place» ∷ r .length ∷ r .width ∷ r .«loop_kind» ∷ r .«loop_start» ∷ r .«loop_length» ∷ []
 
 abbrev pub tunesOf : SampleRow → List ℤ
 tunesOf r = r .finetune ∷ r .«relative_note» ∷ []

@@ -81,7 +81,8 @@ pub fn fill_instruments(file: &[u8], table: &mut [u32])
     }
 }
 
-// Samples, `count` in all: header place, data place, length in bytes, width; and apart, finetune and relative note.
+// Samples, `count` in all: header place, data place, length in bytes, width, loop kind, loop start, loop length; and apart, finetune and
+// relative note.
 pub fn fill_samples(file: &[u8], count: usize, table: &mut [u32], tunes: &mut [i8])
     requires { ⌜ count ≡ length (listIn sampleRows (readFile (now file))) ⌝ }
     requires { ⌜ length (joined sampleNumbers (listIn sampleRows (readFile (now file)))) ≤ length (now table) ⌝ }

@@ -22,7 +22,7 @@ ghost use Rattle.xm.specs.Got.{allPass};
 ghost use Rattle.walk.specs.File.{verdictOf};
 ghost use Rattle.tables.specs.Into.{lent, checkedInto, tablesThen, roomFor, roomTestsOf, patternsAfter, instrumentsAfter};
 
-// How many rows are lent for samples: four numbers to a row, and apart its two tunes. What is left of a last row that is not whole
+// How many rows are lent for samples: seven numbers to a row, and apart its two tunes. What is left of a last row that is not whole
 // counts for none.
 fn rows_lent(samples: usize, tunes: usize) -> usize
     ensures { λ r. ⌜ r ≡ min (samples / sampleStride) (tunes / tuneStride) ⌝ }
@@ -78,7 +78,7 @@ pub fn check_beside(
 }
 
 // The check of a file, which fills the three tables once nothing can be refused any more: three numbers to a pattern, three to an
-// instrument; of a sample four, and its two tunes apart.
+// instrument; of a sample seven, and its two tunes apart.
 pub fn check_into(
     file: &[u8],
     patterns: &mut [u32],

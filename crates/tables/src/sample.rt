@@ -3,14 +3,14 @@ use crate::place::first_instrument;
 use asking::SAMPLE_STRIDE;
 use steps::instrument::instrument_head;
 use steps::sample::data_size;
+use steps::sample::loops;
 use steps::sample::sample_head;
 ghost use mathlib.Core.Path.{_≡_};
-ghost use Prim.Native.Nat.{_+_, _*_, _<_, _≤_, _/_, _%_, _^_};
+ghost use Prim.Native.Nat.{_+_, _*_, _<_, _≤_, _^_};
 ghost use mathlib.Core.Bool.{cond};
-ghost use lib.Dec.{eqb};
 ghost use lib.ListN.{length, getD, drop};
 ghost use Rattle.xm.specs.Got.{listIn};
-ghost use Rattle.xm.specs.Sample.{leastHead, headBytes};
+ghost use Rattle.xm.specs.Sample.{leastHead, headBytes, wideBy, inSamples};
 ghost use Rattle.xm.specs.Module.{fileMost, readFile};
 ghost use Rattle.xm.specs.Lay.{lay};
 ghost use Rattle.xm.specs.Table.{sampleRowAt, sampleRows, sampleStride, tuneStride};
@@ -21,21 +21,39 @@ ghost use Rattle.tables.specs.Sought.{soughtFrom, Seeks};
 // Tunes to a row.
 pub const TUNE_STRIDE: usize = 2;
 
-// Header place, data place, length in bytes, width (8 or 16), finetune, relative note.
+// Header place, data place, length in bytes, width (8 or 16); loop kind (0 none, 1 forward, 2 both ways), loop start and loop length in
+// samples; finetune, relative note.
 pub struct SampleRow {
     pub header_place: u32,
     pub data_place: u32,
     pub length: u32,
     pub width: u32,
+    pub loop_kind: u32,
+    pub loop_start: u32,
+    pub loop_length: u32,
     pub finetune: i8,
     pub relative_note: i8,
 }
 
 // Bit 4 of the type means 16-bit.
 fn width_of(form: usize) -> u32
-    ensures { λ r. ⌜ r ≡ cond (eqb (form / 16 % 2) 1) 16 8 ⌝ }
+    ensures { λ r. ⌜ r ≡ cond (wideBy form) 16 8 ⌝ }
 {
     if form / 16 % 2 == 1 { 16 } else { 8 }
+}
+
+// So many bytes in samples: of 16 bits each takes two.
+fn in_samples(form: usize, bytes: usize) -> usize
+    ensures { λ r. ⌜ r ≡ inSamples (cond (wideBy form) 16 8) bytes ⌝ }
+{
+    if form / 16 % 2 == 1 { bytes / 2 } else { bytes }
+}
+
+// A number of a sample's loop: 0 if it doesn't loop.
+fn loop_number(looping: bool, number: u32) -> u32
+    ensures { λ r. ⌜ r ≡ cond looping number 0 ⌝ }
+{
+    if looping { number } else { 0 }
 }
 
 // The row of a sample, by its header and where its data begin.
@@ -46,11 +64,15 @@ fn sample_row(file: &[u8], head: usize, size: usize, data_place: usize) -> Sampl
     ensures { λ r. ⌜ r ≡ sampleRow (sampleRowAt head «data_place» (headBytes size (drop head (now (file .entry))))) ⌝ }
 {
     let sample = sample_head(file, head, size);
+    let looping = loops(sample.form, sample.loop_length);
     SampleRow {
         header_place: head as u32,
         data_place: data_place as u32,
         length: data_size(sample.kind, sample.length) as u32,
         width: width_of(sample.form),
+        loop_kind: loop_number(looping, (sample.form % 4) as u32),
+        loop_start: loop_number(looping, in_samples(sample.form, sample.loop_start) as u32),
+        loop_length: loop_number(looping, in_samples(sample.form, sample.loop_length) as u32),
         finetune: sample.finetune,
         relative_note: sample.relative_note,
     }
@@ -130,7 +152,7 @@ pub fn row_step(file: &[u8], from: Sought) -> RowStep
     }
 }
 
-// Stores the row of a sample: four numbers to a row, and apart its two tunes.
+// Stores the row of a sample: seven numbers to a row, and apart its two tunes.
 pub fn put_sample(samples: &mut [u32], tunes: &mut [i8], number: usize, row: SampleRow)
     requires { ⌜ sampleStride * number + sampleStride ≤ length (now samples) ⌝ }
     requires { ⌜ tuneStride * number + tuneStride ≤ length (now tunes) ⌝ }
@@ -142,6 +164,9 @@ pub fn put_sample(samples: &mut [u32], tunes: &mut [i8], number: usize, row: Sam
     samples[to + 1] = row.data_place;
     samples[to + 2] = row.length;
     samples[to + 3] = row.width;
+    samples[to + 4] = row.loop_kind;
+    samples[to + 5] = row.loop_start;
+    samples[to + 6] = row.loop_length;
     let at = TUNE_STRIDE * number;
     let finetune = row.finetune;
     let relative_note = row.relative_note;

@@ -5,7 +5,7 @@ use mathlib.Core.List.{List, [], _∷_, _++_, map}
 use mathlib.Core.Path.{_≡_, refl}
 use lib.Count.{ones, onesIn}
 use lib.IntN.{pos, negsuc}
-use lib.ListN.{length, replicate}
+use lib.ListN.{length, drop, replicate}
 use Rattle.xm.specs.Number.{wordAt, longAt, signed}
 use Rattle.xm.specs.Got.{Got, got, refused, _>>=_, _>>_, ensure, checked}
 use Rattle.xm.specs.Format.{Region, Kind, header, patternHeader, patternData, instrument, sampleHeader, sampleData}
@@ -14,7 +14,7 @@ use Rattle.xm.specs.Cell.{lengthBy, fieldsBy, cellAt, readCell, kept, ma
 use Rattle.xm.specs.Stored.{readCells, readStored, allZero, needsNoData, writeStored, cellsOf}
 use Rattle.xm.specs.Header.{restartInside, restartOf, readHeader, writeHeader}
 use Rattle.xm.specs.PatternInFile.{PatternFound, readPattern, writePattern}
-use Rattle.xm.specs.Sample.{Stretch, dataSize, readHead, readData}
+use Rattle.xm.specs.Sample.{Stretch, loopKind, loopFrom, loopCount, adpcm, dataSize, readHead, readData}
 use Rattle.xm.specs.Instrument.{InstrumentFound, readInstrument, writeVoice, writeInstrument, instrumentFormat}
 use Rattle.xm.specs.Module.{readWhole, plays}
 use Rattle.xm.specs.Packing.{unpacking, unpackNumbers, unpackAfter, packing, packNumbers, packLoader}
@@ -46,10 +46,14 @@ pub one-byte : numbersIn Stretch.bytes (readData (1 ∷ replicate 39 0) 0 (5 ∷
 unfolding readData dataSize _>>_ ensure checked longAt
 one-byte = refl
 
+-- A sample header by its length, loop start, loop length, type and kind
+abbrev sampleHead : (length start loop type kind : ℕ) → List ℕ
+sampleHead length start loop type kind = length ∷ replicate 3 0 ++ start ∷ replicate 3 0 ++ loop ∷ replicate 5 0 ++ type ∷ 0 ∷ 0 ∷ kind ∷ replicate 22 0
+
 -- Of kind AD: no values take no byte, one and two take 17, three take 18, and the row says so. Three values of the indexes 1, 2, 1 and a half that is
 -- not used; 160 is -96. At 8 bits the header is read, at 16 it is refused
 abbrev adpcmHead : (length type : ℕ) → List ℕ
-adpcmHead length type = length ∷ replicate 13 0 ++ type ∷ 0 ∷ 0 ∷ 0xAD ∷ replicate 22 0
+adpcmHead length type = sampleHead length 0 0 type adpcm
 
 pub adpcm-bytes : map (λ (n : ℕ). sampleRowAt 0 0 (adpcmHead n 0) .size) (0 ∷ 1 ∷ 2 ∷ 3 ∷ []) ≡ 0 ∷ 17 ∷ 17 ∷ 18 ∷ []
 unfolding dataSize longAt
@@ -62,6 +66,24 @@ adpcm-values = refl
 pub adpcm-heads : map (λ (type : ℕ). numbersIn Stretch.bytes (readHead 40 0 (adpcmHead 0 type))) (0 ∷ 16 ∷ []) ≡ (40 ∷ adpcmHead 0 0) ∷ [] ∷ []
 unfolding readHead _>>_ ensure checked longAt
 adpcm-heads = refl
+
+-- A row's bytes, width and loop. In samples: forward at 16 bits, from byte 2 for 4 bytes; both ways at 8 bits; in five values of kind AD. All 0:
+-- with a loop length of 0, and with loop bits of 0
+pub loop-columns : map (λ (head : List ℕ). drop 2 (sampleNumbers (sampleRowAt 0 0 head))) (sampleHead 8 2 4 17 0 ∷ sampleHead 8 2 4 2 0 ∷ sampleHead 5 2 3 1 adpcm ∷ sampleHead 8 2 0 1 0 ∷ sampleHead 8 2 4 16 0 ∷ [])
+    ≡ (8 ∷ 16 ∷ 1 ∷ 1 ∷ 2 ∷ []) ∷ (8 ∷ 8 ∷ 2 ∷ 2 ∷ 4 ∷ []) ∷ (19 ∷ 8 ∷ 1 ∷ 2 ∷ 3 ∷ []) ∷ (8 ∷ 8 ∷ 0 ∷ 0 ∷ 0 ∷ []) ∷ (8 ∷ 16 ∷ 0 ∷ 0 ∷ 0 ∷ []) ∷ []
+unfolding dataSize loopKind loopFrom loopCount longAt
+loop-columns = refl
+
+-- 13 of an odd loop start and of an odd loop length at 16 bits, and 12 before it; of both at 8 bits, and where nothing loops, it is read; and 13 of
+-- loop bits 3
+abbrev numberOf : {A : Type 0} → Got A → ℕ
+numberOf (got a n) = 0
+numberOf (refused r) = r .number
+
+pub odd-loops : map (λ (head : List ℕ). numberOf (readHead 40 0 head)) (sampleHead 8 1 2 17 0 ∷ sampleHead 8 2 3 18 0 ∷ sampleHead 8 1 3 17 adpcm ∷ sampleHead 8 1 3 1 0 ∷ sampleHead 8 1 3 16 0 ∷ sampleHead 8 1 0 17 0 ∷ sampleHead 8 2 4 3 0 ∷ [])
+    ≡ 13 ∷ 13 ∷ 12 ∷ 0 ∷ 0 ∷ 0 ∷ 13 ∷ []
+unfolding readHead _>>_ ensure checked longAt
+odd-loops = refl
 
 -- A step of 1 from 127 wraps; two values are two
 pub wraps : decoded 8 (127 ∷ 1 ∷ []) ≡ pos 127 ∷ negsuc 127 ∷ []
@@ -94,8 +116,8 @@ pub no-samples : (map Region.size (instrumentFormat .regions bare) ≡ 29 ∷ []
 no-samples = (refl, refl)
 
 -- One byte at 2 is asked for by the numbers of its row
-pub one-asked : askNumbers (askingFlat (7 ∷ 8 ∷ 9 ∷ []) (sampleNumbers (record { headerPlace = 0; dataPlace = 2; size = 1; width = 8; finetune = pos 0; relativeNote = pos 0 })) 0) ≡ 0 ∷ 0 ∷ 2 ∷ 1 ∷ []
-unfolding asking _>>_ ensure checked
+pub one-asked : askNumbers (askingFlat (7 ∷ 8 ∷ 9 ∷ []) (sampleNumbers (sampleRowAt 0 2 (sampleHead 1 0 0 0 0))) 0) ≡ 0 ∷ 0 ∷ 2 ∷ 1 ∷ []
+unfolding asking _>>_ ensure checked dataSize loopKind loopFrom loopCount longAt
 one-asked = refl
 
 -- Three kinds are handed over; of two sample headers one is left

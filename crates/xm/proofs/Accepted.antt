@@ -1,5 +1,6 @@
 -- What holds of every accepted file: regions, tables, rows, stretches, loops. Assumes nothing.
-use Prim.Native.Nat.{ℕ, zero, suc, _+_, _*_, _/_, _≤_, _<_}
+use Prim.Native.Nat.{ℕ, zero, suc, _+_, _*_, _/_, _%_, _≤_, _<_}
+use mathlib.Core.Bool.{Bool, true, false, cond}
 use mathlib.Core.List.{List, [], _∷_, _++_, map, append-assoc}
 use mathlib.Core.Path.{_≡_, refl, sym, ap, ap₂, _∙_, subst}
 use native.Mathlib.Nat.{zero-add, add-zero, mul-zero, mul-suc}
@@ -9,7 +10,7 @@ use lib.Seq.{drop-at, take-at, getD-append-add}
 use Rattle.xm.specs.Number.{byteAt, longAt, part}
 use Rattle.xm.specs.Format.{sampleHeader, sampleData, joined, EachGood, All}
 use Rattle.xm.specs.PatternInFile.{PatternFound, GoodStored, patternFormat}
-use Rattle.xm.specs.Sample.{leastHead, Stretch, dataSize}
+use Rattle.xm.specs.Sample.{leastHead, Stretch, lengthOf, loopStart, loopLength, loopBits, isWide, loops, loopKind, loopFrom, loopCount, dataSize}
 use Rattle.xm.specs.Instrument.{Instrument, InstrumentFound, instrumentView}
 use Rattle.xm.specs.Module.{Found, patternsFor, moduleFormat}
 use Rattle.xm.specs.Adpcm.{decodingBy, valuesOf}
@@ -18,7 +19,7 @@ use Rattle.xm.specs.Press.{contentOf}
 use Rattle.xm.specs.Answer.{gives}
 use Rattle.xm.specs.Region.{ofKind}
 use Rattle.xm.specs.Asking.{Lies, asking, stretchOf, askingFlat, askingRows, noRow, liesOf}
-use Rattle.xm.specs.Demands.{headsIn, bytesIn, RowUnpacks, RowsUnpack, FindsRows, HeadStands, HeadsStand, EachSample, RowReads, RowDecodes, liesAt, Asked, AsksExactly, LoopInside, AcceptedFile, AcceptedFiles}
+use Rattle.xm.specs.Demands.{headsIn, bytesIn, RowUnpacks, RowsUnpack, FindsRows, HeadStands, HeadsStand, EachSample, RowReads, LoopReads, RowLoops, RowDecodes, liesAt, Asked, AsksExactly, LoopInside, AcceptedFile, AcceptedFiles}
 use Rattle.xm.proofs.Number.{byte-part}
 use Rattle.xm.proofs.Got.{pass}
 use Rattle.xm.proofs.Answer.{answer-gives, answer-refuses, tests-fail}
@@ -88,13 +89,44 @@ row-reads : (h b : Stretch) → RowReads (sampleRow h b) (h .bytes) (b .bytes)
 unfolding dataSize
 row-reads h b = (refl, refl, refl, refl)
 
+-- A count of bytes that is even at 16 bits is a whole count of samples; and a loop inside a length is inside it in samples
+samples-whole : (loop wide : Bool) (n : ℕ) → (wide ≡ true → loop ≡ true → n % 2 ≡ 0) → cond loop (n / (cond wide 16 8 / 8)) 0 * (cond wide 16 8 / 8) ≡ cond loop n 0
+samples-whole true true n e = omega (arith, e refl refl)
+samples-whole true false n e = omega arith
+samples-whole false true n e = refl
+samples-whole false false n e = refl
+
+samples-inside : (loop wide : Bool) (start size n : ℕ) → (loop ≡ true → start + size ≤ n)
+    → cond loop (start / (cond wide 16 8 / 8)) 0 + cond loop (size / (cond wide 16 8 / 8)) 0 ≤ n / (cond wide 16 8 / 8)
+samples-inside true true start size n h = omega (arith, h refl)
+samples-inside true false start size n h = omega (arith, h refl)
+samples-inside false wide start size n h = omega arith
+
+-- Its loop is its header's
+row-loops : (file : List ℕ) (h b : Stretch) → HeadTold file h → RowLoops (sampleRow h b) (h .bytes) (b .bytes)
+unfolding loopKind loopFrom loopCount
+row-loops file h b t =
+    let head = h .bytes in (
+      refl,
+      few (loops head) (t .tests .1 .0),
+      samples-whole (loops head) (isWide head) (loopStart head) (t .tests .1 .1 .1 .1 .0),
+      samples-whole (loops head) (isWide head) (loopLength head) (t .tests .1 .1 .1 .1 .1 .0),
+    )
+  where
+    few : (l : Bool) → (loopBits (h .bytes) ≡ 3 → ⊥) → cond l (loopBits (h .bytes)) 0 ≤ 2
+    few true n = omega arith
+    few false n = omega arith
+
 -- Its stretch is the data, and decodes
 row-decodes : (file : List ℕ) (h b : Stretch) → HeadTold file h → DataTold file b → b .size ≡ dataSize (h .bytes) → RowDecodes file (sampleRow h b) (h .bytes) (b .bytes)
+unfolding loopFrom loopCount
 row-decodes file h b t d z =
-    let stretch : part (b .place) (dataSize (h .bytes)) file ≡ b .bytes = sym (d .bytes ∙ ap (λ (n : ℕ). part (b .place) n file) z) in (
+    let stretch : part (b .place) (dataSize (h .bytes)) file ≡ b .bytes = sym (d .bytes ∙ ap (λ (n : ℕ). part (b .place) n file) z) in
+    let counted = values-counted (h .bytes) (b .bytes) (d .long ∙ z) (t .tests) in (
       stretch,
       rw stretch (sample-decodes (h .bytes) (b .bytes) (d .long ∙ z) (t .tests)),
-      values-counted (h .bytes) (b .bytes) (d .long ∙ z) (t .tests),
+      counted,
+      rw counted (samples-inside (loops (h .bytes)) (isWide (h .bytes)) (loopStart (h .bytes)) (loopLength (h .bytes)) (lengthOf (h .bytes)) (t .tests .1 .1 .1 .0)),
     )
 
 -- An instrument's own rows stand where its row says
@@ -218,6 +250,7 @@ accepted-files file found end b e =
       rows-found = finds-rows file [] 0 (found .1 .1) refl (t .instruments);
       heads-stand = rw (heads-lie file found (t .instruments), joined-map _ instrumentView (found .1 .1)) (all-stand file (found .1 .1) (t .instruments));
       rows-read = content-samples file RowReads (λ h b t d z. row-reads h b) (found .1 .1) (t .instruments);
+      rows-loop = content-samples file RowLoops (λ h b t d z. row-loops file h b t) (found .1 .1) (t .instruments);
       rows-decode = decode;
       asked =
           asked-rows file (sampleRows found) _ _
@@ -255,6 +288,13 @@ module _ (file : List ℕ) (found : Found) (end : ℕ) (accepted : AcceptedFile 
       let places = accepted .tables .heads in
       stands-at file ls (headsIn (contentOf found)) number k (omega (arith, ap length places, length-map ls Lies.place, length-map (sampleRows found) SampleRow.headerPlace)) l (accepted .heads-stand)
       ∙ ap (λ (place : ℕ). byteAt (place + k) file) (ap (λ (all : List ℕ). getD all number 0) places ∙ List·getD-map SampleRow.headerPlace (sampleRows found) number noRow)
+
+  -- Its row has the header's loop, which lies within its values
+  pub loop-at : LoopReads headAt (row .width) (row .loopKind) (row .loopStart) (row .loopLength) × (row .loopStart + row .loopLength ≤ length (valuesOf headAt bytesAt))
+  loop-at = (
+    sample-at RowLoops (sampleRows found) (headsIn (contentOf found)) (bytesIn (contentOf found)) number low (accepted .rows-loop),
+    sample-at (RowDecodes file) (sampleRows found) (headsIn (contentOf found)) (bytesIn (contentOf found)) number low (accepted .rows-decode) .3,
+  )
 
   -- So its data decode by the kind and length that stand there
   pub decodes-at : (room : ℕ) → length (valuesOf headAt bytesAt) ≤ room

@@ -181,7 +181,7 @@ module _ (size place : ℕ) (s : List ℕ) (there : size ≤ length s) where
   never-later : Holds (when (isWide head) (unlike adpcm (kindOf head) (12 at place))) → readHead size place s ≡ refused (12 at place) → ⊥
   unfolding readHead
   never-later f e =
-      refused-passed _ _ (not-twelve, (not-twelve, (not-twelve, tt)))
+      refused-passed _ _ (not-twelve, (not-twelve, (not-twelve, (not-twelve, (not-twelve, tt)))))
       (sym (test-holds (present size (length s) (1 at place)) _ _ there ∙ test-holds (when (isWide head) (unlike adpcm (kindOf head) (12 at place))) _ _ f) ∙ e)
       (λ hs d. got-never d)
 

@@ -280,7 +280,7 @@ demand₂ = record {
   adpcm = adpcm-tells;
 }
 
--- The further claims: `fifteen` stands in Packing, `twelve-exactly` in Adpcm, `accepted-files` and `asks-exactly` in
+-- The further claims: `fifteen` stands in Packing, `twelve-exactly` in Adpcm, `thirteen-exactly` in Sample, `accepted-files` and `asks-exactly` in
 -- Accepted, `readers-tell` in Structure
 pub presses-whole : PressesWhole
 presses-whole content file f = record {

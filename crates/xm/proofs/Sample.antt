@@ -1,18 +1,42 @@
 -- Laws of sample headers and sample data. Assumes nothing.
 use Prim.Native.Nat.{ℕ, _+_, _≤_}
+use mathlib.Core.Bool.{true}
 use mathlib.Core.List.{List, [], _∷_, _++_}
-use mathlib.Core.Path.{_≡_, refl, sym, ap}
+use mathlib.Core.Logic.{_↔_}
+use mathlib.Core.Path.{_≡_, refl, sym, ap, _∙_}
 use native.Mathlib.Omega.{arith}
 use lib.ListN.{length, take, drop, replicate, length-append}
 use lib.Seq.{length-take-le, take-at}
 use Rattle.xm.specs.Number.{part}
-use Rattle.xm.specs.Got.{got, AllHold}
+use Rattle.xm.specs.Got.{got, refused, AllHold, present, unlike, when, _at_}
 use Rattle.xm.specs.Format.{each, All}
-use Rattle.xm.specs.Sample.{leastHead, dataSize, headTests, Stretch, readHead, headFormat, readData, dataFormat, SamplesFound, samplesFormat}
+use Rattle.xm.specs.Sample.{leastHead, headBytes, kindOf, isWide, adpcm, dataSize, headTests, Stretch, readHead, headFormat, readData, dataFormat, SamplesFound, samplesFormat}
 use Rattle.xm.specs.Region.{Adjoin}
+use Rattle.xm.specs.Demands.{NumbersFit, ThirteenExactly}
 use Rattle.xm.proofs.Number.{bytes-take, agree-take}
-use Rattle.xm.proofs.Got.{no-true, pass, passed, bind-got, got-by, got-value, got-carry}
+use Rattle.xm.proofs.Got.{no-true, got-never, test-holds, pass, passed, bind-got, got-by, got-value, got-carry}
+use Rattle.xm.proofs.Answer.{tests-fail}
 use Rattle.xm.proofs.Format.{Back, Keeps, Held, Adjoins, Firm, Tells, then-back, then-keeps, then-adjoins, then-firm, then-tells, each-back, each-keeps, each-adjoins, each-firm, each-tells, many-back, many-keeps, many-adjoins, many-firm, many-tells, all}
+
+-- 13, behind 12
+module _ (size place : ℕ) (s : List ℕ) (there : size ≤ length s) (narrow : isWide (headBytes size s) ≡ true → kindOf (headBytes size s) ≡ adpcm → ⊥) where
+  fits-pass : NumbersFit (headBytes size s) → AllHold (headTests place (headBytes size s))
+  fits-pass f = (narrow, (f .0, (f .1, (f .2, ((λ w l. f .3 w l .0), ((λ w l. f .3 w l .1), tt))))))
+
+  pass-fits : AllHold (headTests place (headBytes size s)) → NumbersFit (headBytes size s)
+  pass-fits t = (t .1 .0, t .1 .1 .0, t .1 .1 .1 .0, λ w l. (t .1 .1 .1 .1 .0 w l, t .1 .1 .1 .1 .1 .0 w l))
+
+  pub thirteen-so : (readHead size place s ≡ refused (13 at place)) ↔ (NumbersFit (headBytes size s) → ⊥)
+  unfolding readHead
+  thirteen-so = (
+    λ e f. got-never (sym (pass _ (there, fits-pass f) refl) ∙ e),
+    λ n.
+        test-holds (present size (length s) (1 at place)) _ _ there ∙ test-holds (when (isWide (headBytes size s)) (unlike adpcm (kindOf (headBytes size s)) (12 at place))) _ _ narrow
+        ∙ tests-fail _ _ (refl, (refl, (refl, (refl, (refl, tt))))) (λ t. n (pass-fits (narrow, t))),
+  )
+
+pub thirteen-exactly : ThirteenExactly
+thirteen-exactly = thirteen-so
 
 -- What is found of a stretch, at its place of the file
 pub record HeadTold (file : List ℕ) (i : Stretch) : Type 0 where

@@ -1,6 +1,6 @@
 -- The three demands, and the paper's further claims, as statements over these definitions. docs/PROMISES.md says where each is proved.
 -- `Demand₁`, `Demand₂`, `Demand₃`; then of packing `Fifteen` and `EmptyPatterns`; of pressing `PressesWhole` and `SameBytes`; of the check's
--- tables `TablesTell`; of a sample header `TwelveExactly`; of accepted files `AcceptedFiles`, `AsksExactly`, `RestIgnored`, `RestartsRead`,
+-- tables `TablesTell`; of a sample header `TwelveExactly` and `ThirteenExactly`; of accepted files `AcceptedFiles`, `AsksExactly`, `RestIgnored`, `RestartsRead`,
 -- `PlaysOrders`; of the small reader `ReadersTell`; of the loader `LoadersTell`.
 use Prim.Native.Nat.{ℕ, _+_, _*_, _/_, _%_, _^_, _≤_, _<_}
 use mathlib.Core.Bool.{true, cond}
@@ -19,7 +19,7 @@ use Rattle.xm.specs.Stored.{rowsMost, Pattern, emptyRows, readStored, wr
 use Rattle.xm.specs.Header.{songLengthAt, restartAt}
 use Rattle.xm.specs.PatternInFile.{dataMost, leastPattern, writePattern}
 use Rattle.xm.specs.Packing.{argumentTests, cellBytes, unpacking, unpackNumbers, unpackAfter, unpackLoader, patternOf, packing, packNumbers, packAfter, packLoader}
-use Rattle.xm.specs.Sample.{leastHead, headBytes, lengthOf, loopStart, loopLength, kindOf, isWide, loops, adpcm, deltaTable, adpcmSize, dataSizeBy, readHead}
+use Rattle.xm.specs.Sample.{leastHead, headBytes, lengthOf, loopStart, loopLength, kindOf, loopBits, isWide, loops, adpcm, deltaTable, adpcmSize, dataSizeBy, readHead}
 use Rattle.xm.specs.Instrument.{Instrument, InstrumentFound}
 use Rattle.xm.specs.Module.{Found, Content, moduleFormat, fileMost, readWhole, readFile, plays}
 use Rattle.xm.specs.Delta.{storedNumbers, decoding, coding, allFit, decodeNumbers, decodeAfter, codeNumbers, codeAfter, decodingLimited, decodeLoader, codingLimited, codeLoader}
@@ -284,7 +284,7 @@ EachSample P (row ∷ rows) (h ∷ hs) [] = ⊥
 EachSample P (row ∷ rows) (h ∷ hs) (b ∷ bs) = P row h b × EachSample P rows hs bs
 
 -- A sample row says what its header says; its stretch is the content's data, which decodes by the header's kind and length and at the row's
--- width, to as many values as that length has of that width.
+-- width, to as many values as that length has of that width; and its loop lies within these values.
 abbrev pub RowReads : SampleRow → (head bytes : List ℕ) → Type 0
 RowReads row head bytes =
     (row .size ≡ dataSizeBy (byteAt 17 head) (longAt 0 head))
@@ -292,11 +292,24 @@ RowReads row head bytes =
     × (row .finetune ≡ signed 8 (byteAt 13 head))
     × (row .relativeNote ≡ signed 8 (byteAt 16 head))
 
+-- A row's loop: "0 none, 1 forward, 2 both ways", and start and length in samples, of which none is cut; "a sample that doesn't loop has 0 in
+-- all three".
+abbrev pub LoopReads : (head : List ℕ) (width kind start length : ℕ) → Type 0
+LoopReads head width kind start length =
+    (kind ≡ cond (loops head) (byteAt 14 head % 4) 0)
+    × (kind ≤ 2)
+    × (start * (width / 8) ≡ cond (loops head) (longAt 4 head) 0)
+    × (length * (width / 8) ≡ cond (loops head) (longAt 8 head) 0)
+
+abbrev pub RowLoops : SampleRow → (head bytes : List ℕ) → Type 0
+RowLoops row head bytes = LoopReads head (row .width) (row .loopKind) (row .loopStart) (row .loopLength)
+
 abbrev pub RowDecodes : (file : List ℕ) → SampleRow → (head bytes : List ℕ) → Type 0
 RowDecodes file row head bytes =
     (part (row .dataPlace) (row .size) file ≡ bytes)
     × (decodingBy (byteAt 17 head) (longAt 0 head) (row .width) (part (row .dataPlace) (row .size) file) (length (valuesOf head bytes)) ≡ gives (valuesOf head bytes))
     × (length (valuesOf head bytes) ≡ longAt 0 head / (row .width / 8))
+    × (row .loopStart + row .loopLength ≤ length (valuesOf head bytes))
 
 -- A sample asked for by number, of the tables as the check leaves them, whatever stood in them beyond: the row's stretch, which holds the
 -- content's data.
@@ -320,6 +333,19 @@ abbrev pub TwelveExactly : Type 0
 TwelveExactly = (size place : ℕ) (s : List ℕ) → size ≤ length s
     → (readHead size place s ≡ refused (12 at place)) ↔ ((isWide (headBytes size s) ≡ true) × (kindOf (headBytes size s) ≡ adpcm))
 
+-- 13 then, of a header that is present and has no 12: exactly when its loop bits are 3, its 16-bit length is odd, its loop ends past its length, or
+-- it is "a looping 16-bit sample whose loop start or loop length is odd".
+abbrev pub NumbersFit : (head : List ℕ) → Type 0
+NumbersFit head =
+    (loopBits head ≡ 3 → ⊥)
+    × (isWide head ≡ true → lengthOf head % 2 ≡ 0)
+    × (loops head ≡ true → loopStart head + loopLength head ≤ lengthOf head)
+    × (isWide head ≡ true → loops head ≡ true → (loopStart head % 2 ≡ 0) × (loopLength head % 2 ≡ 0))
+
+abbrev pub ThirteenExactly : Type 0
+ThirteenExactly = (size place : ℕ) (s : List ℕ) → size ≤ length s → (isWide (headBytes size s) ≡ true → kindOf (headBytes size s) ≡ adpcm → ⊥)
+    → (readHead size place s ≡ refused (13 at place)) ↔ (NumbersFit (headBytes size s) → ⊥)
+
 -- "Adding loop start and loop length in 32 bits, where they wrap" is ruled out: of each sample of an accepted file that loops.
 abbrev pub LoopInside : List ℕ → Type 0
 LoopInside head = loops head ≡ true → loopStart head + loopLength head ≤ lengthOf head
@@ -332,6 +358,7 @@ pub record AcceptedFile (file : List ℕ) (found : Found) (end : ℕ) : Type 0 w
   pub rows-found : FindsRows (sampleRows found) (instrumentRows found) (found .1 .1)
   pub heads-stand : HeadsStand file (ofKind sampleHeader (moduleFormat .regions found)) (headsIn (contentOf found))
   pub rows-read : EachSample RowReads (sampleRows found) (headsIn (contentOf found)) (bytesIn (contentOf found))
+  pub rows-loop : EachSample RowLoops (sampleRows found) (headsIn (contentOf found)) (bytesIn (contentOf found))
   pub rows-decode : EachSample (RowDecodes file) (sampleRows found) (headsIn (contentOf found)) (bytesIn (contentOf found))
   pub asked : Asked file (sampleRows found) (bytesIn (contentOf found))
   pub loops-inside : All (λ (x : Instrument). All LoopInside (x .samples .0)) (contentOf found .1 .1)

@@ -44,15 +44,35 @@ kindOf head = byteAt 17 head
 abbrev pub loopBits : List ℕ → ℕ
 loopBits head = typeOf head % 4
 
+abbrev pub wideBy : (type : ℕ) → Bool
+wideBy type = eqb (type / 16 % 2) 1
+
 abbrev pub isWide : List ℕ → Bool
-isWide head = eqb (typeOf head / 16 % 2) 1
+isWide head = wideBy (typeOf head)
 
 abbrev pub widthOf : List ℕ → ℕ
 widthOf head = cond (isWide head) 16 8
 
 -- "A sample loops only if its loop length is above 0 and bits 0 and 1 are not 0."
+abbrev pub loopsBy : (type loopLength : ℕ) → Bool
+loopsBy type loopLength = ltb 0 loopLength && not (eqb (type % 4) 0)
+
 abbrev pub loops : List ℕ → Bool
-loops head = ltb 0 (loopLength head) && not (eqb (loopBits head) 0)
+loops head = loopsBy (typeOf head) (loopLength head)
+
+-- A count of bytes "counted in samples and not bytes"
+abbrev pub inSamples : (width bytes : ℕ) → ℕ
+inSamples width bytes = bytes / (width / 8)
+
+-- A row's "loop kind (0 none, 1 forward, 2 both ways), loop start and loop length .. a sample that doesn't loop has 0 in all three"
+unfoldable pub loopKind : List ℕ → ℕ
+loopKind head = cond (loops head) (loopBits head) 0
+
+unfoldable pub loopFrom : List ℕ → ℕ
+loopFrom head = cond (loops head) (inSamples (widthOf head) (loopStart head)) 0
+
+unfoldable pub loopCount : List ℕ → ℕ
+loopCount head = cond (loops head) (inSamples (widthOf head) (loopLength head)) 0
 
 -- "Kind AD": ADPCM
 abbrev pub adpcm : ℕ
@@ -77,13 +97,16 @@ unfoldable pub dataSize : List ℕ → ℕ
 dataSize head = dataSizeBy (kindOf head) (lengthOf head)
 
 -- "each header's 12 then 13"; "12 now means kind AD with the 16-bit bit set"; 13: "loop bits are 3; 16-bit length odd; or a looping sample's
--- start + loop length above its length"
+-- start + loop length above its length", and "also .. a looping 16-bit sample whose loop start or loop length is odd, tried after its other
+-- causes"
 abbrev pub headTests : (place : ℕ) → List ℕ → List Test
 headTests place head =
     when (isWide head) (unlike adpcm (kindOf head) (12 at place))
     ∷ unlike 3 (loopBits head) (13 at place)
     ∷ when (isWide head) (even (lengthOf head) (13 at place))
     ∷ when (loops head) (atMost (lengthOf head) (loopStart head + loopLength head) (13 at place))
+    ∷ when (isWide head) (when (loops head) (even (loopStart head) (13 at place)))
+    ∷ when (isWide head) (when (loops head) (even (loopLength head) (13 at place)))
     ∷ []
 
 -- A stretch of the file, and what stands in it.

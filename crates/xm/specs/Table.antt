@@ -8,7 +8,7 @@ use Rattle.xm.specs.Got.{got, _>>=_, _>>_, Test, checked, present, _at_}
 use Rattle.xm.specs.Format.{joined}
 use Rattle.xm.specs.Answer.{Answer, gives, refuses, answered, numbers, inFront, after, loaderNumber}
 use Rattle.xm.specs.PatternInFile.{PatternFound}
-use Rattle.xm.specs.Sample.{Stretch, dataSize, widthOf, finetune, relativeNote}
+use Rattle.xm.specs.Sample.{Stretch, dataSize, widthOf, loopKind, loopFrom, loopCount, finetune, relativeNote}
 use Rattle.xm.specs.Instrument.{InstrumentFound}
 use Rattle.xm.specs.Module.{Found, readFile}
 
@@ -41,12 +41,16 @@ instrumentRowsFrom first (i ∷ is) =
 abbrev pub instrumentRows : Found → List InstrumentRow
 instrumentRows found = instrumentRowsFrom 0 (found .1 .1)
 
--- "samples": "header place, data place, length in bytes, width (8 or 16), finetune, relative note"
+-- "samples": "header place, data place, length in bytes, width (8 or 16), finetune, relative note"; "Each sample row gains loop kind .., loop
+-- start and loop length"
 pub record SampleRow : Type 0 where
   pub headerPlace : ℕ
   pub dataPlace : ℕ
   pub size : ℕ
   pub width : ℕ
+  pub loopKind : ℕ
+  pub loopStart : ℕ
+  pub loopLength : ℕ
   pub finetune : ℤ
   pub relativeNote : ℤ
 
@@ -57,6 +61,9 @@ sampleRowAt headerPlace dataPlace head = record {
   dataPlace = dataPlace;
   size = dataSize head;
   width = widthOf head;
+  loopKind = loopKind head;
+  loopStart = loopFrom head;
+  loopLength = loopCount head;
   finetune = finetune head;
   relativeNote = relativeNote head;
 }
@@ -103,7 +110,7 @@ checkNumbers file = numbers checkResults (checking file)
 abbrev pub checkLoader : (file : List ℕ) → ℕ
 checkLoader file = loaderNumber Checked.end (checking file)
 
--- The tables "over flat numbers": three numbers to a pattern, three to an instrument; of a sample four, and its two tunes apart.
+-- The tables "over flat numbers": three numbers to a pattern, three to an instrument; of a sample seven, and its two tunes apart.
 abbrev pub patternStride : ℕ
 patternStride = 3
 
@@ -111,7 +118,7 @@ abbrev pub instrumentStride : ℕ
 instrumentStride = 3
 
 abbrev pub sampleStride : ℕ
-sampleStride = 4
+sampleStride = 7
 
 abbrev pub tuneStride : ℕ
 tuneStride = 2
@@ -123,7 +130,7 @@ abbrev pub instrumentNumbers : InstrumentRow → List ℕ
 instrumentNumbers r = r .place ∷ r .samples ∷ r .first ∷ []
 
 abbrev pub sampleNumbers : SampleRow → List ℕ
-sampleNumbers r = r .headerPlace ∷ r .dataPlace ∷ r .size ∷ r .width ∷ []
+sampleNumbers r = r .headerPlace ∷ r .dataPlace ∷ r .size ∷ r .width ∷ r .loopKind ∷ r .loopStart ∷ r .loopLength ∷ []
 
 abbrev pub sampleTunes : SampleRow → List ℤ
 sampleTunes r = r .finetune ∷ r .relativeNote ∷ []

@@ -2,6 +2,7 @@
 use Prim.Native.Nat.{_+_, _*_}
 use mathlib.Core.Path.{ap, _∙_}
 use native.Mathlib.Omega.{arith}
+use Rattle.xm.specs.Table.{sampleStride}
 use Rattle.asking.specs.Ask.{askedOf}
 use Rattle.asking.proofs.Ask.{ask-beyond}
 use borrow.Author.Needs.{needs}
@@ -21,7 +22,7 @@ shared-slice-read-t13 : tie.Need-shared-slice-read-t13
 shared-slice-read-t13 c = search needs
 
 cast-t14 : tie.Need-cast-t14
-cast-t14 c = omega (arith, c .shared-slice-known3 .given (4 * c .before .before .before .before .args .number + 1))
+cast-t14 c = omega (arith, c .shared-slice-known3 .given (sampleStride * c .before .before .before .before .args .number + 1))
 
 add-t15 : tie.Need-add-t15
 add-t15 c = search needs
@@ -33,7 +34,7 @@ shared-slice-read-t18 : tie.Need-shared-slice-read-t18
 shared-slice-read-t18 c = search needs
 
 cast-t19 : tie.Need-cast-t19
-cast-t19 c = omega (arith, c .shared-slice-known4 .given (4 * c .before .before .before .before .before .args .number + 2))
+cast-t19 c = omega (arith, c .shared-slice-known4 .given (sampleStride * c .before .before .before .before .before .args .number + 2))
 
 ask-row-requires : tie.Need-ask-row-requires
 ask-row-requires c κs = search needs

@@ -247,7 +247,7 @@ module _ {M : Type 1} (𝓤 : URA M) (H : Heap 𝓤) (A : Atoms 𝓤) (W : Given
     unfolding afterTurn
     turns x (yes small) =
         let within : x .done < length (zs (x .done)) = omega (arith, same-length (x .done) (x .most)) in
-        let at-fits : x .done * 20 < 2 ^ 64 = omega (arith, room .1) in
+        let at-fits : x .done * 32 < 2 ^ 64 = omega (arith, room .1) in
         let next-fits : x .done + 1 < 2 ^ 64 = omega arith in
         -- [the row; _5; _6; _7; _8; _9; _4; _1; _2; _3; _0; the open borrow; obs; auth; the file; its token; …]
         assigns ! (bin ! (load ! (from ! (stop !)) (look ! 1 refl)) (load ! (from ! (stop !)) (look ! 9 refl)) tt) (from ! (stop !)) (init ! 3 refl (tt, tt)) $
@@ -264,7 +264,7 @@ module _ {M : Type 1} (𝓤 : URA M) (H : Heap 𝓤) (A : Atoms 𝓤) (W : Given
         rewrite ! 5 (λ (y : Val). ‵ (fat fullShare R′.mir l₆ 0 y)) (ap only (LL.tells R.the-type R′.the-laws r _ is)) refl $
         assigns ! (bin ! (load ! (from ! (stop !)) (look ! 4 refl)) (lit ! tt) (record { fits = at-fits })) (from ! (stop !)) (init ! 7 refl (tt, record { fits = at-fits })) $
         assigns ! (bin ! (load ! (from ! (fld ! refl (stop !))) (look-in ! 11 (sub ! 0 refl (whole !)))) (load ! (from ! (stop !)) (look ! 7 refl)) tt) (from ! (stop !)) (init ! 8 refl (tt, tt)) $
-        rewrite ! 8 (λ (p : ℕ). ‵ (fat fullShare tyPtr l₉ 0 (vptr b p))) (sym (place-is 20 o (x .done))) refl $
+        rewrite ! 8 (λ (p : ℕ). ‵ (fat fullShare tyPtr l₉ 0 (vptr b p))) (sym (place-is 32 o (x .done))) refl $
         move ! (3 ∷ []) $ elem-out ! T.the-row (Is T.the-row) (shows 𝓤 H A T.the-row) (LL.vals T.the-type T′.the-laws) (LL.tells T.the-type T′.the-laws) fullShare (zs (x .done)) (x .done) noRecord b o within (λ _.
         -- [rows[i]; what it owns; the others; what the step owns; the token; the file; _5; _6; _7; _8; _9; _4; …]
         assigns ! (of-opd ! (load ! (from ! (fld ! refl (stop !))) (look-in ! 7 (sub ! 0 refl (whole !))))) (from ! (hop ! (look ! 10 refl) (stop !))) (store-raw ! 0 refl (LL.lawful T.the-type T′.the-laws 𝓤 H A W .typed (r .row) _ (LL.owed R.the-type R′.the-laws r _ is .0) .0)) $

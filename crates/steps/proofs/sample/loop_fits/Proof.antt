@@ -1,10 +1,7 @@
 -- `steps::sample::loop_fits` meets its contract: a sample that does not loop passes, and one that loops by where its loop ends. Assumes nothing.
-use mathlib.Core.Bool.{true, _&&_, not, and-false}
-use mathlib.Core.Path.{_≡_, sym}
-use Prim.Native.Nat.{_%_}
+use mathlib.Core.Path.{sym, _∙_}
 use native.Mathlib.Omega.{arith}
-use lib.Dec.{ltb, eqb}
-use borrow.Author.Tests.{lt-ltb, le-ltb, eq-eqb, ne-eqb}
+use borrow.Author.Tests.{not-true, not-false}
 use Rattle.xm.proofs.Got.{holds-passes}
 use Rattle.steps.specs.Sample.{loopTest}
 use Rattle.steps.proofs.Tests.{not-passes}
@@ -12,23 +9,19 @@ use borrow.Author.Needs.{needs}
 use Rattle.steps.proofs.sample.loop_fits.Statement.{statement}
 use Rattle.steps.proofs.sample.loop_fits.Tie as tie
 
-returns-3 : tie.Need-returns-3
-returns-3 c =
+returns : tie.Need-returns
+returns c = rw (sym (c .before .loops .ensures) ∙ not-true _ (c .if1 .taken))
+
+returns-2 : tie.Need-returns-2
+returns-2 c =
     let a = c .before .before .before .args in
-    let loops : (ltb 0 (a .looped) && not (eqb (a .form % 4) 0)) ≡ true = rw (lt-ltb 0 (a .looped) (omega arith), ne-eqb _ _ (c .before .if2 .left)) in
+    let loops = sym (c .before .before .loops .ensures) ∙ not-false _ (c .before .if1 .left) in
     sym (not-passes (loopTest (a .form) (a .length) (a .start) (a .looped) 0) (λ h. omega (arith, h loops)))
 
-returns-4 : tie.Need-returns-4
-returns-4 c =
+returns-3 : tie.Need-returns-3
+returns-3 c =
     let a = c .before .before .before .args in
     sym (holds-passes (loopTest (a .form) (a .length) (a .start) (a .looped) 0) (λ loops. omega arith))
 
 pub loop-fits-spec : {M : Type 1} → statement M
-loop-fits-spec =
-    tie.close
-    (tie.spec
-    (λ c. rw (le-ltb 0 (c .before .args .looped) (omega arith)))
-    (λ c. rw (eq-eqb _ _ (c .if2 .taken), and-false))
-    (search needs)
-    returns-3
-    returns-4)
+loop-fits-spec = tie.close (tie.spec (λ c κs. search needs) returns (search needs) returns-2 returns-3)

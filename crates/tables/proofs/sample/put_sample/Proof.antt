@@ -7,7 +7,7 @@ use lib.ListN.{set, length-set}
 use Rattle.xm.specs.Table.{tuneStride}
 use mir.Syntax.{w8}
 use mir.Facts.{toZ-ofZ}
-use Rattle.tables.proofs.Stores.{stored-two, stored-four}
+use Rattle.tables.proofs.Stores.{stored-two, stored-seven}
 use borrow.Author.Needs.{needs}
 use Rattle.tables.proofs.sample.put_sample.Statement.{statement}
 use Rattle.tables.proofs.sample.put_sample.Tie as tie
@@ -48,6 +48,33 @@ mul-samples-4 c = search needs
 slice-write-samples-4 : tie.Need-slice-write-samples-4
 slice-write-samples-4 c = simp length-set (omega arith)
 
+add-samples-4 : tie.Need-add-samples-4
+add-samples-4 c = search needs
+
+mul-samples-5 : tie.Need-mul-samples-5
+mul-samples-5 c = search needs
+
+slice-write-samples-5 : tie.Need-slice-write-samples-5
+slice-write-samples-5 c = simp length-set (omega arith)
+
+add-samples-5 : tie.Need-add-samples-5
+add-samples-5 c = search needs
+
+mul-samples-6 : tie.Need-mul-samples-6
+mul-samples-6 c = search needs
+
+slice-write-samples-6 : tie.Need-slice-write-samples-6
+slice-write-samples-6 c = simp length-set (omega arith)
+
+add-samples-6 : tie.Need-add-samples-6
+add-samples-6 c = search needs
+
+mul-samples-7 : tie.Need-mul-samples-7
+mul-samples-7 c = search needs
+
+slice-write-samples-7 : tie.Need-slice-write-samples-7
+slice-write-samples-7 c = simp length-set (omega arith)
+
 mul-at : tie.Need-mul-at
 mul-at c = search needs
 
@@ -61,18 +88,18 @@ slice-set-from-relative-note : tie.Need-slice-set-from-relative-note
 slice-set-from-relative-note c = simp length-set (omega arith)
 
 same-length : tie.Need-same-length
-same-length c = search needs
+same-length c = search needs depth 9
 
 same-length-2 : tie.Need-same-length-2
-same-length-2 c = search needs
+same-length-2 c = search needs depth 9
 
 returns : tie.Need-returns
 returns c =
     let a = c .before .before .args in
     let p = c .before .before .pre in
-    let fine = toZ-ofZ {w = w8} {z = a .row .finetune} (record { sfits = c .before .struct-told .given .1 .1 .1 .1 .0 .1 }) in
-    let note = toZ-ofZ {w = w8} {z = a .row .«relative_note»} (record { sfits = c .struct-told2 .given .1 .1 .1 .1 .1 .0 .1 }) in (
-      stored-four _ _ _ _ _ _ (p .0),
+    let fine = toZ-ofZ {w = w8} {z = a .row .finetune} (record { sfits = c .before .struct-told .given .1 .1 .1 .1 .1 .1 .1 .0 .1 }) in
+    let note = toZ-ofZ {w = w8} {z = a .row .«relative_note»} (record { sfits = c .struct-told2 .given .1 .1 .1 .1 .1 .1 .1 .1 .0 .1 }) in (
+      stored-seven _ _ _ _ _ _ _ _ _ (p .0),
       ap₂ (λ (x y : ℤ). set (set (a .tunes .now) (tuneStride * a .number) x) (tuneStride * a .number + 1) y) fine note ∙ stored-two _ _ _ _ (p .1),
     )
 
@@ -92,6 +119,15 @@ put-sample-spec =
     add-samples-3
     mul-samples-4
     slice-write-samples-4
+    add-samples-4
+    mul-samples-5
+    slice-write-samples-5
+    add-samples-5
+    mul-samples-6
+    slice-write-samples-6
+    add-samples-6
+    mul-samples-7
+    slice-write-samples-7
     mul-at
     slice-set-from-finetune
     add-relative-note
