@@ -403,7 +403,6 @@ cell-keeps = record {
       got-carry (λ (c : List ℕ) (u : ℕ). Held cellFormat tt place s c u) e
       (record {
         inside = h .0;
-        roomy = tt;
         good = record { size = cell-length s; plain = cell-bytes s b };
         short = write-short s;
       });

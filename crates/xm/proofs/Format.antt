@@ -1,6 +1,5 @@
 -- The laws of a format, and that formats put together keep them. Assumes nothing.
 use Prim.Native.Nat.{ℕ, zero, suc, _+_, _*_, _≤_}
-use mathlib.Core.Bool.{true}
 use mathlib.Core.List.{List, [], _∷_, _++_, append-assoc}
 use mathlib.Core.Path.{_≡_, refl, sym, ap, ap₂, _∙_}
 use native.Mathlib.Nat.{add-assoc, add-zero, mul-zero, mul-suc, add-comm}
@@ -10,7 +9,6 @@ use lib.Seq.{drop-append-seam, drop-drop}
 use Rattle.xm.specs.Number.{Bytes}
 use Rattle.xm.specs.Got.{got, _>>=_}
 use Rattle.xm.specs.Format.{Region, Format, joined, flat, over, then, each, eachRead, EachGood, All}
-use Rattle.xm.specs.Structure.{isStructure}
 use Rattle.xm.specs.Region.{Adjoin}
 use Rattle.xm.proofs.Number.{bytes-drop, bytes-nil, bytes-append, Agree, agree-fewer, agree-drop}
 use Rattle.xm.proofs.Got.{step, bind-got, got-carry}
@@ -32,10 +30,6 @@ joined-length k f h (x ∷ xs) = length-append (f x) (joined f xs) ∙ ap₂ _+_
 pub flat-append : {A : Type 0} (xss yss : List (List A)) → flat (xss ++ yss) ≡ flat xss ++ flat yss
 flat-append xss yss = joined-append (λ xs. xs) xss yss
 
--- A region that is a structure has a byte, so that no two structures begin at one place
-abbrev pub Roomy : Region → Type 0
-Roomy r = isStructure (r .kind) ≡ true → 1 ≤ r .size
-
 pub all-append : {A : Type 0} (P : A → Type 0) (xs ys : List A) → All P xs → All P ys → All P (xs ++ ys)
 all-append P [] ys p q = q
 all-append P (x ∷ xs) ys p q = (p .0, all-append P xs ys (p .1) q)
@@ -53,7 +47,6 @@ pub record Back {H I A : Type 0} (F : Format H I A) (h : H) : Type 0 where
 -- What is read lies inside the bytes; it is good content, and is written in no more bytes than were used
 pub record Held {H I A : Type 0} (F : Format H I A) (h : H) (place : ℕ) (s : List ℕ) (i : I) (n : ℕ) : Type 0 where
   pub inside : n ≤ length s
-  pub roomy : All Roomy (F .regions i)
   pub good : F .Good h (F .view i)
   pub short : length (F .write (F .view i)) ≤ n
 
@@ -86,7 +79,7 @@ module _ {H K I A : Type 0} (f : K → H) {F : Format H I A} where
 
   pub over-keeps : (k : K) → Keeps F (f k) → Keeps (over f F) k
   over-keeps k b = record {
-    keeps = λ place s i n p e. let r = b .keeps place s i n p e in record { inside = r .inside; roomy = r .roomy; good = r .good; short = r .short };
+    keeps = λ place s i n p e. let r = b .keeps place s i n p e in record { inside = r .inside; good = r .good; short = r .short };
   }
 
   pub over-adjoins : (k : K) → Adjoins F (f k) → Adjoins (over f F) k
@@ -123,7 +116,6 @@ module _ {H I A K J B : Type 0} (next : H → A → K) {F : Format H I A} {G : F
         got-carry (λ (r : I × J) (t : ℕ). Held (then F next G) h place s r t) e₂
         (record {
           inside = omega (arith, w .inside, z .inside, length-drop k s);
-          roomy = all-append Roomy (F .regions i) (G .regions j) (w .roomy) (z .roomy);
           good = (w .good, z .good);
           short = rw length-append (omega (arith, w .short, z .short));
         });
@@ -203,7 +195,7 @@ module _ {H I A : Type 0} (F : Format H I A) where
   each-held : (hs : List H) → All (Keeps F) hs → (place : ℕ) (s : List ℕ) (is : List I) (n : ℕ) → Bytes s → eachRead F hs place s ≡ got is n
       → Held (each F) hs place s is n
   each-held [] b place s is n p e =
-      got-carry (λ (r : List I) (t : ℕ). Held (each F) [] place s r t) e (record { inside = omega arith; roomy = tt; good = tt; short = omega arith })
+      got-carry (λ (r : List I) (t : ℕ). Held (each F) [] place s r t) e (record { inside = omega arith; good = tt; short = omega arith })
   each-held (h ∷ hs) b place s is n p e =
       bind-got (F .read h place s) _ e λ i k ei e₁. bind-got (eachRead F hs (place + k) (drop k s)) _ e₁ λ js m ej e₂.
       let w = b .0 .keeps place s i k p ei in
@@ -211,7 +203,6 @@ module _ {H I A : Type 0} (F : Format H I A) where
       got-carry (λ (r : List I) (t : ℕ). Held (each F) (h ∷ hs) place s r t) e₂
       (record {
         inside = omega (arith, w .inside, z .inside, length-drop k s);
-        roomy = all-append Roomy (F .regions i) (joined (F .regions) js) (w .roomy) (z .roomy);
         good = (w .good, z .good);
         short = rw length-append (omega (arith, w .short, z .short));
       })

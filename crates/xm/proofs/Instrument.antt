@@ -253,7 +253,6 @@ instrument-keeps = record {
       got-carry (λ (r : InstrumentFound) (t : ℕ). Held instrumentFormat tt place s r t) e
       (record {
         inside = omega (arith, w .inside, length-drop I s, h .1 .1 .1 .1 .0);
-        roomy = (λ q. omega (arith, h .1 .0), w .roomy);
         good = g;
         short = omega (arith, instrument-size _ g 0 [], w .short);
       });

@@ -4,6 +4,7 @@ pub mod Got
 pub mod Answer
 pub mod Format
 pub mod Field
+pub mod Cut
 pub mod Cell
 pub mod Stored
 pub mod Short

@@ -14,7 +14,7 @@ use Rattle.xm.specs.Sample.{leastHead, headBytes, kindOf, isWide, adpcm,
 use Rattle.xm.specs.Region.{Adjoin}
 use Rattle.xm.specs.Demands.{NumbersFit, ThirteenExactly}
 use Rattle.xm.proofs.Number.{bytes-take, agree-take}
-use Rattle.xm.proofs.Got.{no-true, got-never, test-holds, pass, passed, bind-got, got-by, got-value, got-carry}
+use Rattle.xm.proofs.Got.{got-never, test-holds, pass, passed, bind-got, got-by, got-value, got-carry}
 use Rattle.xm.proofs.Answer.{tests-fail}
 use Rattle.xm.proofs.Format.{Back, Keeps, Held, Adjoins, Firm, Tells, then-back, then-keeps, then-adjoins, then-firm, then-tells, each-back, each-keeps, each-adjoins, each-firm, each-tells, many-back, many-keeps, many-adjoins, many-firm, many-tells, all}
 
@@ -68,7 +68,7 @@ head-keeps size l = record {
       passed _ _ e λ h e.
       let z : length (take leastHead s) ≡ leastHead = length-take-le leastHead s (omega (arith, h .0)) in
       got-carry (λ (r : Stretch) (t : ℕ). Held headFormat size place s r t) e
-      (record { inside = h .0; roomy = (λ q. omega arith, tt); good = record { size = z; plain = bytes-take leastHead b; tests = h .1 }; short = omega arith });
+      (record { inside = h .0; good = record { size = z; plain = bytes-take leastHead b; tests = h .1 }; short = omega arith });
 }
 
 pub head-adjoins : (size : ℕ) → Adjoins headFormat size
@@ -114,7 +114,7 @@ data-keeps head = record {
       passed _ _ e λ h e.
       let z : length (take (dataSize head) s) ≡ dataSize head = length-take-le (dataSize head) s (h .0) in
       got-carry (λ (r : Stretch) (t : ℕ). Held dataFormat head place s r t) e
-      (record { inside = h .0; roomy = (λ q. absurd (no-true q), tt); good = record { size = z; plain = bytes-take (dataSize head) b }; short = omega arith });
+      (record { inside = h .0; good = record { size = z; plain = bytes-take (dataSize head) b }; short = omega arith });
 }
 
 pub data-adjoins : (head : List ℕ) → Adjoins dataFormat head

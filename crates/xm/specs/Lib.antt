@@ -1,4 +1,5 @@
 pub mod Number
+pub mod ModuleKind
 pub mod Got
 pub mod Format
 pub mod Answer
