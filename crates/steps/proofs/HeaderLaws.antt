@@ -8,12 +8,12 @@ use Rattle.xm.specs.Header.{channelsAt, patternsAt, instrumentsAt, HeaderFound,
 use Rattle.xm.proofs.Got.{pass}
 use Rattle.refusal.specs.Fault.{refusalIn}
 use Rattle.refusal.specs.declared.Fault.{Fault}
-use Rattle.steps.specs.Test.{firstFault}
+use Rattle.refusal.specs.Test.{firstFault}
 use Rattle.steps.specs.Step.{headerPart, headerStep, headerFault}
 use Rattle.steps.specs.declared.header.HeaderPart.{HeaderPart}
 use Rattle.steps.specs.declared.header.HeaderStep.{HeaderStep}
 use Rattle.steps.specs.declared.header.HeaderStep.the-variants.{Refused}
-use Rattle.steps.proofs.Tests.{fault-holds, fault-refuses}
+use Rattle.refusal.proofs.Tests.{fault-holds, fault-refuses}
 
 -- The counts and the start, one by one
 pub record PartOf (file : List ℕ) (part : HeaderPart) : Type 0 where

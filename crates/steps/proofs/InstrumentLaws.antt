@@ -17,13 +17,13 @@ use Rattle.refusal.specs.Fault.{refusalIn, placeStep}
 use Rattle.refusal.specs.declared.Fault.{Fault}
 use Rattle.refusal.specs.declared.Step.the-variants.{Next}
 use Rattle.refusal.proofs.Steps.{next-got}
-use Rattle.steps.specs.Test.{firstFault}
+use Rattle.refusal.specs.Test.{firstFault}
 use Rattle.steps.specs.Step.{headSizeOf, instrumentHead, instrumentStep, instrumentFault}
 use Rattle.steps.specs.declared.instrument.InstrumentHead.{InstrumentHead}
 use Rattle.steps.specs.declared.instrument.InstrumentStep.{InstrumentStep}
 use Rattle.steps.specs.declared.instrument.InstrumentStep.the-variants.{Read, Refused}
-use Rattle.steps.proofs.Tests.{fault-holds, fault-refuses}
-use Rattle.steps.proofs.SampleLaws.{samples-size}
+use Rattle.refusal.proofs.Tests.{fault-holds, fault-refuses}
+use Rattle.heads.proofs.SampleLaws.{samples-size}
 
 pub least-some : (count : ℕ) → (count ≡ 0 → ⊥) → 263 ≡ leastInstrument count
 least-some zero h = absurd (h refl)

@@ -21,12 +21,12 @@ use Rattle.measure.specs.Measure.{storedOf}
 use Rattle.measure.specs.declared.StoredSize.{StoredSize}
 use Rattle.measure.specs.declared.StoredStep.{StoredStep}
 use Rattle.measure.specs.declared.StoredStep.the-variants as stored
-use Rattle.steps.specs.Test.{firstFault}
+use Rattle.refusal.specs.Test.{firstFault}
 use Rattle.steps.specs.Step.{patternHead, patternStep, patternFault, storedFault, faultFrom}
 use Rattle.steps.specs.declared.pattern.PatternHead.{PatternHead}
 use Rattle.steps.specs.declared.pattern.PatternStep.{PatternStep}
 use Rattle.steps.specs.declared.pattern.PatternStep.the-variants.{Read, Refused}
-use Rattle.steps.proofs.Tests.{fault-holds, fault-refuses}
+use Rattle.refusal.proofs.Tests.{fault-holds, fault-refuses}
 
 -- What its header tells, by its fields
 pub head-path : {place place′ size size′ rows rows′ : ℕ} → place ≡ place′ → size ≡ size′ → rows ≡ rows′

@@ -1,3 +1,1 @@
-pub mod Test
-pub mod Sample
 pub mod Step

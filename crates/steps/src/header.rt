@@ -9,7 +9,7 @@ ghost use Prim.Native.Nat.{_≤_};
 ghost use lib.ListN.{length};
 ghost use Rattle.xm.specs.Header.{ordersFrom, readHeader, countTests, headerTests};
 ghost use Rattle.xm.specs.Got.{allPass};
-ghost use Rattle.steps.specs.Test.{firstFault};
+ghost use Rattle.refusal.specs.Test.{firstFault};
 ghost use Rattle.steps.specs.Step.{headerPart, headerStep, headerFault};
 
 // What the walk needs of a header: its counts, and where the first pattern starts.

@@ -1,5 +1,5 @@
 // The instrument step: the tests in front, and behind its fields the samples.
-use crate::sample::read_samples;
+use heads::read_samples;
 use refusal::Fault;
 use refusal::Step;
 use refusal::fault_of;
@@ -12,7 +12,7 @@ ghost use lib.ListN.{length, drop};
 ghost use Rattle.xm.specs.Got.{AllHold};
 ghost use Rattle.xm.specs.Instrument.{leastInstrument, instrumentTests, readInstrument};
 ghost use Rattle.xm.specs.Module.{fileMost};
-ghost use Rattle.steps.specs.Test.{firstFault};
+ghost use Rattle.refusal.specs.Test.{firstFault};
 ghost use Rattle.steps.specs.Step.{instrumentHead, instrumentStep, instrumentFault};
 
 // An instrument's I, k and H (0 if there are no samples), the bytes of its pressed form, and where the next one starts.

@@ -12,7 +12,7 @@ ghost use lib.ListN.{length, drop};
 ghost use Rattle.xm.specs.PatternInFile.{leastPattern, patternTests, readPattern, dataMost};
 ghost use Rattle.xm.specs.Module.{fileMost};
 ghost use Rattle.refusal.specs.Fault.{placeStep};
-ghost use Rattle.steps.specs.Test.{firstFault};
+ghost use Rattle.refusal.specs.Test.{firstFault};
 ghost use Rattle.steps.specs.Step.{patternHead, patternStep, patternFault, storedFault, faultFrom};
 
 // The bytes of a pattern's shortest stored form and whether it stands in that form already, and where the next structure starts.

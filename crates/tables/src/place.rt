@@ -1,9 +1,9 @@
 // What stands at a place of an accepted file: a second pass, which makes no test again and reads no cell.
+use heads::data_size;
+use heads::sample_head;
 use steps::header::header_part;
 use steps::instrument::InstrumentHead;
 use steps::pattern::pattern_head;
-use steps::sample::data_size;
-use steps::sample::sample_head;
 ghost use mathlib.Core.Bool.{true};
 ghost use mathlib.Core.Path.{_≡_};
 ghost use Rattle.xm.specs.Got.{accepted};

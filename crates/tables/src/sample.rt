@@ -1,10 +1,10 @@
 // The row of a sample, found from the file alone.
 use crate::place::first_instrument;
 use asking::SAMPLE_STRIDE;
+use heads::data_size;
+use heads::loops;
+use heads::sample_head;
 use steps::instrument::instrument_head;
-use steps::sample::data_size;
-use steps::sample::loops;
-use steps::sample::sample_head;
 ghost use mathlib.Core.Path.{_≡_};
 ghost use Prim.Native.Nat.{_+_, _*_, _<_, _≤_, _^_};
 ghost use mathlib.Core.Bool.{cond};

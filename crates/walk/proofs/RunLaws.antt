@@ -37,7 +37,7 @@ use Rattle.walk.specs.declared.RunStep.the-variants as run
 use Rattle.steps.proofs.PatternLaws.{pattern-refused}
 use Rattle.steps.proofs.InstrumentLaws.{instrument-refused}
 use Rattle.mark.proofs.MarkLaws.{mark-told, marks-more}
-use Rattle.steps.proofs.Walking.{refused-on, Reached, reached-start, reached-on, reached-out, reached-end, reached-place}
+use Rattle.refusal.proofs.Walking.{refused-on, Reached, reached-start, reached-on, reached-out, reached-end, reached-place}
 
 -- One more is written behind what is written
 written-more : {H I A : Type 0} (F : Format H I A) (done : List I) (i : I)

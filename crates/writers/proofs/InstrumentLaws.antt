@@ -19,13 +19,13 @@ use Rattle.xm.proofs.Sample.{samples-keeps}
 use Rattle.xm.proofs.Instrument.{heads-used}
 use Rattle.xm.specs.Answer.{inFront}
 use Rattle.xm.proofs.Lay.{Laid, laid-none, laid-part, laid-done}
-use Rattle.steps.specs.Sample.{headsFrom}
+use Rattle.heads.specs.Sample.{headsFrom}
 use Rattle.steps.specs.Step.{instrumentStep}
 use Rattle.steps.specs.declared.instrument.InstrumentPart.{InstrumentPart}
 use Rattle.steps.specs.declared.instrument.InstrumentStep.{InstrumentStep}
 use Rattle.steps.specs.declared.instrument.InstrumentStep.the-variants.{Read, Refused}
 use Rattle.steps.proofs.InstrumentLaws.{some-samples}
-use Rattle.steps.proofs.SampleLaws.{heads-viewed, samples-size}
+use Rattle.heads.proofs.SampleLaws.{heads-viewed, samples-size}
 use Rattle.refusal.specs.declared.Fault.{Fault}
 use Rattle.writers.specs.Found.{readAt, pressedAt}
 use Rattle.writers.specs.Instrument.{InstrumentIs, frontOf, voiceAt}

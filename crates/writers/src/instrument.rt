@@ -10,7 +10,7 @@ ghost use Rattle.xm.specs.Format.{flat};
 ghost use Rattle.xm.specs.Answer.{inFront};
 ghost use Rattle.xm.specs.Sample.{leastHead};
 ghost use Rattle.xm.specs.Instrument.{voiceFrom, voiceSize, instrumentFormat};
-ghost use Rattle.steps.specs.Sample.{headsFrom};
+ghost use Rattle.heads.specs.Sample.{headsFrom};
 ghost use Rattle.writers.specs.Found.{pressedAt};
 ghost use Rattle.writers.specs.Instrument.{InstrumentIs, frontOf, voiceAt};
 

@@ -4,7 +4,7 @@ use native.Mathlib.Omega.{arith}
 use borrow.Author.Tests.{not-true, not-false}
 use Rattle.xm.proofs.Got.{all-hold}
 use Rattle.steps.proofs.HeaderLaws.{part-of}
-use Rattle.steps.proofs.Tests.{not-all-hold, fault-among, fault-at, fault-none}
+use Rattle.refusal.proofs.Tests.{not-all-hold, fault-among, fault-at, fault-none}
 use borrow.Author.Needs.{needs}
 use Rattle.steps.proofs.header.header_fault.Statement.{statement}
 use Rattle.steps.proofs.header.header_fault.Tie as tie

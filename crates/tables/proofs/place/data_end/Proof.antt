@@ -6,7 +6,7 @@ use borrow.Author.Needs.{needs}
 use lib.ListN.{drop}
 use Rattle.tables.specs.Place.{dataBefore}
 use Rattle.tables.specs.Sought.{Left}
-use Rattle.steps.proofs.SampleLaws.{head-size}
+use Rattle.heads.proofs.SampleLaws.{head-size}
 use Rattle.tables.proofs.PlaceLoops.{left-start, left-on, left-room, left-end}
 use Rattle.tables.proofs.place.data_end.Statement.{statement}
 use Rattle.tables.proofs.place.data_end.Tie as tie

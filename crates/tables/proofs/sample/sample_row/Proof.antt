@@ -6,8 +6,8 @@ use native.Mathlib.Omega.{arith}
 use mir.Syntax.{w8}
 use mir.Facts.{toZ-ofZ}
 use Rattle.xm.specs.Sample.{wideBy, loopsBy, inSamples, loopKind, loopFrom, loopCount}
-use Rattle.steps.specs.declared.sample.SampleHead.{SampleHead}
-use Rattle.steps.proofs.SampleLaws.{head-size, size-small}
+use Rattle.heads.specs.declared.SampleHead.{SampleHead}
+use Rattle.heads.proofs.SampleLaws.{head-size, size-small}
 use Rattle.tables.proofs.SampleLaws.{row-path, samples-few}
 use borrow.Author.Needs.{needs}
 use Rattle.tables.proofs.sample.sample_row.Statement.{statement}

@@ -3,7 +3,7 @@ use Prim.Native.Nat.{_+_, _-_}
 use native.Mathlib.Omega.{arith}
 use lib.ListN.{length, drop, length-take, length-drop}
 use Rattle.xm.specs.Format.{flat}
-use Rattle.steps.specs.Sample.{headsFrom}
+use Rattle.heads.specs.Sample.{headsFrom}
 use Rattle.writers.proofs.InstrumentLaws.{HeadsLeft, heads-none, heads-done, heads-more, head-inside, head-room}
 use Rattle.writers.proofs.instrument.write_heads.Statement.{statement}
 use Rattle.writers.proofs.instrument.write_heads.Tie as tie

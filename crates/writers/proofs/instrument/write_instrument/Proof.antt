@@ -8,7 +8,7 @@ use Rattle.xm.specs.Format.{flat}
 use Rattle.xm.specs.Answer.{inFront}
 use Rattle.xm.specs.Instrument.{instrumentFormat}
 use Rattle.xm.proofs.Lay.{part-all, laid-part, laid-first, laid-last}
-use Rattle.steps.specs.Sample.{headsFrom}
+use Rattle.heads.specs.Sample.{headsFrom}
 use Rattle.writers.specs.Found.{pressedAt}
 use Rattle.writers.specs.Instrument.{frontOf, voiceAt}
 use Rattle.writers.proofs.InstrumentLaws.{BareLies, bare-lies, SomeLie, some-lie}
