@@ -108,7 +108,9 @@ fn whole_fits(form: usize, looped: usize, number: usize) -> bool
 {
     if form / 16 % 2 == 1 {
         if loops(form, looped) {
-            return number % 2 == 0;
+            if number % 2 == 1 {
+                return false;
+            }
         }
     }
     true

@@ -27,7 +27,7 @@ pub head-fault-spec : {M : Type 1} → statement M
 head-fault-spec =
     tie.close
     (tie.spec
-    (λ c. search needs)
+    (search needs)
     (λ c. sym (fault-at 0 _ tt (omega arith, tt) (search test-failed)))
     (λ c.
     let other = test-passed (kind (c .before .before .before .before .args .head)) (c .before .before .before .kind-fits .ensures) (c .before .before .if1 .left) in
