@@ -1,6 +1,6 @@
+pub mod Bits
 pub mod ReadLaws
 pub mod ReadRows
 pub mod WriteLaws
 pub mod Over
 pub mod WriteRows
-pub mod RewriteLaws

@@ -1,5 +1,4 @@
 // One cell, read from its stored form and written in its shortest one; and the numbers of a pattern of cells.
 pub mod pattern;
 pub mod read;
-pub mod rewrite;
 pub mod write;

@@ -14,7 +14,7 @@ use Rattle.xm.specs.Short.{shortestBy, isShort}
 use Rattle.xm.proofs.Cell.{bit-most, bit-none, bit-some, kept-length, kepts-most, kepts-sum, ones-five, length-plain, length-marked, cell-plain, cell-marked, cell-length, many-plain, few-marked, marked-high}
 use Rattle.xm.proofs.Lay.{head-at}
 use Rattle.xm.proofs.Short.{shortest-by}
-use Rattle.cell.proofs.RewriteLaws.{ones-all, all-ones}
+use Rattle.cell.proofs.Bits.{ones-all, all-ones}
 use Rattle.ahead.proofs.Lengths.{length-six}
 use Rattle.measure.specs.Weight.{someOf, plainWeight, markedWeight, weightOf, longLead}
 

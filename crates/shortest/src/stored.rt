@@ -1,8 +1,8 @@
 // Stored cells that were accepted, pressed: written again, each in its shortest form.
 use cell::read::cell_end;
 use cell::read::cell_length;
-use cell::rewrite::rewrite_cell;
-use cell::rewrite::rewrite_over;
+use rewrite::rewrite_cell;
+use rewrite::rewrite_over;
 use slices::write::copy;
 ghost use mathlib.Core.Path.{_≡_};
 ghost use Prim.Native.Nat.{_≤_};

@@ -1,8 +1,8 @@
--- `cell::rewrite::put_field_over` meets its contract. Assumes nothing.
+-- `rewrite::put_field_over` meets its contract. Assumes nothing.
 use native.Mathlib.Omega.{arith}
 use borrow.Author.Needs.{needs}
-use Rattle.cell.proofs.rewrite.put_field_over.Statement.{statement}
-use Rattle.cell.proofs.rewrite.put_field_over.Tie as tie
+use Rattle.rewrite.proofs.put_field_over.Statement.{statement}
+use Rattle.rewrite.proofs.put_field_over.Tie as tie
 
 returns : tie.Need-returns
 returns c =

@@ -1,4 +1,4 @@
--- `cell::rewrite::rewrite_cell` meets its contract: as a lent cell if all five fields are stored, else marked, its lead byte last.
+-- `rewrite::rewrite_cell` meets its contract: as a lent cell if all five fields are stored, else marked, its lead byte last.
 -- Assumes nothing.
 use Prim.Native.Nat.{_+_, _≤_, _<_}
 use mathlib.Core.Path.{_≡_, refl, sym}
@@ -8,11 +8,11 @@ use borrow.Author.Needs.{needs}
 use lib.ListN.{length, getD, drop, length-set}
 use Rattle.xm.specs.Cell.{five, fieldsBy, cellAt, kepts, plainBy}
 use Rattle.xm.proofs.Cell.{length-some, few-marked}
 use Rattle.cell.proofs.ReadLaws.{Inside, first-inside, next-inside, field-inside, cell-first, cell-fields}
 use Rattle.cell.proofs.WriteLaws.{written-marked, put-more}
-use Rattle.cell.proofs.RewriteLaws.{stored-five, stored-few, five-inside, lead-moved, kept-least, kept-next, left-first, laid-lead}
-use Rattle.cell.proofs.rewrite.rewrite_cell.Statement.{statement}
-use Rattle.cell.proofs.rewrite.rewrite_cell.Tie as tie
+use Rattle.rewrite.proofs.RewriteLaws.{stored-five, stored-few, five-inside, lead-moved, kept-least, kept-next, left-first, laid-lead}
+use Rattle.rewrite.proofs.rewrite_cell.Statement.{statement}
+use Rattle.rewrite.proofs.rewrite_cell.Tie as tie
 
 shared-slice-read-first-field : tie.Need-shared-slice-read-first-field
 shared-slice-read-first-field c = let a = c .before .before .before .args in omega (arith, length-some (getD (a .stored .now) (a .place) 0))

@@ -1,16 +1,16 @@
 // One stored cell written again in its shortest form. A field is read where it is written, by the slice and its place; the lead byte, which
 // tells of all five, comes last.
-use crate::read::Field;
-use crate::read::field_at;
-use crate::read::field_over;
-use crate::read::first_field;
-use crate::read::kept_in;
-use crate::read::next_field;
-use crate::read::plain_by;
-use crate::write::first_place;
-use crate::write::put;
-use crate::write::put_over;
-use crate::write::write_cell;
+use cell::read::Field;
+use cell::read::field_at;
+use cell::read::field_over;
+use cell::read::first_field;
+use cell::read::kept_in;
+use cell::read::next_field;
+use cell::read::plain_by;
+use cell::write::first_place;
+use cell::write::put;
+use cell::write::put_over;
+use cell::write::write_cell;
 ghost use mathlib.Core.Path.{_≡_};
 ghost use Prim.Native.Nat.{_+_, _*_, _%_, _≤_, _<_};
 ghost use mathlib.Core.Bool.{_&&_};
@@ -19,8 +19,8 @@ ghost use lib.ListN.{length, getD, drop, set};
 ghost use Rattle.xm.specs.Answer.{inFront};
 ghost use Rattle.xm.specs.Lay.{lay};
 ghost use Rattle.xm.specs.Cell.{five, lengthBy, fieldBy, cellAt, bit, kept, kepts, plainBy, writeCell};
 ghost use Rattle.cell.specs.Over.{overMost, Over};
-ghost use Rattle.cell.specs.Rewrite.{Moved};
+ghost use Rattle.rewrite.specs.Rewrite.{Moved};
 
 // The lead byte of a marked cell, by the place of the first field and those behind each: a place moved on by a field's bit.
 fn lead_by(p0: usize, p1: usize, p2: usize, p3: usize, p4: usize, p5: usize) -> u8

@@ -6,7 +6,6 @@ use mathlib.Core.Bool.{Bool, true, false, cond, _&&_}
 use mathlib.Core.List.{List, [], _∷_, _++_}
 use native.Mathlib.Omega.{arith}
 use borrow.Author.Tests.{eqb-true, eqb-false}
-use lib.Count.{onesIn}
 use lib.Dec.{eqb}
 use lib.ListN.{length, getD, take, drop, set, length-append}
 use lib.Seq.{length-take-le, take-set-le, drop-set-lt}
@@ -15,26 +14,15 @@ use Rattle.xm.specs.Lay.{lay}
 use Rattle.xm.specs.Cell.{five, bit, fieldBy, fieldsBy, cellAt, marks, kepts, marked, plainBy, writeCell}
 use Rattle.xm.proofs.Cell.{kept-length, marks-sum, fields-at, fields-stored, few-marked}
 use Rattle.xm.proofs.Lay.{head-at, Laid, laid-done, laid-long}
 use Rattle.cell.specs.declared.read.Field.{Field}
 use Rattle.cell.specs.Read.{FirstField, NextField}
 use Rattle.cell.specs.Over.{overMost, Over}
+use Rattle.cell.proofs.Bits.{odd₃₂, odd₁₆, odd₈, odd₄, ones-most, ones-all, all-ones}
 use Rattle.cell.proofs.ReadLaws.{plain-fields, cell-first, Inside}
 use Rattle.cell.proofs.WriteLaws.{count-plain, count-marked, plain-kept}
 use Rattle.cell.proofs.Over.{PutOver, over-done}
 
--- Five bits that are all set, one by one
-odd₃₂ : (b : ℕ) → b % 32 ≡ 31 → (b % 2 ≡ 1) × (b / 2 % 16 ≡ 15)
-odd₃₂ b h = (omega arith, omega arith)
-
-odd₁₆ : (b : ℕ) → b % 16 ≡ 15 → (b % 2 ≡ 1) × (b / 2 % 8 ≡ 7)
-odd₁₆ b h = (omega arith, omega arith)
-
-odd₈ : (b : ℕ) → b % 8 ≡ 7 → (b % 2 ≡ 1) × (b / 2 % 4 ≡ 3)
-odd₈ b h = (omega arith, omega arith)
-
-odd₄ : (b : ℕ) → b % 4 ≡ 3 → (b % 2 ≡ 1) × (b / 2 % 2 ≡ 1)
-odd₄ b h = (omega arith, omega arith)
-
+-- All five fields are stored, as they are if all five bits are set
 set-field : (count bits : ℕ) (s : List ℕ) → bits % 2 ≡ 1 → fieldsBy (suc count) bits s ≡ getD s 0 0 ∷ fieldsBy count (bits / 2) (drop 1 s)
 unfolding fieldsBy
 set-field count bits s e = rw e
@@ -53,58 +41,8 @@ all-stored bits s h =
     (set-field 0 (bits / 2 / 2 / 2 / 2) (drop 1 (drop 1 (drop 1 (drop 1 s)))) (q₄ .1))
     ∙ sym (plain-fields s)
 
--- as they are if all five count
-ones-most : (count b : ℕ) → onesIn count b ≤ count
-unfolding onesIn
-ones-most zero b = omega arith
-ones-most (suc count) b = omega (arith, ones-most count (b / 2))
-
-ones-more : (count b : ℕ) → suc count ≤ onesIn (suc count) b → (b % 2 ≡ 1) × (count ≤ onesIn count (b / 2))
-unfolding onesIn
-ones-more count b h = let m = ones-most count (b / 2) in (omega arith, omega arith)
-
-pub ones-all : (b : ℕ) → 5 ≤ onesIn 5 b → b % 32 ≡ 31
-ones-all b h =
-    let q₁ = ones-more 4 b h in
-    let q₂ = ones-more 3 (b / 2) (q₁ .1) in
-    let q₃ = ones-more 2 (b / 2 / 2) (q₂ .1) in
-    let q₄ = ones-more 1 (b / 2 / 2 / 2) (q₃ .1) in
-    let q₅ = ones-more 0 (b / 2 / 2 / 2 / 2) (q₄ .1) in
-    let h₂ : b / 2 / 2 / 2 % 4 ≡ 3 = up₂ (b / 2 / 2 / 2) (q₄ .0) (q₅ .0) in
-    let h₃ : b / 2 / 2 % 8 ≡ 7 = up₃ (b / 2 / 2) (q₃ .0) h₂ in
-    let h₄ : b / 2 % 16 ≡ 15 = up₄ (b / 2) (q₂ .0) h₃ in
-    up₅ b (q₁ .0) h₄
-  where
-    up₂ : (b : ℕ) → b % 2 ≡ 1 → b / 2 % 2 ≡ 1 → b % 4 ≡ 3
-    up₂ b p q = omega arith
-
-    up₃ : (b : ℕ) → b % 2 ≡ 1 → b / 2 % 4 ≡ 3 → b % 8 ≡ 7
-    up₃ b p q = omega arith
-
-    up₄ : (b : ℕ) → b % 2 ≡ 1 → b / 2 % 8 ≡ 7 → b % 16 ≡ 15
-    up₄ b p q = omega arith
-
-    up₅ : (b : ℕ) → b % 2 ≡ 1 → b / 2 % 16 ≡ 15 → b % 32 ≡ 31
-    up₅ b p q = omega arith
-
 below : {n : ℕ} → n ≤ 5 → (n ≡ 5 → ⊥) → n < 5
 below h k = omega arith
-
-ones-next : (count b : ℕ) → b % 2 ≡ 1 → onesIn (suc count) b ≡ 1 + onesIn count (b / 2)
-unfolding onesIn
-ones-next count b h = omega arith
-
-ones-none : (b : ℕ) → onesIn 0 b ≡ 0
-unfolding onesIn
-ones-none b = refl
-
-pub all-ones : (b : ℕ) → b % 32 ≡ 31 → onesIn 5 b ≡ 5
-all-ones b h =
-    let q₁ = odd₃₂ b h in
-    let q₂ = odd₁₆ (b / 2) (q₁ .1) in
-    let q₃ = odd₈ (b / 2 / 2) (q₂ .1) in
-    let q₄ = odd₄ (b / 2 / 2 / 2) (q₃ .1) in
-    rw (ones-next 4 b (q₁ .0), ones-next 3 (b / 2) (q₂ .0), ones-next 2 (b / 2 / 2) (q₃ .0), ones-next 1 (b / 2 / 2 / 2) (q₄ .0), ones-next 0 (b / 2 / 2 / 2 / 2) (q₄ .1), ones-none) (omega arith)
 
 pub five-inside : {field : Field} {n : ℕ} → Inside 5 field n → field .bits % 32 ≡ 31 → field .place + 5 ≤ n
 five-inside {field} i h = omega (arith, i .ends, all-ones (field .bits) h)

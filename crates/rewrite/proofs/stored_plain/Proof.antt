@@ -1,4 +1,4 @@
--- `cell::rewrite::stored_plain` meets its contract. Assumes nothing.
+-- `rewrite::stored_plain` meets its contract. Assumes nothing.
 use Prim.Native.Nat.{ℕ, _%_}
 use mathlib.Core.Bool.{Bool, _&&_}
 use mathlib.Core.Path.{ap, _∙_}
@@ -7,8 +7,8 @@ use lib.Dec.{eqb}
 use lib.ListN.{getD}
 use denote.Ref.{now}
 use Rattle.xm.specs.Cell.{plainBy}
-use Rattle.cell.proofs.rewrite.stored_plain.Statement.{statement}
-use Rattle.cell.proofs.rewrite.stored_plain.Tie as tie
+use Rattle.rewrite.proofs.stored_plain.Statement.{statement}
+use Rattle.rewrite.proofs.stored_plain.Tie as tie
 
 returns : tie.Need-returns
 returns c =

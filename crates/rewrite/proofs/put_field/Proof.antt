@@ -1,9 +1,9 @@
--- `cell::rewrite::put_field` meets its contract. Assumes nothing.
+-- `rewrite::put_field` meets its contract. Assumes nothing.
 use native.Mathlib.Omega.{arith}
 use borrow.Author.Needs.{needs}
 use Rattle.xm.proofs.Cell.{bit-most}
-use Rattle.cell.proofs.rewrite.put_field.Statement.{statement}
-use Rattle.cell.proofs.rewrite.put_field.Tie as tie
+use Rattle.rewrite.proofs.put_field.Statement.{statement}
+use Rattle.rewrite.proofs.put_field.Tie as tie
 
 put-requires : tie.Need-put-requires
 put-requires c κs = rw (c .before .field-at .ensures) (c .before .before .before .before .pre .1)

@@ -1,4 +1,4 @@
--- `cell::rewrite::rewrite_over` meets its contract: the fields behind the place of the lead byte or over it, and the lead byte last.
+-- `rewrite::rewrite_over` meets its contract: the fields behind the place of the lead byte or over it, and the lead byte last.
 -- Assumes nothing.
 use Prim.Native.Nat.{ℕ, _+_, _≤_, _<_}
 use mathlib.Core.Path.{refl, ap, _∙_}
@@ -7,12 +7,12 @@ use native.Mathlib.Omega.{arith}
 use borrow.Author.Needs.{needs}
 use lib.ListN.{length-set}
 use Rattle.xm.specs.Cell.{kepts}
 use Rattle.cell.specs.Over.{overMost}
 use Rattle.cell.proofs.ReadLaws.{cell-fields}
 use Rattle.cell.proofs.Over.{over-more}
-use Rattle.cell.proofs.RewriteLaws.{stored-plain, lead-moved, left-over, over-lead}
-use Rattle.cell.proofs.rewrite.rewrite_over.Statement.{statement}
-use Rattle.cell.proofs.rewrite.rewrite_over.Tie as tie
+use Rattle.rewrite.proofs.RewriteLaws.{stored-plain, lead-moved, left-over, over-lead}
+use Rattle.rewrite.proofs.rewrite_over.Statement.{statement}
+use Rattle.rewrite.proofs.rewrite_over.Tie as tie
 
 -- The fields stand inside six bytes
 near₁ : (c : tie.After-put-field-over-arg) → c .before .before .before .first-field .result .place ≤ c .before .before .before .before .before .before .before .args .place + 1
