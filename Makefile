@@ -42,7 +42,7 @@ install: all
 	install -m 644 man/fiddlemarsh.1 $(BASE)/share/man/man1
 	install -m 644 man/fiddlemarsh.3 $(BASE)/share/man/man3
 	{ printf 'prefix=%s\nlibdir=%s\nincludedir=$${prefix}/include\n\n' "$$PREFIX" $(LIB) && \
-		printf 'Name: fiddlemarsh\nDescription: checks, unpacks, packs and presses FastTracker II modules\n' && \
+		printf 'Name: fiddlemarsh\nDescription: checks, unpacks, packs, presses and converts FastTracker II modules\n' && \
 		sed -n 's/^#define FIDDLEMARSH_VERSION "\(.*\)"$$/Version: \1/p' include/fiddlemarsh.h && \
 		printf 'Cflags: -I"$${includedir}"\nLibs: -L"$${libdir}" -lfiddlemarsh\n'; } >"$$DESTDIR"$(LIB)/pkgconfig/fiddlemarsh.pc
 

@@ -1,5 +1,5 @@
-/* bench.c: the library's speed as ratios to C, that of the tables and of the small reader as ratios to the check of the same file, and
-   the stack of each call.
+/* bench.c: the library's speed as ratios to C, of normal modules and of stripped ones, that of the tables and of the small reader as
+   ratios to the check of the same file, and the stack of each call.
 
    A ratio to C is the library's best time divided by that of C compiled with -O3: of the reference, and of the faster one of two, the
    reference and fast.c. All are taken in turns in one run, in processor time. Below 1 the library is faster. All buffers are written
@@ -50,6 +50,7 @@ struct set {
     size_t module_count;
     struct pattern *patterns;
     size_t pattern_count;
+    const struct module *normal; /* of a set of stripped modules: those that it was made of */
 };
 
 /* The sides of a comparison. */
@@ -58,6 +59,8 @@ struct side {
     uint64_t (*unpack)(size_t, size_t, const uint8_t *, size_t, uint8_t *, size_t);
     uint64_t (*pack)(size_t, size_t, const uint8_t *, size_t, uint8_t *, size_t);
     uint64_t (*press)(const uint8_t *, size_t, uint8_t *, size_t);
+    uint64_t (*to_normal)(const uint8_t *, size_t, uint8_t *, size_t);
+    uint64_t (*to_stripped)(const uint8_t *, size_t, uint8_t *, size_t);
     uint32_t (*tables)(const uint8_t *, size_t); /* the check that fills the side's own tables: 0, or the refusal's number */
     uint64_t (*decode)(size_t, const uint8_t *, size_t, int16_t *, size_t);
     uint64_t (*code)(size_t, const int16_t *, size_t, uint8_t *, size_t);
@@ -92,12 +95,14 @@ static uint32_t reference_tables(const uint8_t *file, size_t file_len)
     return rows.checked.refusal.number;
 }
 
-static const struct side library = {fiddlemarsh_check, fiddlemarsh_unpack, fiddlemarsh_pack, fiddlemarsh_press, library_tables,
-                                    fiddlemarsh_decode, fiddlemarsh_code, fiddlemarsh_adpcm};
+static const struct side library = {fiddlemarsh_check, fiddlemarsh_unpack, fiddlemarsh_pack, fiddlemarsh_press, fiddlemarsh_to_normal,
+                                    fiddlemarsh_to_stripped, library_tables, fiddlemarsh_decode, fiddlemarsh_code,
+                                    fiddlemarsh_adpcm};
 static const struct side reference = {reference_loader_check, reference_loader_unpack, reference_loader_pack,
-                                      reference_loader_press, reference_tables, reference_loader_decode, reference_loader_code,
-                                      reference_loader_adpcm};
-static const struct side fast = {fast_check, fast_unpack, fast_pack, fast_press, NULL, NULL, NULL, fast_adpcm};
+                                      reference_loader_press, reference_loader_to_normal, reference_loader_to_stripped,
+                                      reference_tables, reference_loader_decode, reference_loader_code, reference_loader_adpcm};
+static const struct side fast = {fast_check, fast_unpack, fast_pack, fast_press, fast_to_normal, fast_to_stripped, NULL, NULL, NULL,
+                                 fast_adpcm};
 
 static uint8_t *output; /* room for any answer */
 static size_t rounds = 9;
@@ -131,9 +136,34 @@ static void collect_patterns(struct set *set, const struct module *module)
 static struct set make_set(const char *name, const struct shape *shape, size_t count, uint64_t seed)
 {
     struct chance chance = {seed};
-    struct set set = {name, want(count * sizeof(struct module)), count, want(PATTERNS_MOST * sizeof(struct pattern)), 0};
+    struct set set = {name, want(count * sizeof(struct module)), count, want(PATTERNS_MOST * sizeof(struct pattern)), 0, NULL};
     for (size_t i = 0; i < count; i++) {
         module_build(&set.modules[i], shape, &chance);
+        collect_patterns(&set, &set.modules[i]);
+    }
+    return set;
+}
+
+/* A normal module as a stripped one: cut wherever it can be, by the reference; or nowhere, with mark and version of a stripped one. */
+static struct module strip(const struct module *normal, bool cut)
+{
+    struct module stripped = {.bytes = want(normal->length), .length = normal->length};
+    if (cut) {
+        stripped.length = reference_to_stripped(normal->bytes, normal->length, stripped.bytes, normal->length).count;
+    } else {
+        memcpy(stripped.bytes, normal->bytes, normal->length);
+        stripped.bytes[37] = stripped.bytes[58] = stripped.bytes[59] = 0;
+    }
+    return stripped;
+}
+
+static struct set strip_set(const char *name, const struct set *normal, bool cut)
+{
+    size_t count = normal->module_count;
+    struct set set = {name, want(count * sizeof(struct module)), count, want(PATTERNS_MOST * sizeof(struct pattern)), 0,
+                      normal->modules};
+    for (size_t i = 0; i < count; i++) {
+        set.modules[i] = strip(&normal->modules[i], cut);
         collect_patterns(&set, &set.modules[i]);
     }
     return set;
@@ -166,6 +196,13 @@ static struct shape without_cells(struct shape shape)
     return shape;
 }
 
+/* Every instrument and sample header ends in zeros from anywhere on, so that a stripped module has much to cut off. */
+static struct shape with_zeros(struct shape shape)
+{
+    shape.zeros_percent = 100;
+    return shape;
+}
+
 /* All sides must agree before anybody looks at a clock. */
 
 static void disagree(const struct set *set, const char *call)
@@ -189,26 +226,37 @@ static void must_agree_on_patterns(const struct set *set, uint8_t *other, const 
     }
 }
 
-static void must_agree_with(const struct set *set, uint8_t *other, const struct side *side)
+typedef uint64_t press_call(const uint8_t *, size_t, uint8_t *, size_t);
+
+/* A press or a conversion, into as much room as it may need. */
+static void must_agree_on_press(const struct set *set, const struct module *module, const char *name, press_call *first,
+                                press_call *second, uint8_t *other)
 {
-    for (size_t i = 0; i < set->module_count; i++) {
-        const struct module *module = &set->modules[i];
-        if (fiddlemarsh_check(module->bytes, module->length) != side->check(module->bytes, module->length))
-            disagree(set, "check");
-        uint64_t length = fiddlemarsh_press(module->bytes, module->length, output, module->length);
-        uint64_t other_length = side->press(module->bytes, module->length, other, module->length);
-        if (length != other_length || fiddlemarsh_refused(length) || memcmp(output, other, length) != 0)
-            disagree(set, "press");
-    }
-    must_agree_on_patterns(set, other, side);
+    size_t room = fiddlemarsh_normal_room(module->length);
+    uint64_t length = first(module->bytes, module->length, output, room);
+    if (second(module->bytes, module->length, other, room) != length || fiddlemarsh_refused(length) ||
+        memcmp(output, other, length) != 0)
+        disagree(set, name);
 }
 
-static void must_agree(const struct set *set)
+static void must_agree_on_modules(const struct set *set, const struct module *modules, uint8_t *other, const struct side *side)
 {
-    uint8_t *other = want(FIDDLEMARSH_FILE_MOST);
-    must_agree_with(set, other, &reference);
-    must_agree_with(set, other, &fast);
-    free(other);
+    for (size_t i = 0; i < set->module_count; i++) {
+        const struct module *module = &modules[i];
+        if (fiddlemarsh_check(module->bytes, module->length) != side->check(module->bytes, module->length))
+            disagree(set, "check");
+        must_agree_on_press(set, module, "press", library.press, side->press, other);
+        must_agree_on_press(set, module, "to_normal", library.to_normal, side->to_normal, other);
+        must_agree_on_press(set, module, "to_stripped", library.to_stripped, side->to_stripped, other);
+    }
+}
+
+static void must_agree_with(const struct set *set, uint8_t *other, const struct side *side)
+{
+    must_agree_on_modules(set, set->modules, other, side);
+    if (set->normal != NULL)
+        must_agree_on_modules(set, set->normal, other, side);
+    must_agree_on_patterns(set, other, side);
 }
 
 static bool same_sample(size_t number)
@@ -236,6 +284,15 @@ static void tables_must_agree(const struct set *set)
             if (!same_sample(number))
                 disagree(set, "tables");
     }
+}
+
+static void must_agree(const struct set *set)
+{
+    uint8_t *other = want(FIDDLEMARSH_FILE_MOST);
+    must_agree_with(set, other, &reference);
+    must_agree_with(set, other, &fast);
+    free(other);
+    tables_must_agree(set);
 }
 
 /* Work to be timed: one call over a whole set */
@@ -275,6 +332,23 @@ static void run_press(const struct set *set, const struct side *side)
     uint64_t sum = 0;
     for (size_t i = 0; i < set->module_count; i++)
         sum += side->press(set->modules[i].bytes, set->modules[i].length, output, set->modules[i].length);
+    kept += sum;
+}
+
+static void run_to_normal(const struct set *set, const struct side *side)
+{
+    uint64_t sum = 0;
+    for (size_t i = 0; i < set->module_count; i++)
+        sum += side->to_normal(set->modules[i].bytes, set->modules[i].length, output, FIDDLEMARSH_FILE_MOST);
+    kept += sum;
+}
+
+/* Of the modules that the set was made of. */
+static void run_to_stripped(const struct set *set, const struct side *side)
+{
+    uint64_t sum = 0;
+    for (size_t i = 0; i < set->module_count; i++)
+        sum += side->to_stripped(set->normal[i].bytes, set->normal[i].length, output, set->normal[i].length);
     kept += sum;
 }
 
@@ -378,7 +452,19 @@ struct figure {
     bool is_fast; /* fast.c is the faster */
 };
 
-static work *const works[] = {run_check, run_unpack, run_pack, run_press};
+/* A table of figures has a row for each set and these columns. */
+struct column {
+    const char *name;
+    work *run;
+    int width;
+};
+
+enum { COLUMNS = 4, ROWS_MOST = 5 };
+
+static const struct column normal_columns[COLUMNS] = {
+    {"check", run_check, 7}, {"unpack", run_unpack, 7}, {"pack", run_pack, 7}, {"press", run_press, 7}};
+static const struct column stripped_columns[COLUMNS] = {
+    {"check", run_check, 7}, {"press", run_press, 7}, {"to_normal", run_to_normal, 11}, {"to_stripped", run_to_stripped, 11}};
 
 static struct figure figure_of(const struct set *set, work *run)
 {
@@ -394,22 +480,45 @@ static struct figure figure_of(const struct set *set, work *run)
     return (struct figure){best[0] / best[1], best[0] / best[is_fast ? 2 : 1], is_fast};
 }
 
-static void say_ratios(const struct set *set, struct figure *figures)
+static void say_heading(const char *heading, const struct column *columns)
+{
+    printf("%-46s", heading);
+    for (size_t i = 0; i < COLUMNS; i++)
+        printf(" %*s", columns[i].width, columns[i].name);
+    printf("\n");
+}
+
+static void say_ratios(const struct set *set, const struct column *columns, struct figure *figures)
 {
     printf("%-46s", set->name);
-    for (size_t i = 0; i < COUNT(works); i++) {
-        figures[i] = figure_of(set, works[i]);
-        printf(" %7.2f", figures[i].to_reference);
+    for (size_t i = 0; i < COLUMNS; i++) {
+        figures[i] = figure_of(set, columns[i].run);
+        printf(" %*.2f", columns[i].width, figures[i].to_reference);
         fflush(stdout);
     }
     printf("\n");
 }
 
-static void say_faster(const struct set *set, const struct figure *figures)
+static void say_faster(const struct set *set, const struct column *columns, const struct figure *figures)
 {
     printf("%-46s", set->name);
-    for (size_t i = 0; i < COUNT(works); i++)
-        printf(" %6.2f%c", figures[i].to_faster, figures[i].is_fast ? '*' : ' ');
+    for (size_t i = 0; i < COLUMNS; i++)
+        printf(" %*.2f%c", columns[i].width - 1, figures[i].to_faster, figures[i].is_fast ? '*' : ' ');
+    printf("\n");
+}
+
+static void say_tables(const struct set *sets, size_t set_count, const struct column *columns)
+{
+    struct figure figures[ROWS_MOST][COLUMNS];
+    say_heading("time of the library / time of the reference", columns);
+    for (size_t i = 0; i < set_count; i++) {
+        must_agree(&sets[i]);
+        say_ratios(&sets[i], columns, figures[i]);
+    }
+    printf("\n");
+    say_heading("time of the library / time of the faster C", columns);
+    for (size_t i = 0; i < set_count; i++)
+        say_faster(&sets[i], columns, figures[i]);
     printf("\n");
 }
 
@@ -457,16 +566,26 @@ static void say_structure_ratios(const struct set *set)
     fflush(stdout);
 }
 
+static void say_structure_table(const struct set *sets, size_t set_count)
+{
+    printf("time / time of the check of the same file         tables  reader  the reference's tables\n");
+    for (size_t i = 0; i < set_count; i++) {
+        tables_must_agree(&sets[i]);
+        say_structure_ratios(&sets[i]);
+    }
+    printf("\n");
+}
+
 /* Stack */
 
 /* One call at a time: the set's loop would count, too. */
-static const struct module *stack_module;
+static struct module stack_module;
 static const struct pattern *stack_pattern;
 
 static void stack_check(void *nothing)
 {
     (void)nothing;
-    kept += fiddlemarsh_check(stack_module->bytes, stack_module->length);
+    kept += fiddlemarsh_check(stack_module.bytes, stack_module.length);
 }
 
 static void stack_unpack(void *nothing)
@@ -486,13 +605,25 @@ static void stack_pack(void *nothing)
 static void stack_press(void *nothing)
 {
     (void)nothing;
-    kept += fiddlemarsh_press(stack_module->bytes, stack_module->length, output, FIDDLEMARSH_FILE_MOST);
+    kept += fiddlemarsh_press(stack_module.bytes, stack_module.length, output, FIDDLEMARSH_FILE_MOST);
+}
+
+static void stack_to_normal(void *nothing)
+{
+    (void)nothing;
+    kept += fiddlemarsh_to_normal(stack_module.bytes, stack_module.length, output, FIDDLEMARSH_FILE_MOST);
+}
+
+static void stack_to_stripped(void *nothing)
+{
+    (void)nothing;
+    kept += fiddlemarsh_to_stripped(stack_module.bytes, stack_module.length, output, FIDDLEMARSH_FILE_MOST);
 }
 
 static void stack_tables(void *nothing)
 {
     (void)nothing;
-    kept += library_tables(stack_module->bytes, stack_module->length);
+    kept += library_tables(stack_module.bytes, stack_module.length);
 }
 
 static void stack_decode(void *nothing)
@@ -528,36 +659,57 @@ static void keep_largest(size_t *largest, void (*run)(void *))
     *largest = use > *largest ? use : *largest;
 }
 
-static void say_stack(const struct set *sets, size_t set_count)
+/* The calls that take a module. */
+static void (*const module_calls[])(void *) = {stack_check, stack_press, stack_to_normal, stack_to_stripped, stack_tables};
+
+/* The most that any call took. */
+static struct {
+    size_t module[COUNT(module_calls)], unpack, pack, decode, code, adpcm, period;
+} most;
+
+/* A whole module, and cut ones. */
+static void keep_module(const struct module *module)
 {
-    size_t check = 0, unpack = 0, pack = 0, press = 0, tables = 0, decode = 0, code = 0, adpcm = 0, period = 0;
-    for (size_t i = 0; i < set_count; i++) {
-        for (size_t j = 0; j < sets[i].module_count && j < 20; j++) {
-            struct module cut = sets[i].modules[j];
-            stack_module = &sets[i].modules[j];
-            keep_largest(&check, stack_check);
-            keep_largest(&press, stack_press);
-            keep_largest(&tables, stack_tables);
-            stack_module = &cut;
-            for (cut.length = 1; cut.length < sets[i].modules[j].length; cut.length *= 2) /* refusals too */
-                keep_largest(&check, stack_check), keep_largest(&press, stack_press);
-        }
-        for (size_t j = 0; j < sets[i].pattern_count && j < 50; j++) {
-            stack_pattern = &sets[i].patterns[j];
-            keep_largest(&unpack, stack_unpack);
-            keep_largest(&pack, stack_pack);
-        }
+    stack_module = *module;
+    for (size_t i = 0; i < COUNT(module_calls); i++) {
+        for (stack_module.length = 1; stack_module.length < module->length; stack_module.length *= 2) /* refusals */
+            keep_largest(&most.module[i], module_calls[i]);
+        stack_module.length = module->length;
+        keep_largest(&most.module[i], module_calls[i]);
     }
+}
+
+static void keep_set(const struct set *set)
+{
+    for (size_t i = 0; i < set->module_count && i < 20; i++) {
+        keep_module(&set->modules[i]);
+        if (set->normal != NULL)
+            keep_module(&set->normal[i]);
+    }
+    for (size_t i = 0; i < set->pattern_count && i < 50; i++) {
+        stack_pattern = &set->patterns[i];
+        keep_largest(&most.unpack, stack_unpack);
+        keep_largest(&most.pack, stack_pack);
+    }
+}
+
+static void say_stack(const struct set *sets, size_t set_count, const struct set *stripped_sets, size_t stripped_count)
+{
+    for (size_t i = 0; i < set_count; i++)
+        keep_set(&sets[i]);
+    for (size_t i = 0; i < stripped_count; i++)
+        keep_set(&stripped_sets[i]);
     for (delta_width = 8; delta_width <= 16; delta_width += 8) {
-        keep_largest(&decode, stack_decode);
-        keep_largest(&code, stack_code);
+        keep_largest(&most.decode, stack_decode);
+        keep_largest(&most.code, stack_code);
     }
-    keep_largest(&adpcm, stack_adpcm);
+    keep_largest(&most.adpcm, stack_adpcm);
     for (stack_note = 0; stack_note <= FIDDLEMARSH_REAL_NOTE_MOST + 1; stack_note++)
-        keep_largest(&period, stack_period);
-    printf("largest stack use of a call, in bytes: check %zu, unpack %zu, pack %zu, press %zu, tables %zu, decode %zu, code %zu, "
-           "adpcm %zu, period %zu\n",
-           check, unpack, pack, press, tables, decode, code, adpcm, period);
+        keep_largest(&most.period, stack_period);
+    printf("largest stack use of a call, in bytes: check %zu, unpack %zu, pack %zu, press %zu, to_normal %zu, to_stripped %zu, tables %zu, "
+           "decode %zu, code %zu, adpcm %zu, period %zu\n",
+           most.module[0], most.unpack, most.pack, most.module[1], most.module[2], most.module[3], most.module[4], most.decode,
+           most.code, most.adpcm, most.period);
 }
 
 /* The machine */
@@ -616,16 +768,8 @@ int main(int argc, char **argv)
         make_set("samples, near 16 MiB", &samples_shape, 1, 4),
         make_set("400 small modules", &small_shape, 400, 5),
     };
-    struct figure figures[COUNT(sets)][COUNT(works)];
-    printf("time of the library / time of the reference       check  unpack    pack   press\n");
-    for (size_t i = 0; i < COUNT(sets); i++) {
-        must_agree(&sets[i]);
-        say_ratios(&sets[i], figures[i]);
-    }
-    printf("\ntime of the library / time of the faster C        check  unpack    pack   press\n");
-    for (size_t i = 0; i < COUNT(sets); i++)
-        say_faster(&sets[i], figures[i]);
-    printf("\npress of samples / memcpy of the same bytes: %.2f (the reference: %.2f)\n\n",
+    say_tables(sets, COUNT(sets), normal_columns);
+    printf("press of samples / memcpy of the same bytes: %.2f (the reference: %.2f)\n\n",
            ratio(&sets[3], run_press, &library, run_copy, &library), ratio(&sets[3], run_press, &reference, run_copy, &reference));
     say_delta_ratios(&sets[3]);
     say_adpcm_ratios(&sets[3]);
@@ -636,12 +780,18 @@ int main(int argc, char **argv)
         make_set("256 patterns, 128 instruments of one sample", &every_pattern_shape, 1, 7),
         make_set("the same without cells", &bare_patterns, 1, 7),
     };
-    printf("time / time of the check of the same file         tables  reader  the reference's tables\n");
-    for (size_t i = 0; i < COUNT(structure_sets); i++) {
-        tables_must_agree(&structure_sets[i]);
-        say_structure_ratios(&structure_sets[i]);
-    }
-    printf("\n");
-    say_stack(sets, COUNT(sets));
+    say_structure_table(structure_sets, COUNT(structure_sets));
+    const struct shape small_zeros = with_zeros(small_shape), sample_zeros = with_zeros(bare_samples);
+    const struct set zeros[] = {make_set("400 small modules", &small_zeros, 400, 8), make_set("2,048 samples", &sample_zeros, 1, 9)};
+    const struct set stripped_sets[] = {
+        strip_set("patterns, four cells in five empty, in runs", &sets[1], true),
+        strip_set("samples, near 16 MiB", &sets[3], true),
+        strip_set("400 small modules", &zeros[0], true),
+        strip_set("2,048 samples without cells", &zeros[1], true),
+        strip_set("the same, nothing cut off", &zeros[1], false),
+    };
+    printf("stripped modules, and normal ones of the same content that are converted to them\n\n");
+    say_tables(stripped_sets, COUNT(stripped_sets), stripped_columns);
+    say_stack(sets, COUNT(sets), stripped_sets, COUNT(stripped_sets));
     return 0;
 }

@@ -72,7 +72,8 @@ static const uint8_t shortest_at[256] = {
     0, 1, 1, 2, 1, 2, 2, 3, 1, 2, 2, 3, 2, 3, 3, 4, 1, 2, 2, 3, 2, 3, 3, 4, 2, 3, 3, 4, 3, 4, 4, 5,
     PLAIN_32(9), PLAIN_32(9), PLAIN_32(9)};
 
-static const uint64_t low_bytes[7] = {0, 0xFF, 0xFFFF, 0xFFFFFF, 0xFFFFFFFF, 0xFFFFFFFFFF, 0xFFFFFFFFFFFF};
+static const uint64_t low_bytes[9] = {0, 0xFF, 0xFFFF, 0xFFFFFF, 0xFFFFFFFF, 0xFFFFFFFFFF, 0xFFFFFFFFFFFF, 0xFFFFFFFFFFFFFF,
+                                      0xFFFFFFFFFFFFFFFF};
 
 static inline unsigned is_marked(unsigned lead)
 {
@@ -363,6 +364,7 @@ uint64_t fast_pack(size_t rows, size_t channels, const uint8_t *cells, size_t ce
 /* The walk over a file */
 
 struct header {
+    bool stripped;
     uint32_t size, song_length, channels, patterns, instruments;
 };
 
@@ -372,12 +374,38 @@ struct pattern {
     bool same;
 };
 
+/* The same of an instrument: I and H as they are, the bytes of all its samples' data, and I and H as they are written. */
+struct instrument {
+    uint32_t at, size, head_size, samples, data, new_size, new_head_size;
+};
+
+/* Room for what the first pass of a press finds, and the kind that is written. */
+struct found {
+    struct pattern patterns[256];
+    struct instrument instruments[128];
+    bool stripped;
+};
+
 struct walk {
     uint64_t answer; /* the end, or a refusal */
     struct header header;
-    size_t instruments_at;
     size_t pressed;
 };
+
+static inline size_t smaller(size_t a, size_t b)
+{
+    return a < b ? a : b;
+}
+
+static bool is_stripped(const uint8_t *file)
+{
+    return (file[37] | number16(file + 58)) == 0;
+}
+
+static uint32_t least_header(bool stripped, uint32_t song_length)
+{
+    return stripped ? 20 + song_length : 276;
+}
 
 static uint64_t try_header(const uint8_t *file, size_t file_len, struct header *header)
 {
@@ -385,10 +413,11 @@ static uint64_t try_header(const uint8_t *file, size_t file_len, struct header *
         return refuse(2, 0);
     if (file_len < 80)
         return refuse(1, 0);
-    if (file[37] != 0x1A || number16(file + 58) != 0x0104)
+    if (!is_stripped(file) && (file[37] != 0x1A || number16(file + 58) != 0x0104))
         return refuse(3, 0);
-    *header = (struct header){number32(file + 60), number16(file + 64), number16(file + 68), number16(file + 70), number16(file + 72)};
-    if (header->size < 276)
+    *header = (struct header){is_stripped(file), number32(file + 60), number16(file + 64), number16(file + 68), number16(file + 70),
+                              number16(file + 72)};
+    if (header->size < least_header(header->stripped, header->song_length))
         return refuse(4, 0);
     if (header->song_length - 1 > 255 || header->patterns - 1 > 255 || header->channels - 1 > 63 || header->instruments > 128)
         return refuse(5, 0);
@@ -415,68 +444,189 @@ static inline uint64_t try_pattern(const uint8_t *file, size_t file_len, size_t 
     return scan.refusal == 0 ? 0 : scan.refusal + pattern->data;
 }
 
-/* The bytes of a sample's data. */
-static inline uint32_t sample_bytes(const uint8_t *header)
+/* Samples. A header of a stripped module may end anywhere, and the rest reads as 0. */
+
+#define HEAD_READ 18 /* the bytes of a header that are looked at */
+
+struct head {
+    uint32_t length, loop_start, loop_length, type, kind;
+};
+
+static inline struct head whole_head(const uint8_t *from)
 {
-    uint32_t length = number32(header);
-    return header[17] != 0xAD || length == 0 ? length : 16 + length / 2 + length % 2;
+    return (struct head){number32(from), number32(from + 4), number32(from + 8), from[14], from[17]};
 }
 
-static uint64_t try_sample_header(const uint8_t *header, size_t at)
+/* From three words that are there, of which only 'size' bytes are the header's. */
+static inline struct head head_of_words(const uint8_t *from, size_t size)
 {
-    uint32_t length = number32(header), loop_start = number32(header + 4), loop_length = number32(header + 8), type = header[14];
-    bool loops = loop_length > 0 && (type & 3) != 0;
-    if (header[17] == 0xAD && type & 16)
+    uint64_t first = word(from) & low_bytes[smaller(size, 8)];
+    uint64_t second = word(from + 8) & low_bytes[size < 8 ? 0 : smaller(size - 8, 8)];
+    uint64_t third = word(from + 16) & low_bytes[size < 16 ? 0 : smaller(size - 16, 8)];
+    return (struct head){(uint32_t)first, (uint32_t)(first >> 32), (uint32_t)second, second >> 48 & 255, third >> 8 & 255};
+}
+
+static struct head head_of_copy(const uint8_t *from, size_t size)
+{
+    uint8_t copy[HEAD_READ] = {0};
+    memcpy(copy, from, size);
+    return whole_head(copy);
+}
+
+static inline struct head head_at(const uint8_t *file, size_t file_len, size_t at, size_t size)
+{
+    if (size >= HEAD_READ)
+        return whole_head(file + at);
+    return file_len - at >= 24 ? head_of_words(file + at, size) : head_of_copy(file + at, size);
+}
+
+/* The bytes of a sample's data. */
+static inline uint32_t sample_bytes(const struct head *head)
+{
+    return head->kind != 0xAD || head->length == 0 ? head->length : 16 + head->length / 2 + head->length % 2;
+}
+
+static inline uint64_t try_head(const struct head *head, size_t at)
+{
+    bool loops = head->loop_length > 0 && (head->type & 3) != 0;
+    if (head->kind == 0xAD && head->type & 16)
         return refuse(12, at);
-    if ((type & 3) == 3 || (type & 16 && length % 2 != 0) ||
-        (loops && (uint64_t)loop_start + loop_length > length) || (loops && type & 16 && (loop_start | loop_length) % 2 != 0))
+    if ((head->type & 3) == 3 || (head->type & 16 && head->length % 2 != 0) ||
+        (loops && (uint64_t)head->loop_start + head->loop_length > head->length) ||
+        (loops && head->type & 16 && (head->loop_start | head->loop_length) % 2 != 0))
         return refuse(13, at);
     return 0;
 }
 
-/* Tries an instrument and moves *at to its end; its sample data's bytes go to *data. */
-static uint64_t try_instrument(const uint8_t *file, size_t file_len, size_t *at, size_t *data)
+/* Where the first data begin that are not all there, if some are not. */
+static size_t cut_data(const uint8_t *file, size_t file_len, size_t at, uint32_t samples, size_t head_size)
 {
-    size_t start = *at;
-    *data = 0;
-    if (file_len - start < 29)
-        return refuse(1, start);
-    uint32_t size = number32(file + start), samples = number16(file + start + 27);
-    if (size < 29 || samples > 16 || (size < 263 && samples > 0))
-        return refuse(10, start);
-    if (size > file_len - start)
-        return refuse(1, start);
-    *at = start + size;
-    if (samples == 0)
-        return 0;
-    uint32_t header_size = number32(file + start + 29);
-    if (header_size < 40)
-        return refuse(11, start);
-    if ((uint64_t)samples * header_size > file_len - *at)
-        return refuse(1, start);
-    size_t headers = *at;
-    for (uint32_t i = 0; i < samples; i++) {
-        uint64_t refusal = try_sample_header(file + headers + (size_t)i * header_size, headers + (size_t)i * header_size);
+    size_t data = at + samples * head_size;
+    for (;; at += head_size) {
+        struct head head = head_at(file, file_len, at, head_size);
+        if (sample_bytes(&head) > file_len - data)
+            return data;
+        data += sample_bytes(&head);
+    }
+}
+
+/* Tries the samples of an instrument whose own bytes are there. */
+static inline uint64_t try_samples(const uint8_t *file, size_t file_len, struct instrument *instrument)
+{
+    size_t heads = (size_t)instrument->at + instrument->size, head_size = instrument->head_size, at = heads;
+    uint64_t bytes = 0;
+    if ((uint64_t)instrument->samples * head_size > file_len - heads)
+        return refuse(1, instrument->at);
+    for (uint32_t i = 0; i < instrument->samples; i++, at += head_size) {
+        struct head head = head_at(file, file_len, at, head_size);
+        uint64_t refusal = try_head(&head, at);
         if (refusal != 0)
             return refusal;
+        bytes += sample_bytes(&head);
     }
-    *at = headers + (size_t)samples * header_size;
-    for (uint32_t i = 0; i < samples; i++) {
-        uint32_t bytes = sample_bytes(file + headers + (size_t)i * header_size);
-        if (bytes > file_len - *at)
-            return refuse(1, *at);
-        *at += bytes;
-        *data += bytes;
-    }
+    if (bytes > file_len - at)
+        return refuse(1, cut_data(file, file_len, heads, instrument->samples, head_size));
+    instrument->data = (uint32_t)bytes;
     return 0;
 }
 
-static inline size_t walk_patterns(const uint8_t *file, size_t file_len, struct walk *walk, struct pattern *patterns)
+static inline uint64_t try_normal_instrument(const uint8_t *file, size_t file_len, size_t at, struct instrument *instrument)
+{
+    if (file_len - at < 29)
+        return refuse(1, at);
+    uint32_t size = number32(file + at), samples = number16(file + at + 27);
+    if (size < 29 || samples > 16 || (size < 263 && samples > 0))
+        return refuse(10, at);
+    if (size > file_len - at)
+        return refuse(1, at);
+    *instrument = (struct instrument){.at = (uint32_t)at, .size = size, .samples = samples};
+    if (samples == 0)
+        return 0;
+    instrument->head_size = number32(file + at + 29);
+    return instrument->head_size < 40 ? refuse(11, at) : try_samples(file, file_len, instrument);
+}
+
+/* k and then H of a stripped module's instrument, in a word, as far as I bytes hold them. */
+static inline uint64_t cut_numbers(const uint8_t *from, size_t size, size_t there)
+{
+    if (size <= 27)
+        return 0;
+    return there >= 35 ? word(from + 27) & low_bytes[smaller(size - 27, 6)] : word_of(from + 27, smaller(size - 27, 6));
+}
+
+static inline uint64_t try_stripped_instrument(const uint8_t *file, size_t file_len, size_t at, struct instrument *instrument)
+{
+    if (file_len - at < 4)
+        return refuse(1, at);
+    uint32_t size = number32(file + at);
+    if (size < 4)
+        return refuse(10, at);
+    if (size > file_len - at)
+        return refuse(1, at);
+    uint64_t numbers = cut_numbers(file + at, size, file_len - at);
+    *instrument = (struct instrument){.at = (uint32_t)at, .size = size, .samples = numbers & 0xFFFF};
+    if (instrument->samples == 0)
+        return 0;
+    instrument->head_size = (uint32_t)(numbers >> 16);
+    return instrument->samples > 16 ? refuse(10, at) : try_samples(file, file_len, instrument);
+}
+
+/* The form in which an instrument is written */
+
+/* How many bytes are left if zeros at the end are cut off; 'least' of them always are. */
+static inline size_t without_zeros(const uint8_t *bytes, size_t size, size_t least)
+{
+    for (; size >= least + 8; size -= 8) {
+        uint64_t last = word(bytes + size - 8);
+        if (last != 0)
+            return size - (unsigned)__builtin_clzll(last) / 8;
+    }
+    while (size > least && bytes[size - 1] == 0)
+        size--;
+    return size;
+}
+
+/* The smallest H that cuts off nothing but zeros of any header. */
+static inline size_t smallest_head(const uint8_t *heads, size_t size, uint32_t samples)
+{
+    size_t most = smaller(size, 40), least = 0;
+    for (; samples > 0 && least < most; samples--, heads += size)
+        least = without_zeros(heads, most, least);
+    return least;
+}
+
+/* H is chosen before I, since it is among what I may cut off; k is never 0 there. */
+static inline void find_stripped_form(const uint8_t *file, struct instrument *instrument)
+{
+    const uint8_t *from = file + instrument->at;
+    if (instrument->samples == 0) {
+        instrument->new_size = (uint32_t)without_zeros(from, smaller(instrument->size, 27), 4);
+        return;
+    }
+    size_t head_size = smallest_head(from + instrument->size, instrument->head_size, instrument->samples);
+    size_t size = without_zeros(from, smaller(instrument->size, 241), 33);
+    instrument->new_head_size = (uint32_t)head_size;
+    instrument->new_size = size > 33 ? (uint32_t)size : head_size > 0 ? 30 : 28;
+}
+
+/* The bytes that it takes. */
+static inline size_t find_form(const uint8_t *file, struct instrument *instrument, bool stripped)
+{
+    if (stripped) {
+        find_stripped_form(file, instrument);
+    } else {
+        instrument->new_size = instrument->samples > 0 ? 263 : 29;
+        instrument->new_head_size = 40;
+    }
+    return instrument->new_size + (size_t)instrument->samples * instrument->new_head_size + instrument->data;
+}
+
+static inline size_t walk_patterns(const uint8_t *file, size_t file_len, struct walk *walk, struct found *found)
 {
     size_t at = 60 + (size_t)walk->header.size;
     for (uint32_t i = 0; i < walk->header.patterns; i++) {
-        struct pattern one, *pattern = patterns == NULL ? &one : &patterns[i];
-        walk->answer = try_pattern(file, file_len, at, walk->header.channels, patterns != NULL, pattern);
+        struct pattern one, *pattern = found == NULL ? &one : &found->patterns[i];
+        walk->answer = try_pattern(file, file_len, at, walk->header.channels, found != NULL, pattern);
         if (walk->answer != 0)
             return at;
         walk->pressed += 9 + pattern->stored;
@@ -485,26 +635,36 @@ static inline size_t walk_patterns(const uint8_t *file, size_t file_len, struct 
     return at;
 }
 
-/* With room for patterns, measures for a press; without, only tries. */
-static inline struct walk walk_file(const uint8_t *file, size_t file_len, struct pattern *patterns)
+static inline size_t walk_instruments(const uint8_t *file, size_t file_len, size_t at, struct walk *walk, struct found *found)
 {
-    struct walk walk = {.pressed = 336};
+    for (uint32_t i = 0; i < walk->header.instruments; i++) {
+        struct instrument one, *instrument = found == NULL ? &one : &found->instruments[i];
+        walk->answer = walk->header.stripped ? try_stripped_instrument(file, file_len, at, instrument)
+                                             : try_normal_instrument(file, file_len, at, instrument);
+        if (walk->answer != 0)
+            return at;
+        if (found != NULL)
+            walk->pressed += find_form(file, instrument, found->stripped);
+        at += instrument->size + (size_t)instrument->samples * instrument->head_size + instrument->data;
+    }
+    return at;
+}
+
+/* With room for what is found, measures for a press; without, only tries. In its callers always, so that each has loops of its own. */
+static inline __attribute__((always_inline)) struct walk walk_file(const uint8_t *file, size_t file_len, struct found *found)
+{
+    struct walk walk = {.pressed = 0};
     walk.answer = try_header(file, file_len, &walk.header);
     if (walk.answer != 0)
         return walk;
-    size_t at = walk_patterns(file, file_len, &walk, patterns);
+    if (found != NULL)
+        walk.pressed = 60 + least_header(found->stripped, walk.header.song_length);
+    size_t at = walk_patterns(file, file_len, &walk, found);
     if (walk.answer != 0)
         return walk;
-    walk.instruments_at = at;
-    for (uint32_t i = 0; i < walk.header.instruments; i++) {
-        size_t start = at, data;
-        walk.answer = try_instrument(file, file_len, &at, &data);
-        if (walk.answer != 0)
-            return walk;
-        uint32_t samples = number16(file + start + 27);
-        walk.pressed += samples == 0 ? 29 : 263 + 40 * samples + data;
-    }
-    walk.answer = at;
+    at = walk_instruments(file, file_len, at, &walk, found);
+    if (walk.answer == 0)
+        walk.answer = at;
     return walk;
 }
 
@@ -513,18 +673,27 @@ uint64_t fast_check(const uint8_t *file, size_t file_len)
     return walk_file(file, file_len, NULL).answer;
 }
 
-/* Pressing */
+/* Pressing and converting */
 
-static uint8_t *press_header(const uint8_t *file, const struct header *header, uint8_t *out)
+/* Which kind is written, and whether with the tracker name. */
+struct form {
+    bool stripped, tracker;
+};
+
+static uint8_t *press_header(const uint8_t *file, const struct header *header, struct form form, uint8_t *out)
 {
-    uint32_t restart = number16(file + 66);
-    memcpy(out, "Extended module: ", 17);
+    uint32_t restart = number16(file + 66), size = least_header(form.stripped, header->song_length);
+    memcpy(out, form.stripped ? "\0\0\0\0\0\0\0\0\0\0\0\0\0\0\0\0" : "Extended module: ", 17);
     memcpy(out + 17, file + 17, 63);
-    put32(out + 60, 276);
+    out[37] = form.stripped ? 0 : 0x1A;
+    if (!form.tracker)
+        memset(out + 38, 0, 20);
+    put16(out + 58, form.stripped ? 0 : 0x0104);
+    put32(out + 60, size);
     put16(out + 66, restart < header->song_length ? restart : 0);
     memcpy(out + 80, file + 80, header->song_length);
-    memset(out + 80 + header->song_length, 0, 256 - header->song_length);
-    return out + 336;
+    memset(out + 80 + header->song_length, 0, size - 20 - header->song_length);
+    return out + 60 + size;
 }
 
 /* 'end' is the pressed file's: up to there a whole word may be written, since what comes later is written later. */
@@ -558,48 +727,110 @@ static uint8_t *press_pattern(const uint8_t *file, const struct pattern *pattern
     return out + 9 + pattern->stored;
 }
 
-/* Writes an instrument of an accepted file, and moves *at to its end. */
-static uint8_t *press_instrument(const uint8_t *file, size_t *at, uint8_t *out)
+/* Writes bytes of which only 'size' are there, and 0 for the others. */
+static inline void put_cut(uint8_t *to, const uint8_t *from, size_t size, size_t wanted)
 {
-    const uint8_t *from = file + *at;
-    uint32_t samples = number16(from + 27);
-    memcpy(out + 4, from + 4, 25);
-    *at += number32(from);
-    put32(out, samples > 0 ? 263 : 29);
-    if (samples == 0)
-        return out + 29;
-    uint32_t header_size = number32(from + 29);
-    size_t data = 0;
-    put32(out + 29, 40);
-    memcpy(out + 33, from + 33, 208);
-    memset(out + 241, 0, 22);
-    out += 263;
-    for (uint32_t i = 0; i < samples; i++, out += 40, *at += header_size) {
-        memcpy(out, file + *at, 40);
-        data += sample_bytes(file + *at);
+    if (size >= wanted) {
+        memcpy(to, from, wanted);
+    } else {
+        memset(to, 0, wanted);
+        memcpy(to, from, size);
     }
-    memcpy(out, file + *at, data);
-    *at += data;
-    return out + data;
 }
 
-uint64_t fast_press(const uint8_t *file, size_t file_len, uint8_t *out, size_t out_len)
+/* Instruments of an accepted file */
+
+static uint8_t *press_normal(const uint8_t *file, const struct instrument *instrument, uint8_t *out)
 {
-    struct pattern patterns[256];
-    struct walk walk = walk_file(file, file_len, patterns);
+    const uint8_t *from = file + instrument->at, *heads = from + instrument->size;
+    size_t size = instrument->size, head_size = instrument->head_size;
+    put_cut(out, from, size, 29);
+    put32(out, instrument->new_size);
+    if (instrument->samples == 0)
+        return out + 29;
+    put32(out + 29, 40);
+    put_cut(out + 33, from + 33, size > 33 ? size - 33 : 0, 208);
+    memset(out + 241, 0, 22);
+    out += 263;
+    for (uint32_t i = 0; i < instrument->samples; i++, out += 40, heads += head_size)
+        put_cut(out, heads, head_size, 40);
+    memcpy(out, heads, instrument->data);
+    return out + instrument->data;
+}
+
+/* Writes the first bytes of each header. Where there are 40 in the file and up to the output's end, 40 are copied. */
+static uint8_t *press_heads(const uint8_t *heads, const uint8_t *file_end, const struct instrument *instrument, uint8_t *out,
+                            const uint8_t *end)
+{
+    size_t size = instrument->new_head_size;
+    for (uint32_t i = 0; i < instrument->samples; i++, out += size, heads += instrument->head_size) {
+        if (file_end - heads >= 40 && end - out >= 40)
+            memcpy(out, heads, 40);
+        else
+            memcpy(out, heads, size);
+    }
+    return out;
+}
+
+/* Nothing is there to be filled with 0, and an instrument that is not cut is copied. */
+static uint8_t *press_stripped(const uint8_t *file, const uint8_t *file_end, const struct instrument *instrument, uint8_t *out,
+                               const uint8_t *end)
+{
+    const uint8_t *from = file + instrument->at, *heads = from + instrument->size;
+    size_t size = instrument->new_size, heads_bytes = (size_t)instrument->samples * instrument->head_size;
+    bool same_heads = instrument->new_head_size == instrument->head_size;
+    if (size == instrument->size && same_heads) {
+        memcpy(out, from, size + heads_bytes + instrument->data);
+        return out + size + heads_bytes + instrument->data;
+    }
+    memcpy(out, from, size);
+    put32(out, (uint32_t)size);
+    if (size > 30)
+        put32(out + 29, instrument->new_head_size);
+    else if (size == 30)
+        out[29] = (uint8_t)instrument->new_head_size;
+    out = press_heads(heads, file_end, instrument, out + size, end);
+    memcpy(out, heads + heads_bytes, instrument->data);
+    return out + instrument->data;
+}
+
+static uint64_t press_as(const uint8_t *file, size_t file_len, struct form form, uint8_t *out, size_t out_len)
+{
+    struct found found;
+    found.stripped = form.stripped;
+    struct walk walk = walk_file(file, file_len, &found);
     if (walk.answer >> 32 != 0)
         return walk.answer;
+    if (walk.pressed > 16777216)
+        return refuse(2, 0);
     if (walk.pressed > out_len)
         return refuse(14, 0);
     if (!groups_made)
         make_groups();
     const uint8_t *end = out + walk.pressed;
-    out = press_header(file, &walk.header, out);
+    out = press_header(file, &walk.header, form, out);
     for (uint32_t i = 0; i < walk.header.patterns; i++)
-        out = press_pattern(file, &patterns[i], walk.header.channels, out, end);
+        out = press_pattern(file, &found.patterns[i], walk.header.channels, out, end);
     for (uint32_t i = 0; i < walk.header.instruments; i++)
-        out = press_instrument(file, &walk.instruments_at, out);
+        out = form.stripped ? press_stripped(file, file + file_len, &found.instruments[i], out, end)
+                            : press_normal(file, &found.instruments[i], out);
     return walk.pressed;
+}
+
+uint64_t fast_press(const uint8_t *file, size_t file_len, uint8_t *out, size_t out_len)
+{
+    bool stripped = file_len >= 80 && is_stripped(file);
+    return press_as(file, file_len, (struct form){stripped, !stripped}, out, out_len);
+}
+
+uint64_t fast_to_normal(const uint8_t *file, size_t file_len, uint8_t *out, size_t out_len)
+{
+    return press_as(file, file_len, (struct form){.stripped = false, .tracker = false}, out, out_len);
+}
+
+uint64_t fast_to_stripped(const uint8_t *file, size_t file_len, uint8_t *out, size_t out_len)
+{
+    return press_as(file, file_len, (struct form){.stripped = true, .tracker = false}, out, out_len);
 }
 
 /* ADPCM samples */

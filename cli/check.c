@@ -5,9 +5,15 @@
 #include "commands.h"
 
 #include "../include/fiddlemarsh.h"
-#include "input.h"
 
 #include <stdlib.h>
+
+struct finding check_module(const char *name, struct bytes module)
+{
+    struct finding finding = {.name = name, .answer = fiddlemarsh_check(module.first, module.length), .length = module.length};
+    finding.stripped = !fiddlemarsh_refused(finding.answer) && fiddlemarsh_is_stripped(module.first);
+    return finding;
+}
 
 static enum status check_file(struct manner manner, const struct name *name)
 {
@@ -16,9 +22,9 @@ static enum status check_file(struct manner manner, const struct name *name)
         say_trouble_record(manner, name->text);
         return TROUBLE;
     }
-    uint64_t answer = fiddlemarsh_check(input.bytes.first, input.bytes.length);
+    struct finding finding = check_module(name->text, input.bytes);
     free(input.bytes.first);
-    return say_checked(manner, (struct finding){name->text, answer, input.bytes.length});
+    return say_checked(manner, finding);
 }
 
 enum status check_files(struct manner manner, int count, char **named)

@@ -1,4 +1,4 @@
-/* press.c: fiddlemarsh press. */
+/* press.c: fiddlemarsh press, and convert. */
 
 #define _XOPEN_SOURCE 700
 
@@ -17,9 +17,10 @@ struct kept {
     size_t count;
 };
 
-/* One file to press. */
+/* One file to press or convert. */
 struct job {
     struct manner manner;
+    enum target to;
     const struct name *in;
     const char *out;
     struct kept *kept; /* NULL where the user names OUT */
@@ -53,14 +54,48 @@ static void keep(struct kept *kept, const char *path)
 
 /* One file */
 
+#define MODULE_LEAST 80 /* bytes: a file of fewer is refused */
+
+/* Whether a module is of the kind that is wanted; of one that is refused it does not matter. */
+static bool has_kind(const struct job *job, struct bytes module)
+{
+    bool stripped = module.length >= MODULE_LEAST && fiddlemarsh_is_stripped(module.first);
+    return job->to == OWN_KIND || (job->to == STRIPPED_KIND) == stripped;
+}
+
+/* A module that is of the kind already is pressed, which keeps its tracker name. */
+static uint64_t write_module(const struct job *job, struct bytes module, struct bytes room)
+{
+    if (has_kind(job, module))
+        return fiddlemarsh_press(module.first, module.length, room.first, room.length);
+    if (job->to == NORMAL_KIND)
+        return fiddlemarsh_to_normal(module.first, module.length, room.first, room.length);
+    return fiddlemarsh_to_stripped(module.first, module.length, room.first, room.length);
+}
+
+static void say_work(const struct job *job, struct bytes module, size_t written)
+{
+    const char *kind = kind_name(job->to == STRIPPED_KIND);
+    bool already = has_kind(job, module);
+    if (already && job->to != OWN_KIND)
+        printf("a %s module already, ", kind);
+    printf("%zu bytes ", module.length);
+    if (already)
+        printf("pressed into %zu", written);
+    else
+        printf("converted to a %s module of %zu", kind, written);
+}
+
 /* Told before OUT is replaced: if it cannot be told, OUT stays as it was. */
-static bool say_pressed(const struct job *job, size_t length, size_t pressed, const struct output *output)
+static bool say_pressed(const struct job *job, struct bytes module, size_t written, const struct output *output)
 {
     if (job->manner.quiet)
         return true;
     clear_progress();
     say_name(stdout, job->in->text);
-    printf(": %zu bytes pressed into %zu, written to ", length, pressed);
+    fputs(": ", stdout);
+    say_work(job, module, written);
+    fputs(", written to ", stdout);
     say_name(stdout, output->name);
     if (output->replaces && output->about.st_nlink > 1)
         printf("; hard links that still hold the old bytes: %lu", (unsigned long)output->about.st_nlink - 1);
@@ -72,7 +107,7 @@ static enum status write_pressed(const struct job *job, const struct input *inpu
 {
     if (!may_replace(job, input, output) || put_aside(output, pressed) != ACCEPTED)
         return TROUBLE;
-    if (!say_pressed(job, input->bytes.length, pressed.length, output)) {
+    if (!say_pressed(job, input->bytes, pressed.length, output)) {
         int because = errno;
         remove_temporary();
         exit(trouble("standard output", "cannot be written: %s", strerror(because)));
@@ -83,16 +118,15 @@ static enum status write_pressed(const struct job *job, const struct input *inpu
     return ACCEPTED;
 }
 
-/* A pressed module is never longer than its input, so there is room for it. */
-static enum status press_input(const struct job *job, const struct input *input, uint8_t *room)
+static enum status press_input(const struct job *job, const struct input *input, struct bytes room)
 {
-    uint64_t answer = fiddlemarsh_press(input->bytes.first, input->bytes.length, room, input->bytes.length);
+    uint64_t answer = write_module(job, input->bytes, room);
     if (fiddlemarsh_refused(answer))
-        return say_refusal(stderr, (struct finding){job->in->text, answer, input->bytes.length});
+        return say_refusal(stderr, (struct finding){.name = job->in->text, .answer = answer, .length = input->bytes.length});
     struct output output;
     enum status status = find_output(job->out, &output);
     if (status == ACCEPTED)
-        status = write_pressed(job, input, &output, (struct bytes){room, fiddlemarsh_length(answer)});
+        status = write_pressed(job, input, &output, (struct bytes){room.first, fiddlemarsh_length(answer)});
     free_output(&output);
     return status;
 }
@@ -102,31 +136,32 @@ static enum status press_one(const struct job *job)
     struct input input;
     if (!is_file(job->in) || !read_input(job->in, &input))
         return TROUBLE;
-    uint8_t *room = malloc(input.bytes.length + 1);
-    enum status status = room == NULL ? trouble(job->in->text, "not enough memory") : press_input(job, &input, room);
-    free(room);
+    size_t length = fiddlemarsh_normal_room(input.bytes.length); /* a pressed module needs less */
+    struct bytes room = {malloc(length), length};
+    enum status status = room.first == NULL ? trouble(job->in->text, "not enough memory") : press_input(job, &input, room);
+    free(room.first);
     free(input.bytes.first);
     return status;
 }
 
-enum status press_file(struct manner manner, char *in, const char *out)
+enum status press_file(struct manner manner, enum target to, char *in, const char *out)
 {
     struct name name = {.text = in};
-    return press_one(&(struct job){manner, &name, out, NULL});
+    return press_one(&(struct job){manner, to, &name, out, NULL});
 }
 
 /* Many files */
 
-static enum status press_found(struct manner manner, const struct name *in, const char *directory, struct kept *kept)
+static enum status press_found(struct manner manner, enum target to, const struct name *in, const char *directory, struct kept *kept)
 {
     const char *slash = strrchr(in->text, '/');
     char *out = join(directory, slash == NULL ? in->text : slash + 1);
-    enum status status = press_one(&(struct job){manner, in, out, kept});
+    enum status status = press_one(&(struct job){manner, to, in, out, kept});
     free(out);
     return status;
 }
 
-static enum status press_all(struct manner manner, const char *directory, const struct names *names)
+static enum status press_all(struct manner manner, enum target to, const char *directory, const struct names *names)
 {
     struct counts counts = {{0}};
     struct kept kept = {calloc(2 * names->count, sizeof(struct stat)), 0};
@@ -136,14 +171,14 @@ static enum status press_all(struct manner manner, const char *directory, const 
         keep(&kept, names->first[i].text);
     for (size_t i = 0; i < names->count; i++) {
         say_progress(manner, i, names->count);
-        counts.of[press_found(manner, &names->first[i], directory, &kept)]++;
+        counts.of[press_found(manner, to, &names->first[i], directory, &kept)]++;
     }
-    say_counts(manner, counts, "pressed");
+    say_counts(manner, counts, to == OWN_KIND ? "pressed" : "converted or pressed");
     free(kept.first);
     return worst_of(counts);
 }
 
-enum status press_into(struct manner manner, const char *directory, int count, char **named)
+enum status press_into(struct manner manner, enum target to, const char *directory, int count, char **named)
 {
     struct stat about;
     struct names names = {NULL, 0, 0};
@@ -153,7 +188,7 @@ enum status press_into(struct manner manner, const char *directory, int count, c
         return trouble(directory, "is not a directory");
     for (int i = 0; i < count; i++)
         add_named(&names, named[i], &about);
-    enum status status = press_all(manner, directory, &names);
+    enum status status = press_all(manner, to, directory, &names);
     free_names(&names);
     return status;
 }

@@ -7,7 +7,6 @@
 #include "commands.h"
 
 #include "../include/fiddlemarsh.h"
-#include "input.h"
 
 #include <stdlib.h>
 #include <string.h>
@@ -58,7 +57,7 @@ static enum status read_pressed(const struct name *name, struct finding *finding
     if (!is_file(name) || !read_input(name, &input))
         return TROUBLE;
     enum status status = REFUSED;
-    *finding = (struct finding){name->text, fiddlemarsh_check(input.bytes.first, input.bytes.length), input.bytes.length};
+    *finding = check_module(name->text, input.bytes);
     if (!S_ISREG(input.about.st_mode)) /* even if it is refused: what is told of it must not hang on what is in it */
         status = trouble(name->text, "is not a regular file: it may have to be read twice");
     else if (!fiddlemarsh_refused(finding->answer))

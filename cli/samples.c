@@ -37,7 +37,7 @@ struct sheet {
 struct sample {
     unsigned instrument;
     unsigned number;
-    const uint8_t *name;
+    uint8_t name[NAME_BYTES];
     const uint32_t *row;
     const int8_t *tune;
     unsigned values;
@@ -48,14 +48,17 @@ static struct sample sample_at(const struct sheet *sheet, uint32_t instrument, u
 {
     const uint32_t *owner = sheet->instruments + instrument * FIDDLEMARSH_INSTRUMENT_NUMBERS;
     uint32_t at = owner[FIDDLEMARSH_INSTRUMENT_FIRST_SAMPLE] + number;
+    uint32_t header_size = fiddlemarsh_sample_header_size(owner, sheet->samples);
     const uint32_t *row = sheet->samples + at * FIDDLEMARSH_SAMPLE_NUMBERS;
-    return (struct sample){.instrument = instrument + 1,
-                           .number = number + 1,
-                           .name = sheet->file + row[FIDDLEMARSH_SAMPLE_HEADER_PLACE] + NAME_AT,
-                           .row = row,
-                           .tune = sheet->tunes + at * FIDDLEMARSH_SAMPLE_TUNES,
-                           .values = fiddlemarsh_sample_values(sheet->file, row),
-                           .adpcm = fiddlemarsh_sample_is_adpcm(sheet->file, row)};
+    struct sample sample = {.instrument = instrument + 1,
+                            .number = number + 1,
+                            .row = row,
+                            .tune = sheet->tunes + at * FIDDLEMARSH_SAMPLE_TUNES,
+                            .values = fiddlemarsh_sample_values(sheet->file, row, header_size),
+                            .adpcm = fiddlemarsh_sample_is_adpcm(sheet->file, row, header_size)};
+    for (uint32_t i = 0; i < NAME_BYTES; i++)
+        sample.name[i] = fiddlemarsh_sample_header_byte(sheet->file, row, header_size, NAME_AT + i);
+    return sample;
 }
 
 /* Names */
@@ -190,7 +193,7 @@ enum status say_samples(struct manner manner, char *named)
     sheet.name = named;
     sheet.file = input.bytes.first;
     if (fiddlemarsh_refused(answer))
-        status = say_refusal(stderr, (struct finding){named, answer, input.bytes.length});
+        status = say_refusal(stderr, (struct finding){.name = named, .answer = answer, .length = input.bytes.length});
     else if (manner.tsv)
         each_line(manner, &sheet, say_fields, NULL);
     else

@@ -34,6 +34,11 @@ void say_name(FILE *to, const char *name)
     }
 }
 
+const char *kind_name(bool stripped)
+{
+    return stripped ? "stripped" : "normal";
+}
+
 /* In a record: printable ASCII but for the backslash as it stands, every other byte as \0 and three octal digits. The shell's
    printf %b gives the name back. */
 static void say_escaped(FILE *to, const char *name)
@@ -91,18 +96,19 @@ static void say_accepted(struct finding finding)
 {
     unsigned end = fiddlemarsh_end(finding.answer);
     say_name(stdout, finding.name);
-    printf(": accepted, ends at place %u (0x%X)", end, end);
+    printf(": accepted as a %s module, ends at place %u (0x%X)", kind_name(finding.stripped), end, end);
     if (finding.length > end)
         printf("; %zu bytes follow that are no part of it", finding.length - end);
     putchar('\n');
 }
 
-/* Records: nine fields. Of the fifth and sixth, the value found and the limit that it breaks, only a cut file's limit is known. */
+/* Records: ten fields. Of the fifth and sixth, the value found and the limit that it breaks, only a cut file's limit is known. */
 
 static void say_record(struct finding finding)
 {
     unsigned number = fiddlemarsh_refusal(finding.answer);
-    if (fiddlemarsh_refused(finding.answer)) {
+    bool refused = fiddlemarsh_refused(finding.answer);
+    if (refused) {
         printf("refused\t%u\t%s\t%u\t-\t", number, fiddlemarsh_refusal_name(number), (unsigned)fiddlemarsh_place(finding.answer));
         if (number == FIDDLEMARSH_CUT)
             printf("%zu", finding.length);
@@ -114,7 +120,7 @@ static void say_record(struct finding finding)
                finding.length);
     }
     say_escaped(stdout, finding.name);
-    putchar('\n');
+    printf("\t%s\n", refused ? "-" : kind_name(finding.stripped));
 }
 
 void say_trouble_record(struct manner manner, const char *name)
@@ -123,7 +129,7 @@ void say_trouble_record(struct manner manner, const char *name)
         return;
     fputs("trouble\t-\t-\t-\t-\t-\t-\t-\t", stdout);
     say_escaped(stdout, name);
-    putchar('\n');
+    puts("\t-");
 }
 
 enum status say_checked(struct manner manner, struct finding finding)

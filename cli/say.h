@@ -28,9 +28,13 @@ struct finding {
     const char *name;
     uint64_t answer;
     size_t length;
+    bool stripped; /* which kind of module an accepted file is */
 };
 
 void say_name(FILE *to, const char *name);
+
+/* A kind of module by its name, normal or stripped. */
+const char *kind_name(bool stripped);
 
 enum status trouble(const char *name, const char *format, ...);
 enum status wrong_usage(const char *what, const char *which);

@@ -1,4 +1,5 @@
-/* fiddlemarsh.h: checking, opening, packing and pressing FastTracker II (XM) modules, version 0x0104. This file is the manual.
+/* fiddlemarsh.h: checking, opening, packing, pressing and converting FastTracker II (XM) modules, version 0x0104, and Stripped
+   Modules. This file is the manual.
 
    C99 or later, and C++. Link with libfiddlemarsh.a; of other libraries it needs at most memset and memcpy, which every libc has.
    Where it is installed:
@@ -12,8 +13,8 @@
    before, during and after a call: the library allocates nothing, frees nothing, and keeps no pointer. A pointer must be good for
    its whole length (readable, and for what a call fills writable), and may be NULL if the length is 0. Bytes need no alignment;
    numbers of 16 and 32 bits need that of their types.
-   What a call writes must not overlap what it reads, nor one thing that it fills another: pressing, packing or decoding in place is
-   not possible.
+   What a call writes must not overlap what it reads, nor one thing that it fills another: pressing, converting, packing or decoding
+   in place is not possible.
 
    Threads
 
@@ -43,11 +44,13 @@
    Stack is what a call takes below its caller's, return address included: the most that was measured on x86-64.
 
        call       stack, bytes    time grows with
-       check               384    file_len: what stands in headers and patterns is read once, sample data are passed over
+       check               464    file_len: what stands in headers and patterns is read once, sample data are passed over
        unpack              304    data_len + rows x channels
        pack                 72    cells_len
-       press               584    file_len: as the check, and once more what is written
-       tables              480    file_len: as the check, and once more the headers
+       press               848    file_len: as the check, and once more what is written
+       to_normal           848    file_len: as the check, and once more what is written
+       to_stripped         848    file_len: as the check, and once more what is written
+       tables              608    file_len: as the check, and once more the headers
        decode               24    bytes_len
        code                 24    values_len
        adpcm                40    length
@@ -55,11 +58,22 @@
 
    Time grows in proportion to that and no faster, whatever the input holds.
 
+   Normal and stripped modules
+
+   There are two kinds of module, and every call that takes a module takes both. In a normal one the mark (byte 37) is 1A hex and the
+   version (bytes 58 and 59) 0x0104. In a stripped one, a Stripped Module, both are 0. It is shorter: its order table ends with the
+   song, and each of its instruments and sample headers may be cut off anywhere, and what is cut off reads as 0. ID text and tracker
+   name say nothing in it. Which kind an accepted module is, fiddlemarsh_is_stripped tells. Pressing leaves a module the kind that it
+   is; fiddlemarsh_to_normal and fiddlemarsh_to_stripped convert it.
+   Who reads a sample header from the file, at the place that the table has, must heed how long it is
+   (fiddlemarsh_sample_header_size): behind it stand other bytes, or none.
+
    Pressed files and players
 
    A pressed file begins with the ID text "Extended module: ", as the rules of the boards have it. FastTracker II writes a capital
    M there, and players that insist on it do not open pressed files (xmp and openmpt123 open none of 70). The boards read the mark
-   (byte 37) and the version (bytes 58 and 59), and so does the check.
+   (byte 37) and the version (bytes 58 and 59), and so does the check. The same holds of a module that is converted to a normal one.
+   A stripped one begins with 17 nulls.
 
    Versions
 
@@ -81,10 +95,10 @@
 extern "C" {
 #endif
 
-#define FIDDLEMARSH_VERSION_MAJOR 5
+#define FIDDLEMARSH_VERSION_MAJOR 6
 #define FIDDLEMARSH_VERSION_MINOR 0
 #define FIDDLEMARSH_VERSION_PATCH 0
-#define FIDDLEMARSH_VERSION "5.0.0"
+#define FIDDLEMARSH_VERSION "6.0.0"
 
 /* The refusal numbers, and the place that comes with each. */
 enum fiddlemarsh_number {
@@ -92,11 +106,12 @@ enum fiddlemarsh_number {
     /* A structure or its data reaches past the end of the file. Place: the start of the header, pattern or instrument that is
        cut; for cut sample headers, their instrument's start; for cut sample data, where that data would begin. */
     FIDDLEMARSH_CUT = 1,
-    /* The file is over FIDDLEMARSH_FILE_MOST bytes. Place 0. */
+    /* The file is over FIDDLEMARSH_FILE_MOST bytes, or would be once it is converted. Place 0. */
     FIDDLEMARSH_FILE_TOO_LONG = 2,
-    /* Byte 37 is not 1A hex, or the version is not 0x0104: no XM module, or a Stripped Module. Place 0. */
+    /* Mark (byte 37) and version are neither 1A hex and 0x0104, as in a normal module, nor both 0, as in a stripped one: no XM
+       module. Place 0. */
     FIDDLEMARSH_MARK_OR_VERSION = 3,
-    /* The header size is below 276. Place 0. */
+    /* The header size is below 276, or in a stripped module below 20 + song length. Place 0. */
     FIDDLEMARSH_HEADER_SIZE = 4,
     /* Song length or patterns not 1..256, channels not 1..64, or instruments above 128. Place 0. */
     FIDDLEMARSH_HEADER_COUNTS = 5,
@@ -109,10 +124,10 @@ enum fiddlemarsh_number {
     /* No longer given: every note is kept. Before version 3.0.0, a note above 97; place: the cell's lead byte, in packing the cell's
        first byte. The number stays for those who read old logs. */
     FIDDLEMARSH_NOTE = 9,
-    /* An instrument's size is below 29, it has over 16 samples, or its size is below 263 and it has samples.
-       Place: the instrument's start. */
+    /* An instrument's size is below 29, it has over 16 samples, or its size is below 263 and it has samples; in a stripped module,
+       its size is below 4, or it has over 16 samples. Place: the instrument's start. */
     FIDDLEMARSH_INSTRUMENT = 10,
-    /* A sample header size is below 40. Place: the instrument's start. */
+    /* A sample header size is below 40. Never given of a stripped module. Place: the instrument's start. */
     FIDDLEMARSH_SAMPLE_HEADER_SIZE = 11,
     /* A sample's kind is AD hex (ADPCM), and its type has the 16-bit bit set. Place: the sample header's start. */
     FIDDLEMARSH_SAMPLE_KIND = 12,
@@ -129,6 +144,7 @@ enum fiddlemarsh_number {
 
 /* Limits, for callers that set memory aside beforehand. */
 #define FIDDLEMARSH_FILE_MOST 16777216 /* bytes of a module */
+#define FIDDLEMARSH_NORMAL_MORE_MOST 112255 /* bytes by which a module may grow when it is converted to a normal one */
 #define FIDDLEMARSH_DATA_MOST 65535    /* bytes of one pattern's stored cells */
 #define FIDDLEMARSH_ROWS_MOST 256      /* rows of a pattern */
 #define FIDDLEMARSH_CHANNELS_MOST 64
@@ -160,7 +176,7 @@ enum fiddlemarsh_number {
 #define FIDDLEMARSH_INSTRUMENT_TABLE_MOST 384
 
 #define FIDDLEMARSH_SAMPLE_NUMBERS 7
-#define FIDDLEMARSH_SAMPLE_HEADER_PLACE 0
+#define FIDDLEMARSH_SAMPLE_HEADER_PLACE 0 /* how long it is, fiddlemarsh_sample_header_size tells */
 #define FIDDLEMARSH_SAMPLE_DATA_PLACE 1
 #define FIDDLEMARSH_SAMPLE_LENGTH 2      /* bytes of its data, as they are stored */
 #define FIDDLEMARSH_SAMPLE_WIDTH 3       /* 8 or 16 bits to a value */
@@ -204,8 +220,26 @@ uint64_t fiddlemarsh_pack(size_t rows, size_t channels, const uint8_t *cells, si
 /* Presses a module: writes the shortest file of the same content, in one fixed form (see 'Pressed files and players' above).
    Returns the length, and has filled that many bytes of out. The length never exceeds file_len, so room of file_len bytes is
    always enough. A pressed file is accepted, and pressing it again gives the same bytes.
+   A stripped module is pressed into the shortest stripped one: its content has no tracker name, which is written as nulls.
    Refusals: those of the check, then 14. */
 uint64_t fiddlemarsh_press(const uint8_t *file, size_t file_len, uint8_t *out, size_t out_len);
+
+/* Converts a module to a normal one: writes the shortest normal file of its content, with 20 nulls as tracker name. All else in the
+   content is kept. A module that is normal already only loses its tracker name; pressing keeps that.
+   Returns the length, and has filled that many bytes of out. The length may exceed file_len, by at most FIDDLEMARSH_NORMAL_MORE_MOST
+   bytes, and never exceeds FIDDLEMARSH_FILE_MOST: room of fiddlemarsh_normal_room(file_len) bytes is always enough. (Of the bytes
+   that may come in addition, 255 are an order table's of one entry; 875 are an instrument's, 263 bytes for 28 and 40 for each of 16
+   sample headers of none; and of instruments there are 128.)
+   What is written is accepted, and pressing it again gives the same bytes.
+   Refusals: those of the check, then 2 if the file written would be over FIDDLEMARSH_FILE_MOST bytes, then 14. */
+uint64_t fiddlemarsh_to_normal(const uint8_t *file, size_t file_len, uint8_t *out, size_t out_len);
+
+/* Converts a module to a stripped one: writes the shortest stripped file of its content, but for the tracker name, which a stripped
+   module has not. A module that is stripped already is pressed by this.
+   Returns the length, and has filled that many bytes of out. The length never exceeds file_len, so room of file_len bytes is always
+   enough. What is written is accepted, and pressing it again gives the same bytes.
+   Refusals: those of the check, then 14. */
+uint64_t fiddlemarsh_to_stripped(const uint8_t *file, size_t file_len, uint8_t *out, size_t out_len);
 
 /* Checks a whole module as fiddlemarsh_check does, and fills the tables that say where everything stands: of each pattern,
    instrument and sample a row, as described at FIDDLEMARSH_PATTERN_NUMBERS and behind it.
@@ -248,8 +282,21 @@ uint64_t fiddlemarsh_adpcm(size_t length, const uint8_t *bytes, size_t bytes_len
    Refusals: 16 (note or finetune, or note 0 with a finetune below 0, which lies outside the table). */
 uint64_t fiddlemarsh_period(uint64_t note, int64_t finetune);
 
-/* How much there is in a module that was accepted: for others the answers mean nothing, and for a file of under 74 bytes the memory
-   behind it would be read. */
+/* Room that is enough for fiddlemarsh_to_normal of a file of that length, whatever it holds. */
+static inline size_t fiddlemarsh_normal_room(size_t file_len)
+{
+    return file_len < FIDDLEMARSH_FILE_MOST - FIDDLEMARSH_NORMAL_MORE_MOST ? file_len + FIDDLEMARSH_NORMAL_MORE_MOST
+                                                                           : FIDDLEMARSH_FILE_MOST;
+}
+
+/* Which kind a module that was accepted is, and how much there is in it: for others the answers mean nothing, and for a file of
+   under 74 bytes the memory behind it would be read. */
+
+/* 1 if it is a stripped module, 0 if it is a normal one. */
+static inline int fiddlemarsh_is_stripped(const uint8_t *file)
+{
+    return file[37] == 0;
+}
 
 static inline uint32_t fiddlemarsh_channels(const uint8_t *file)
 {
@@ -277,25 +324,45 @@ static inline uint32_t fiddlemarsh_samples(const uint8_t *file, const uint32_t *
 }
 
 /* How a sample's data are stored is not in its row: its header says it, which stands where the row says. Of a module that was
-   accepted, and a row of its sample table: */
+   accepted, with its tables: */
+
+/* The bytes that each sample header of an instrument has, by the instrument's row and the whole sample table; 0 if it has no samples.
+   In a normal module they are 40 or more, in a stripped one any number, and the bytes of a header that are not there read as 0. */
+static inline uint32_t fiddlemarsh_sample_header_size(const uint32_t *instrument, const uint32_t *samples)
+{
+    uint32_t count = instrument[FIDDLEMARSH_INSTRUMENT_SAMPLES];
+    if (count == 0)
+        return 0;
+    /* the headers stand together, and the first one's data right behind them */
+    const uint32_t *first = samples + instrument[FIDDLEMARSH_INSTRUMENT_FIRST_SAMPLE] * FIDDLEMARSH_SAMPLE_NUMBERS;
+    return (first[FIDDLEMARSH_SAMPLE_DATA_PLACE] - first[FIDDLEMARSH_SAMPLE_HEADER_PLACE]) / count;
+}
+
+/* The byte at an offset of a sample's header, by the sample's row and the size of its instrument's sample headers. */
+static inline uint8_t fiddlemarsh_sample_header_byte(const uint8_t *file, const uint32_t *row, uint32_t header_size, uint32_t offset)
+{
+    return offset < header_size ? file[row[FIDDLEMARSH_SAMPLE_HEADER_PLACE] + offset] : (uint8_t)0;
+}
 
 /* 1 if its data are for fiddlemarsh_adpcm (kind AD hex), 0 if they are for fiddlemarsh_decode. */
-static inline int fiddlemarsh_sample_is_adpcm(const uint8_t *file, const uint32_t *row)
+static inline int fiddlemarsh_sample_is_adpcm(const uint8_t *file, const uint32_t *row, uint32_t header_size)
 {
-    return file[row[FIDDLEMARSH_SAMPLE_HEADER_PLACE] + 17] == 0xAD;
+    return fiddlemarsh_sample_header_byte(file, row, header_size, 17) == 0xAD;
 }
 
 /* The length that its header says: of ADPCM data how many values they are, of others how many bytes. */
-static inline uint32_t fiddlemarsh_sample_header_length(const uint8_t *file, const uint32_t *row)
+static inline uint32_t fiddlemarsh_sample_header_length(const uint8_t *file, const uint32_t *row, uint32_t header_size)
 {
-    const uint8_t *header = file + row[FIDDLEMARSH_SAMPLE_HEADER_PLACE];
-    return header[0] + 256u * header[1] + 65536u * header[2] + 16777216u * header[3];
+    uint32_t length = 0;
+    for (uint32_t offset = 4; offset > 0; offset--)
+        length = 256u * length + fiddlemarsh_sample_header_byte(file, row, header_size, offset - 1);
+    return length;
 }
 
 /* How many values its data are, of either kind: what decoding gives. */
-static inline uint32_t fiddlemarsh_sample_values(const uint8_t *file, const uint32_t *row)
+static inline uint32_t fiddlemarsh_sample_values(const uint8_t *file, const uint32_t *row, uint32_t header_size)
 {
-    return fiddlemarsh_sample_header_length(file, row) / (row[FIDDLEMARSH_SAMPLE_WIDTH] / 8);
+    return fiddlemarsh_sample_header_length(file, row, header_size) / (row[FIDDLEMARSH_SAMPLE_WIDTH] / 8);
 }
 
 /* Taking an answer apart. */
@@ -342,7 +409,7 @@ static inline uint32_t fiddlemarsh_packed_rows(uint64_t answer)
     return fiddlemarsh_refused(answer) ? 0 : (uint32_t)answer >> 16;
 }
 
-/* The length that pressing reports; 0 of a refusal. */
+/* The length that pressing and converting report; 0 of a refusal. */
 static inline uint32_t fiddlemarsh_length(uint64_t answer)
 {
     return fiddlemarsh_refused(answer) ? 0 : (uint32_t)answer;
@@ -410,9 +477,9 @@ static inline const char *fiddlemarsh_refusal_words(uint32_t number)
         return "the file ends before all of it is there: it was cut short on its way, or a size in it is wrong; save it anew and "
                "send it again";
     case FIDDLEMARSH_FILE_TOO_LONG:
-        return "the file is over 16,777,216 bytes, too large for a board: shorten its samples";
+        return "the file is over 16,777,216 bytes, or would be once converted, too large for a board: shorten its samples";
     case FIDDLEMARSH_MARK_OR_VERSION:
-        return "this is no XM module, or a stripped or very old one: save it as XM 1.04";
+        return "this is no XM module, or a very old one: save it as XM 1.04";
     case FIDDLEMARSH_HEADER_SIZE:
         return "the header has no room for the order table: save the module with another tracker";
     case FIDDLEMARSH_HEADER_COUNTS:
@@ -489,14 +556,14 @@ static inline const char *fiddlemarsh_refusal_words(uint32_t number)
            printf("pattern %u: %u rows, %zu notes\n", (unsigned)number, (unsigned)fiddlemarsh_unpacked_rows(answer), notes);
        }
 
-       static void open_sample(uint32_t number)
+       static void open_sample(uint32_t number, uint32_t header_size)
        {
            const uint32_t *row = samples + number * FIDDLEMARSH_SAMPLE_NUMBERS;
            const int8_t *tune = tunes + number * FIDDLEMARSH_SAMPLE_TUNES;
            const uint8_t *data = file + row[FIDDLEMARSH_SAMPLE_DATA_PLACE];
            uint32_t length = row[FIDDLEMARSH_SAMPLE_LENGTH];
-           uint64_t answer = fiddlemarsh_sample_is_adpcm(file, row)
-                                 ? fiddlemarsh_adpcm(fiddlemarsh_sample_header_length(file, row), data, length, values,
+           uint64_t answer = fiddlemarsh_sample_is_adpcm(file, row, header_size)
+                                 ? fiddlemarsh_adpcm(fiddlemarsh_sample_header_length(file, row, header_size), data, length, values,
                                                      FIDDLEMARSH_VALUES_MOST)
                                  : fiddlemarsh_decode(row[FIDDLEMARSH_SAMPLE_WIDTH], data, length, values, FIDDLEMARSH_VALUES_MOST);
            stop_if_refused("decode", answer);
@@ -512,6 +579,13 @@ static inline const char *fiddlemarsh_refusal_words(uint32_t number)
            putchar('\n');
        }
 
+       static void open_instrument(uint32_t number)
+       {
+           const uint32_t *row = instruments + number * FIDDLEMARSH_INSTRUMENT_NUMBERS;
+           for (uint32_t i = 0; i < row[FIDDLEMARSH_INSTRUMENT_SAMPLES]; i++)
+               open_sample(row[FIDDLEMARSH_INSTRUMENT_FIRST_SAMPLE] + i, fiddlemarsh_sample_header_size(row, samples));
+       }
+
        int main(int argc, char **argv)
        {
            FILE *in = argc == 2 ? fopen(argv[1], "rb") : NULL;
@@ -524,11 +598,12 @@ static inline const char *fiddlemarsh_refusal_words(uint32_t number)
                                                 FIDDLEMARSH_INSTRUMENT_TABLE_MOST, samples, FIDDLEMARSH_SAMPLE_TABLE_MOST, tunes,
                                                 FIDDLEMARSH_TUNE_TABLE_MOST);
            stop_if_refused("tables", answer);
-           printf("accepted, ends at place %u\n", (unsigned)fiddlemarsh_end(answer));
+           printf("accepted as a %s module, ends at place %u\n", fiddlemarsh_is_stripped(file) ? "stripped" : "normal",
+                  (unsigned)fiddlemarsh_end(answer));
            for (uint32_t i = 0; i < fiddlemarsh_patterns(file); i++)
                open_pattern(i, fiddlemarsh_channels(file));
-           for (uint32_t i = 0; i < fiddlemarsh_samples(file, instruments); i++)
-               open_sample(i);
+           for (uint32_t i = 0; i < fiddlemarsh_instruments(file); i++)
+               open_instrument(i);
            return 0;
        }
 */

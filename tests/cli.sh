@@ -1,6 +1,7 @@
 #!/bin/sh
 # cli.sh: the command-line program as a person and a script would use it: usage, checking, names, directories, records. cli_press.sh
-# has pressing, cli_same.sh which files are one song, cli_samples.sh the sheet of samples. The last line is 'cli: N passed, 0 failed'.
+# has pressing, cli_convert.sh converting, cli_same.sh which files are one song, cli_samples.sh the sheet of samples. The last line is
+# 'cli: N passed, 0 failed'.
 #
 #   cli.sh PROGRAM EXAMPLE README     README's table has the words of each refusal
 readme=$(realpath "$3") || exit 2
@@ -22,7 +23,7 @@ ok "--help fits a terminal" [ -z "$(awk 'length > 80' said)" ]
 ok "--help says which ID text is written" says 'ID text "Extended module: "'
 ok "--help says which players do not open it" says 'xmp and openmpt123 open none of 70'
 cp said help
-for option in quiet tsv 'into DIR' help version; do
+for option in quiet tsv 'into DIR' 'to KIND' help version; do
     ok "--help has --$option" says "^  -[a-zA-Z], --$option  "
 done
 fiddlemarsh check --help
@@ -47,13 +48,23 @@ for option in --fast -x -xq --quiet=3; do
     ok "and nothing is done" [ ! -s said ]
 done
 for usage in 'check' 'check --into . example.xm' 'press example.xm' 'press example.xm one.xm two.xm' 'press --tsv example.xm one.xm' \
-    'press example.xm -' 'press --into' 'press --into .' 'press --into . -'; do
+    'press example.xm -' 'press --into' 'press --into .' 'press --into . -' 'press --to normal example.xm one.xm' \
+    'check --to normal example.xm' 'same --to normal example.xm' 'convert example.xm one.xm' 'convert --to' 'convert --to normal' \
+    'convert --to normal example.xm' 'convert --to other example.xm one.xm' 'convert --to Normal example.xm one.xm' \
+    'convert --to normal example.xm one.xm two.xm' 'convert --to stripped --tsv example.xm one.xm' 'convert --to stripped example.xm -' \
+    'convert --to stripped --into' 'convert --to stripped --into .' 'convert --to stripped --into . -'; do
     # shellcheck disable=SC2086  # words
     fiddlemarsh $usage
     ok "wrong usage: $usage" exits 2
     ok "it is told: $usage" complains "^Try 'fiddlemarsh --help'.\$"
 done
 ok "wrong usage writes nothing" is_missing one.xm
+fiddlemarsh convert --to other example.xm one.xm
+ok "what is no kind is named" complains 'wants normal or stripped, not other$'
+fiddlemarsh convert --to
+ok "a kind that is missing is told" complains '^fiddlemarsh: --to wants a kind of module'
+fiddlemarsh press --into
+ok "and a directory" complains '^fiddlemarsh: --into wants a directory$'
 
 # Periods: two whole numbers, and the quotient to its last digit
 period() { # NOTE FINETUNE LINE
@@ -76,7 +87,7 @@ for numbers in '119 0' '-1 0' '5 128' '5 -129' '0 -1' '18446744073709551616 0' '
         says_only 'refused, number 16: a note is 0 to 118, a finetune -128 to 127, and note 0 has none below 0'
 done
 for usage in 'period' 'period 5' 'period 5 -1 7' 'period five 0' 'period 5 0x10' 'period 5 -' 'period 5 1.5' 'period --quiet 5 0' \
-    'period --tsv 5 0' 'period --into . 5 0' 'period -1x 0'; do
+    'period --tsv 5 0' 'period --into . 5 0' 'period --to normal 5 0' 'period -1x 0'; do
     # shellcheck disable=SC2086  # words
     fiddlemarsh $usage
     ok "wrong usage: $usage" exits 2
@@ -93,13 +104,17 @@ ok "numbers behind --" says_only '14519 / 2 = 7259.5'
 # Checking one file
 fiddlemarsh check example.xm
 ok "an accepted file" exits 0
-ok "its line, and the count" says_only 'example.xm: accepted, ends at place 6042 (0x179A)
+ok "its line, and the count" says_only 'example.xm: accepted as a normal module, ends at place 6042 (0x179A)
+1 file: 1 accepted, 0 refused, 0 troubles'
+fiddlemarsh convert --to stripped example.xm stripped.xm
+fiddlemarsh check stripped.xm
+ok "a stripped module" says_only 'stripped.xm: accepted as a stripped module, ends at place 2576 (0xA10)
 1 file: 1 accepted, 0 refused, 0 troubles'
 cat example.xm precious >behind.xm
 fiddlemarsh check behind.xm
 ok "bytes behind the module are told" says '(0x179A); 15 bytes follow that are no part of it$'
 fiddlemarsh check - <example.xm
-ok "standard input" says '^standard input: accepted, ends at place 6042 '
+ok "standard input" says '^standard input: accepted as a normal module, ends at place 6042 '
 run eval 'program check - <&-'
 ok "standard input that is closed" exits 2
 ok "and is told" complains '^fiddlemarsh: standard input: cannot be read: '
@@ -158,7 +173,7 @@ ok "a file without end" says 'refused, number 2 at place 0'
 cp example.xm long.xm
 truncate -s 300000 long.xm
 run eval '{ head -c 100000 long.xm; sleep 0.1; tail -c +100001 long.xm; } | program check -'
-ok "a pipe of 300,000 bytes" says '^standard input: accepted, ends at place 6042 (0x179A); 293958 bytes follow'
+ok "a pipe of 300,000 bytes" says '^standard input: accepted as a normal module, ends at place 6042 (0x179A); 293958 bytes follow'
 mkfifo pipe
 fiddlemarsh check pipe
 ok "a pipe that nobody writes to is not waited for" exits 2
@@ -168,7 +183,7 @@ exec 3<>pipe 4<pipe # fd 4 keeps what comes before the program does
 exec 3>&-
 fiddlemarsh check pipe
 exec 4<&-
-ok "a pipe that somebody writes to" says '^pipe: accepted, ends at place 6042 (0x179A)$'
+ok "a pipe that somebody writes to" says '^pipe: accepted as a normal module, ends at place 6042 (0x179A)$'
 run eval 'program check /dev/fd/4 4<empty.xm'
 ok "an empty file by its number" says '^/dev/fd/4: refused, number 1 at place 0'
 
@@ -202,7 +217,7 @@ name="l\"'\\ t$newline$escape$tab${csi}[31m$(printf '\302\233').xm"
 cp example.xm "$name"
 no_control() { [ -z "$(tr -d '\n\040-\176' <said | tr -d '\303\274')" ] && [ -z "$(tr -d '\n\040-\176' <complained)" ]; }
 fiddlemarsh check "$name"
-ok "a strange name is told in one line" says_only "l\"'\\ t????[31m??.xm: accepted, ends at place 6042 (0x179A)
+ok "a strange name is told in one line" says_only "l\"'\\ t????[31m??.xm: accepted as a normal module, ends at place 6042 (0x179A)
 1 file: 1 accepted, 0 refused, 0 troubles"
 LC_ALL=C.UTF-8 fiddlemarsh check "$name"
 ok "in UTF-8 too" no_control
@@ -223,23 +238,24 @@ fiddlemarsh press example.xm "nowhere/$name"
 ok "a strange OUT" no_control
 
 # Records for scripts
-record() { printf '%s\t' "$1" "$2" "$3" "$4" "$5" "$6" "$7" "$8" && printf '%s' "$9"; }
-fiddlemarsh check --tsv example.xm badloop.xm cut.xm missing.xm behind.xm - <example.xm
-ok "a record a file, and no count" says_only "$(record accepted 0 accepted - - - 6042 6042 example.xm)
-$(record refused 13 sample_loop_or_length 4466 - - - 6042 badloop.xm)
-$(record refused 1 cut 336 - 400 - 400 cut.xm)
-$(record trouble - - - - - - - missing.xm)
-$(record accepted 0 accepted - - - 6042 6057 behind.xm)
-$(record accepted 0 accepted - - - 6042 6042 -)"
+record() { printf '%s\t' "$1" "$2" "$3" "$4" "$5" "$6" "$7" "$8" "$9" && printf '%s' "${10}"; }
+fiddlemarsh check --tsv example.xm badloop.xm cut.xm missing.xm behind.xm stripped.xm - <example.xm
+ok "a record a file, and no count" says_only "$(record accepted 0 accepted - - - 6042 6042 example.xm normal)
+$(record refused 13 sample_loop_or_length 4466 - - - 6042 badloop.xm -)
+$(record refused 1 cut 336 - 400 - 400 cut.xm -)
+$(record trouble - - - - - - - missing.xm -)
+$(record accepted 0 accepted - - - 6042 6057 behind.xm normal)
+$(record accepted 0 accepted - - - 2576 2576 stripped.xm stripped)
+$(record accepted 0 accepted - - - 6042 6042 - normal)"
 ok "the trouble is told as well" complains '^fiddlemarsh: missing.xm: cannot be opened: '
 ok "records leave the status alone" exits 2
 fiddlemarsh check -tq example.xm badloop.xm missing.xm
-ok "--tsv --quiet" says_only "$(record refused 13 sample_loop_or_length 4466 - - - 6042 badloop.xm)
-$(record trouble - - - - - - - missing.xm)"
+ok "--tsv --quiet" says_only "$(record refused 13 sample_loop_or_length 4466 - - - 6042 badloop.xm -)
+$(record trouble - - - - - - - missing.xm -)"
 fiddlemarsh check --tsv "$name"
-ok "a strange name in a record" says_only "$(record accepted 0 accepted - - - 6042 6042 "l\"'\\0134 t\\0012\\0033\\0011\\0233[31m\\0302\\0233.xm")"
-# shellcheck disable=SC2034  # all nine are read
-IFS=$tab read -r verdict number word place value limit end length escaped <said
+ok "a strange name in a record" says_only "$(record accepted 0 accepted - - - 6042 6042 "l\"'\\0134 t\\0012\\0033\\0011\\0233[31m\\0302\\0233.xm" normal)"
+# shellcheck disable=SC2034  # all ten are read
+IFS=$tab read -r verdict number word place value limit end length escaped kind <said
 # shellcheck disable=SC2059
 ok "which printf gives back" [ "$(printf '%b' "$escaped")" = "$name" ]
 # shellcheck disable=SC2059

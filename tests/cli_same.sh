@@ -136,15 +136,15 @@ ok "--quiet of other songs" says_nothing
 
 # Records for scripts
 tab=$(printf '\t')
-record() { printf '%s\t' "$1" "$2" "$3" "$4" "$5" "$6" "$7" "$8" "$9" && printf '%s' "${10}"; }
+record() { printf '%s\t' "$1" "$2" "$3" "$4" "$5" "$6" "$7" "$8" "$9" "${10}" && printf '%s' "${11}"; }
 fiddlemarsh same --tsv tempo.xm badloop.xm example.xm missing.xm sample.xm behind.xm tempo.xm
-ok "a record a file, in the order given, and no count" says_only "$(record 1 accepted 0 accepted - - - 6042 6042 tempo.xm)
-$(record - refused 13 sample_loop_or_length 4466 - - - 6042 badloop.xm)
-$(record 2 accepted 0 accepted - - - 6042 6042 example.xm)
-$(record - trouble - - - - - - - missing.xm)
-$(record 3 accepted 0 accepted - - - 6042 6042 sample.xm)
-$(record 2 accepted 0 accepted - - - 2862 3612 behind.xm)
-$(record 1 accepted 0 accepted - - - 6042 6042 tempo.xm)"
+ok "a record a file, in the order given, and no count" says_only "$(record 1 accepted 0 accepted - - - 6042 6042 tempo.xm normal)
+$(record - refused 13 sample_loop_or_length 4466 - - - 6042 badloop.xm -)
+$(record 2 accepted 0 accepted - - - 6042 6042 example.xm normal)
+$(record - trouble - - - - - - - missing.xm -)
+$(record 3 accepted 0 accepted - - - 6042 6042 sample.xm normal)
+$(record 2 accepted 0 accepted - - - 2862 3612 behind.xm normal)
+$(record 1 accepted 0 accepted - - - 6042 6042 tempo.xm normal)"
 ok "records leave the status alone" exits 2
 fiddlemarsh same --tsv --quiet tempo.xm badloop.xm example.xm behind.xm missing.xm
 ok "--tsv --quiet leaves out what is alone" [ "$(cut -f 1,2,10 said | tr '\t' ' ')" = '- refused badloop.xm
@@ -159,8 +159,8 @@ ok "a strange name is told in one line" says '^t?b\\ ?\[31m?.xm: one song with b
 fiddlemarsh same tempo.xm "$strange"
 ok "alone too" says '^t?b\\ ?\[31m?.xm: alone$'
 fiddlemarsh same --tsv tempo.xm "$strange" behind.xm
-# shellcheck disable=SC2034  # all ten are read
-found=$(while IFS=$tab read -r song verdict number word place value limit end length file; do
+# shellcheck disable=SC2034  # all eleven are read
+found=$(while IFS=$tab read -r song verdict number word place value limit end length file kind; do
     [ "$(printf '%b' "$file")" != "$strange" ] || echo "$song $verdict"
 done <said)
 ok "which printf gives back, with its song" [ "$found" = '2 accepted' ]

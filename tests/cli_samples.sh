@@ -51,6 +51,11 @@ write('silent.xm')
 write('empty.xm', [], [])
 write('odd.xm', [sample(b'odd', 8, 1, 2, 0x11)])
 write('most.xm', *[[sample(b'', 0, 0, 0, 0)] * 16] * 128)
+# A stripped module: three sample headers of one byte, the length; behind them data that would be a kind and a name, were they whole
+stripped = bytes(60) + number(21, 4) + b''.join(number(value, 2) for value in (1, 0, 1, 1, 1, 1, 6, 125)) + bytes(1)
+pattern = number(9, 4) + number(0, 1) + number(64, 2) + number(0, 2)
+Path('stripped.xm').write_bytes(stripped + pattern + number(30, 4) + bytes(23) + number(3, 2) + b'\x01' + bytes([60, 0, 2])
+                                + b'X' * 14 + b'\xad' * 3 + b'X' * 45)
 END
 
 # Usage
@@ -59,7 +64,8 @@ ok "--help has samples" says '^       fiddlemarsh samples \[--tsv\] FILE$'
 cp said help
 fiddlemarsh samples --help
 ok "--help behind samples" is_same said help
-for usage in 'samples' 'samples band.xm odd.xm' 'samples --quiet band.xm' 'samples --into . band.xm'; do
+for usage in 'samples' 'samples band.xm odd.xm' 'samples --quiet band.xm' 'samples --into . band.xm' \
+    'samples --to normal band.xm'; do
     # shellcheck disable=SC2086  # words
     fiddlemarsh $usage
     ok "wrong usage: $usage" exits 2
@@ -86,6 +92,18 @@ instrument  sample  name                   place  bytes  width  kind   values  l
          3       3  bits without a length  72257     10     16  delta       5  none                0            0         0              0
          3       4  a length without bits  72267     10     16  delta       5  none                0            0         0              0
 $legend"
+fiddlemarsh samples stripped.xm
+ok "a stripped module, whose sample headers are cut" says_only "stripped.xm: 3 samples in 1 instrument
+instrument  sample  name  place  bytes  width  kind   values  loop  loop start  loop length  finetune  relative note
+         1       1          123     60      8  delta      60  none           0            0         0              0
+         1       2          183      0      8  delta       0  none           0            0         0              0
+         1       3          183      2      8  delta       2  none           0            0         0              0
+$legend"
+for name in band names most; do
+    run eval "program samples --tsv $name.xm | cut -f 1-3,5-13 >normal && program convert --quiet --to stripped $name.xm converted.xm"
+    run eval 'program samples --tsv converted.xm | cut -f 1-3,5-13 >converted'
+    ok "$name.xm as a stripped module has the same samples, at other places" is_same normal converted
+done
 run eval 'program samples - <example.xm'
 ok "standard input" says '^standard input: 1 sample in 1 instrument$'
 fiddlemarsh samples silent.xm

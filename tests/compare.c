@@ -74,6 +74,11 @@ static uint64_t press(const uint8_t *file, size_t length, size_t room)
     return lent_compare(&(struct call){.name = CALL_PRESS, .input = file, .input_len = length, .room = room});
 }
 
+static uint64_t convert(enum call_name to, const uint8_t *file, size_t length, size_t room)
+{
+    return lent_compare(&(struct call){.name = to, .input = file, .input_len = length, .room = room});
+}
+
 static uint64_t unpack(size_t rows, size_t channels, const uint8_t *data, size_t length, size_t room)
 {
     return lent_compare(&(struct call){
@@ -106,19 +111,53 @@ static uint64_t period(uint64_t note, int64_t finetune)
     return lent_compare(&(struct call){.name = CALL_PERIOD, .note = note, .finetune = finetune});
 }
 
-/* Check, and press with room that does, that just does, and that just doesn't. */
+/* Room that is always enough: pressing and converting to a stripped module make no file longer. */
+static size_t room_for(enum call_name name, size_t length)
+{
+    return name == CALL_TO_NORMAL ? fiddlemarsh_normal_room(length) : length;
+}
+
+/* A press or a conversion with that room. */
+static uint64_t write_whole(enum call_name name, const uint8_t *file, size_t length)
+{
+    struct call call = {.name = name, .input = file, .input_len = length, .room = room_for(name, length)};
+    uint64_t answer = lent_compare(&call);
+    if (fiddlemarsh_refusal(answer) == FIDDLEMARSH_ROOM)
+        lent_unexpected(&call, "room that is always enough is too little", answer);
+    return answer;
+}
+
+/* With room that does, that just does, and that just doesn't. */
+static void try_written(enum call_name name, const uint8_t *file, size_t length)
+{
+    uint64_t answer = write_whole(name, file, length);
+    if (fiddlemarsh_refused(answer))
+        return;
+    size_t written = fiddlemarsh_length(answer);
+    lent_compare(&(struct call){.name = name, .input = file, .input_len = length, .room = written});
+    lent_compare(&(struct call){.name = name, .input = file, .input_len = length, .room = written - 1});
+}
+
+/* From file to file in turn to a normal module and to a stripped one: with room that does, that just does, and that just doesn't. */
+enum { TURNS = 11 }; /* six of them convert: it has no factor in common with the loops that the files come from */
+
+static void convert_in_turn(const uint8_t *file, size_t length)
+{
+    static unsigned turns;
+    unsigned turn = turns++ % TURNS;
+    if (turn >= 6)
+        return;
+    enum call_name to = turn % 2 == 0 ? CALL_TO_NORMAL : CALL_TO_STRIPPED;
+    uint64_t answer = write_whole(to, file, length);
+    if (!fiddlemarsh_refused(answer) && turn >= 2)
+        convert(to, file, length, fiddlemarsh_length(answer) - turn / 4);
+}
+
 static void try_file(const uint8_t *file, size_t length)
 {
     check(file, length);
-    uint64_t answer = press(file, length, length);
-    if (fiddlemarsh_refused(answer))
-        return;
-    size_t pressed = fiddlemarsh_length(answer);
-    if (pressed > length)
-        lent_unexpected(&(struct call){.name = CALL_PRESS, .input = file, .input_len = length, .room = length},
-                        "a pressed file is longer than its input", answer);
-    press(file, length, pressed);
-    press(file, length, pressed - 1);
+    try_written(CALL_PRESS, file, length);
+    convert_in_turn(file, length);
 }
 
 static void try_file_rooms(const uint8_t *file, size_t length, size_t step)
@@ -631,10 +670,14 @@ static void group_pack_full(void)
 
 /* Modules */
 
+enum kind { NORMAL, STRIPPED };
+
 /* A few hundred bytes with every structure: patterns of both kinds, instruments with and without samples. */
-static struct shape small_shape(struct chance *chance)
+static struct shape small_shape(enum kind kind, struct chance *chance)
 {
-    return (struct shape){.song_length = chance_between(chance, 1, 3),
+    return (struct shape){.stripped = kind == STRIPPED,
+                          .zeros_percent = kind == STRIPPED ? 50 : 0,
+                          .song_length = chance_between(chance, 1, 3),
                           .restart = chance_between(chance, 0, 4),
                           .channels = chance_between(chance, 1, 2),
                           .patterns = chance_between(chance, 1, 2),
@@ -651,10 +694,10 @@ static struct shape small_shape(struct chance *chance)
                           .trailing_most = 3};
 }
 
-static struct module small_module(uint64_t seed)
+static struct module small_module(enum kind kind, uint64_t seed)
 {
     struct chance chance = {seed};
-    struct shape shape = small_shape(&chance);
+    struct shape shape = small_shape(kind, &chance);
     struct module module = {0};
     module_build(&module, &shape, &chance);
     return module;
@@ -666,18 +709,49 @@ static void must_accept(const struct module *module)
     must(checked.refusal.number == 0, "a module that was built whole is refused");
 }
 
-/* Pressing what was pressed changes nothing, and its check ends where it ends. */
-static void try_pressed_again(const struct module *module)
+/* What a press or a conversion of a whole module writes, for the caller to free. */
+static struct module written_by(enum call_name name, const struct module *module)
 {
-    uint8_t *pressed = malloc(module->length);
-    must(pressed != NULL, "out of memory");
-    uint64_t length = fiddlemarsh_press(module->bytes, module->length, pressed, module->length);
-    struct call call = {.name = CALL_PRESS, .input = pressed, .input_len = length, .room = length};
-    if (check(pressed, length) != length)
-        lent_unexpected(&call, "the check of a pressed file does not end at its end", length);
-    if (lent_compare(&call) != length)
-        lent_unexpected(&call, "pressing a pressed file gives another length", length);
-    free(pressed);
+    size_t room = room_for(name, module->length);
+    struct module written = {.bytes = malloc(room)};
+    must(written.bytes != NULL, "out of memory");
+    uint64_t answer = name == CALL_PRESS       ? fiddlemarsh_press(module->bytes, module->length, written.bytes, room)
+                      : name == CALL_TO_NORMAL ? fiddlemarsh_to_normal(module->bytes, module->length, written.bytes, room)
+                                               : fiddlemarsh_to_stripped(module->bytes, module->length, written.bytes, room);
+    written.length = fiddlemarsh_length(answer);
+    if (fiddlemarsh_refused(answer))
+        lent_unexpected(&(struct call){.name = name, .input = module->bytes, .input_len = module->length, .room = room},
+                        "a whole module is refused", answer);
+    return written;
+}
+
+/* Pressing what was written changes nothing, and its check ends where it ends. */
+static void try_again(const struct module *written)
+{
+    size_t length = written->length;
+    struct call call = {.name = CALL_PRESS, .input = written->bytes, .input_len = length, .room = length};
+    struct module again = written_by(CALL_PRESS, written);
+    if (check(written->bytes, length) != length)
+        lent_unexpected(&call, "the check of a file that was written does not end at its end", length);
+    if (lent_compare(&call) != length || memcmp(again.bytes, written->bytes, length) != 0)
+        lent_unexpected(&call, "pressing what was written gives another file", length);
+    module_free(&again);
+}
+
+static void try_written_again(enum call_name name, const struct module *module)
+{
+    struct module written = written_by(name, module);
+    try_again(&written);
+    module_free(&written);
+}
+
+static void try_whole(const struct module *module)
+{
+    must_accept(module);
+    try_file(module->bytes, module->length);
+    press(module->bytes, module->length, 0);
+    press(module->bytes, module->length, module->length + 100);
+    try_written_again(CALL_PRESS, module);
 }
 
 static void try_shapes(uint64_t seed, unsigned rounds, bool large)
@@ -687,11 +761,7 @@ static void try_shapes(uint64_t seed, unsigned rounds, bool large)
     for (; rounds > 0; rounds--) {
         struct shape shape = shape_by_chance(&chance, large);
         module_build(&module, &shape, &chance);
-        must_accept(&module);
-        try_file(module.bytes, module.length);
-        press(module.bytes, module.length, 0);
-        press(module.bytes, module.length, module.length + 100);
-        try_pressed_again(&module);
+        try_whole(&module);
     }
     module_free(&module);
 }
@@ -706,55 +776,72 @@ static void group_large_shapes(void)
     try_shapes(3002, 12, true);
 }
 
-static void group_every_room(void)
+static void try_rooms(enum kind kind, uint64_t first, uint64_t behind)
 {
-    for (uint64_t seed = 3101; seed < 3125; seed++) {
-        struct module module = small_module(seed);
+    for (uint64_t seed = first; seed < behind; seed++) {
+        struct module module = small_module(kind, seed);
         try_file_rooms(module.bytes, module.length, 1);
         module_free(&module);
     }
 }
 
-static void group_every_cut(void)
+static void group_every_room(void)
 {
-    for (uint64_t seed = 3201; seed < 3213; seed++) {
-        struct module module = small_module(seed);
+    try_rooms(NORMAL, 3101, 3125);
+}
+
+static void try_cuts(enum kind kind, uint64_t first, uint64_t behind)
+{
+    for (uint64_t seed = first; seed < behind; seed++) {
+        struct module module = small_module(kind, seed);
         for (size_t length = 0; length <= module.length; length++) {
             check(module.bytes, length);
             press(module.bytes, length, module.length);
             press(module.bytes, length, length);
+            convert_in_turn(module.bytes, length);
         }
-        module.bytes[37] = 0; /* that the first 80 bytes are there (1) comes before 3 */
+        module.bytes[37] = 0x1A - module.bytes[37]; /* that the first 80 bytes are there (1) comes before 3 */
         for (size_t length = 0; length <= 100; length++)
             check(module.bytes, length);
         module_free(&module);
     }
 }
 
-static void group_every_byte(void)
+static void group_every_cut(void)
 {
-    struct chance chance = {3301};
-    struct shape shape = {.song_length = 2, .restart = 1, .channels = 2, .patterns = 1, .instruments = 1, .rows = 2,
-                          .cells = CELLS_EVERY_FORM, .samples_least = 1, .samples_most = 1, .sample_length_least = 4,
-                          .sample_length_most = 6};
+    try_cuts(NORMAL, 3201, 3213);
+}
+
+static void try_bytes(const struct shape *shape, uint64_t seed)
+{
+    struct chance chance = {seed};
     struct module module = {0};
-    module_build(&module, &shape, &chance);
+    module_build(&module, shape, &chance);
     for (size_t at = 0; at < module.length; at++) {
         uint8_t kept = module.bytes[at];
-        for (unsigned value = 0; value < 256; value++) {
+        for (unsigned value = 0; value < 256; value += shape->stripped ? 5 : 1) {
             module.bytes[at] = (uint8_t)value;
             check(module.bytes, module.length);
             press(module.bytes, module.length, module.length);
+            if (shape->stripped)
+                convert_in_turn(module.bytes, module.length);
         }
         module.bytes[at] = kept;
     }
     module_free(&module);
 }
 
+static void group_every_byte(void)
+{
+    try_bytes(&(struct shape){.song_length = 2, .restart = 1, .channels = 2, .patterns = 1, .instruments = 1, .rows = 2,
+                              .cells = CELLS_EVERY_FORM, .samples_least = 1, .samples_most = 1, .sample_length_least = 4,
+                              .sample_length_most = 6}, 3301);
+}
+
 /* Numbers at which a rule may turn: the paper's constants, what a field holds, what is left of the file, where 32 bits end. */
 static size_t turning_numbers(const struct module *module, struct field field, uint32_t *numbers)
 {
-    static const uint32_t centers[] = {0, 9, 16, 29, 33, 40, 64, 128, 256, 0x0104, 263, 276,
+    static const uint32_t centers[] = {0, 4, 9, 16, 22, 29, 33, 40, 64, 128, 256, 0x0104, 263, 276,
                                        0x8000, 0xFFFF, FILE_MOST, 0x7FFFFFFF, 0x80000000};
     uint32_t own = field_get(module->bytes, field), length = (uint32_t)module->length, left = length - field.place;
     const uint32_t others[] = {own, left, left - 4, left - 60, length, 0u - own, 0u - field.place, 0u - length};
@@ -781,14 +868,19 @@ static void try_field(struct module *module, struct field field)
     field_put(module->bytes, field, kept);
 }
 
-static void group_every_field(void)
+static void try_fields(enum kind kind, uint64_t first, uint64_t behind)
 {
-    for (uint64_t seed = 3401; seed < 3413; seed++) {
-        struct module module = small_module(seed);
+    for (uint64_t seed = first; seed < behind; seed++) {
+        struct module module = small_module(kind, seed);
         for (size_t i = 0; i < module.field_count; i++)
             try_field(&module, module.fields[i]);
         module_free(&module);
     }
+}
+
+static void group_every_field(void)
+{
+    try_fields(NORMAL, 3401, 3413);
 }
 
 /* Loops that end before, at and behind the sample's end, alone and with sums that pass 32 bits, of even and odd numbers; of a plain
@@ -924,6 +1016,7 @@ static void try_two(const struct module *module, struct module *copy, struct fau
     length = with_fault(copy, length, second);
     check(copy->bytes, length);
     press(copy->bytes, length, length);
+    convert_in_turn(copy->bytes, length);
 }
 
 static void try_pairs(struct module *module, bool *numbers_met)
@@ -940,19 +1033,26 @@ static void try_pairs(struct module *module, bool *numbers_met)
     module_free(&copy);
 }
 
-static void group_two_faults(void)
+static void try_two_faults(enum kind kind, uint64_t first, uint64_t behind)
 {
     bool numbers_met[17] = {[2] = true, [NO_LONGER_GIVEN] = true}; /* 2 has a group of its own */
-    for (uint64_t seed = 3601; seed < 3607; seed++) {
-        struct module module = small_module(seed);
+    for (uint64_t seed = first; seed < behind; seed++) {
+        struct module module = small_module(kind, seed);
         try_pairs(&module, numbers_met);
         module_free(&module);
     }
     for (unsigned number = 1; number <= 13; number++)
-        must(numbers_met[number], "a refusal number has no fault of its own");
+        must(numbers_met[number] == (kind == NORMAL || number != FIDDLEMARSH_SAMPLE_HEADER_SIZE),
+             "a refusal number has no fault of its own, or a stripped module got 11");
 }
 
-static void change_by_chance(struct module *module, struct chance *chance)
+static void group_two_faults(void)
+{
+    try_two_faults(NORMAL, 3601, 3607);
+}
+
+/* 'behind': where the header ends. */
+static void change_by_chance(struct module *module, uint32_t behind, struct chance *chance)
 {
     uint32_t numbers[TURNING_MOST];
     uint32_t at = chance_below(chance, (uint32_t)module->length);
@@ -976,16 +1076,17 @@ static void change_by_chance(struct module *module, struct chance *chance)
             field_put(module->bytes, field, numbers[chance_below(chance, (uint32_t)turning_numbers(module, field, numbers))]);
         break;
     default: /* behind the header, where changes tell more */
-        module->bytes[336 + chance_below(chance, (uint32_t)module->length - 336)] ^= (uint8_t)chance_next(chance);
+        module->bytes[behind + chance_below(chance, (uint32_t)module->length - behind)] ^= (uint8_t)chance_next(chance);
     }
 }
 
-static void group_changes(void)
+static void try_changes(enum kind kind, uint64_t seed, unsigned rounds)
 {
-    struct chance chance = {3701};
-    for (unsigned round = 0; round < 400; round++) {
-        struct module module = small_module(3702 + round);
+    struct chance chance = {seed};
+    for (unsigned round = 0; round < rounds; round++) {
+        struct module module = small_module(kind, seed + 1 + round);
         size_t whole = module.length;
+        uint32_t behind = kind == STRIPPED ? 80 : 336;
         uint8_t *kept = malloc(whole);
         must(kept != NULL, "out of memory");
         memcpy(kept, module.bytes, whole);
@@ -993,12 +1094,17 @@ static void group_changes(void)
             memcpy(module.bytes, kept, whole);
             module.length = whole;
             for (uint32_t times = chance_between(&chance, 1, 4); times > 0; times--)
-                change_by_chance(&module, &chance);
+                change_by_chance(&module, behind, &chance);
             try_file(module.bytes, module.length);
         }
         free(kept);
         module_free(&module);
     }
+}
+
+static void group_changes(void)
+{
+    try_changes(NORMAL, 3701, 400);
 }
 
 /* The form of an empty cell, as often as there are cells, behind a bench file's header; returns the file's length. */
@@ -1075,7 +1181,7 @@ static void group_wide_pattern_forms(void)
 static void group_size_limit(void)
 {
     struct chance chance = {3851};
-    struct module module = small_module(3851);
+    struct module module = small_module(NORMAL, 3851);
     module_put_noise(&module, FILE_MOST + 1 - module.length, &chance);
     check(module.bytes, FILE_MOST);
     check(module.bytes, FILE_MOST + 1);
@@ -1147,16 +1253,21 @@ static void try_short_tables(const uint8_t *file, size_t length)
         }
 }
 
-static void group_table_rooms(void)
+static void try_tables(enum kind kind, uint64_t first, uint64_t behind)
 {
-    for (uint64_t seed = 4101; seed < 4141; seed++) {
-        struct module module = small_module(seed);
+    for (uint64_t seed = first; seed < behind; seed++) {
+        struct module module = small_module(kind, seed);
         must_accept(&module);
         try_table_rooms(module.bytes, module.length);
         try_short_tables(module.bytes, module.length);
         try_table_rooms(module.bytes, module.length - 1);
         module_free(&module);
     }
+}
+
+static void group_table_rooms(void)
+{
+    try_tables(NORMAL, 4101, 4141);
 }
 
 static void group_table_shapes(void)
@@ -1461,6 +1572,236 @@ static void group_large(void)
     module_free(&module);
 }
 
+/* Stripped modules, and conversions */
+
+static void group_stripped_cuts(void)
+{
+    try_cuts(STRIPPED, 5201, 5231);
+}
+
+static void group_stripped_rooms(void)
+{
+    try_rooms(STRIPPED, 5101, 5111);
+    try_tables(STRIPPED, 5111, 5131);
+}
+
+static void group_stripped_fields(void)
+{
+    try_fields(STRIPPED, 5401, 5407);
+}
+
+static void group_stripped_faults(void)
+{
+    try_two_faults(STRIPPED, 5605, 5606);
+}
+
+static void group_stripped_changes(void)
+{
+    try_changes(STRIPPED, 5701, 100);
+}
+
+static void group_stripped_bytes(void)
+{
+    try_bytes(&(struct shape){.stripped = true, .zeros_percent = 50, .song_length = 2, .restart = 1, .channels = 2, .patterns = 1,
+                              .instruments = 1, .rows = 2, .cells = CELLS_EVERY_FORM, .samples_least = 2, .samples_most = 2,
+                              .sample_length_least = 4, .sample_length_most = 6}, 5301);
+}
+
+/* A stripped module with one empty pattern and one instrument of that I, with k samples and headers of H bytes; returns its length. What
+   the rules read is sound as far as it is not cut off; the rest is noise, or zeros. */
+enum { STRIPPED_BEFORE = 90, STRIPPED_MOST = 1200 };
+
+static size_t stripped_file(uint8_t file[STRIPPED_MOST], uint32_t size, uint32_t samples, uint32_t header_size, struct chance *chance)
+{
+    size_t length = STRIPPED_BEFORE + (size < 4 ? 4 : size) + (size_t)samples * header_size;
+    uint8_t mask = chance_percent(chance, 50) ? 255 : 0;
+    for (size_t i = 0; i < STRIPPED_MOST; i++)
+        file[i] = (uint8_t)chance_next(chance) & (i < STRIPPED_BEFORE || chance_percent(chance, 5) ? 255 : mask);
+    file[37] = file[58] = file[59] = 0;
+    field_put(file, (struct field){60, 4}, 21);
+    file[64] = file[68] = file[70] = file[72] = 1;
+    file[65] = file[69] = file[71] = file[73] = 0;
+    field_put(file, (struct field){81, 4}, 9);
+    field_put(file, (struct field){86, 4}, 64);
+    field_put(file, (struct field){STRIPPED_BEFORE, 4}, size);
+    if (size > 27)
+        field_put(file, (struct field){STRIPPED_BEFORE + 27, size > 28 ? 2 : 1}, samples);
+    if (size > 29)
+        field_put(file, (struct field){STRIPPED_BEFORE + 29, size > 32 ? 4 : size - 29}, header_size);
+    for (uint32_t i = 0; i < samples && header_size > 0; i++) {
+        uint32_t header = (uint32_t)(STRIPPED_BEFORE + size + i * header_size);
+        field_put(file, (struct field){header, header_size < 4 ? header_size : 4}, i % 4);
+        if (header_size > 14)
+            file[header + 14] = 0;
+        length += i % 4;
+    }
+    return length;
+}
+
+/* Every I up to the reserved bytes and past them, with every H that a header can need, of none, one, three and sixteen samples. */
+static void group_every_size(void)
+{
+    static const uint32_t counts[] = {0, 1, 3, 16};
+    struct chance chance = {5801};
+    uint8_t file[STRIPPED_MOST];
+    for (uint32_t size = 0; size <= 266; size += size == 50 ? 70 : size == 140 ? 80 : 1)
+        for (uint32_t header_size = 0; header_size <= 42; header_size += header_size == 5 ? 6 : header_size == 20 ? 17 : 1)
+            for (size_t i = 0; i < COUNT(counts); i++) {
+                uint32_t samples = size > 27 ? counts[i] : 0, cut = size > 29 ? header_size : 0;
+                size_t length = stripped_file(file, size, samples, cut, &chance);
+                try_file(file, length);
+                convert_in_turn(file, length);
+                check(file, length - 1);
+            }
+}
+
+/* k from 0 to 300, by both bytes and by the one that I leaves of them: 16 pass, and 272 are 16 where the high byte is cut off. */
+static void group_every_count(void)
+{
+    struct chance chance = {5802};
+    uint8_t file[STRIPPED_MOST];
+    for (uint32_t samples = 0; samples <= 300; samples++)
+        for (uint32_t size = 26; size <= 31; size++) {
+            size_t length = stripped_file(file, size, samples, 0, &chance);
+            try_file(file, length);
+            check(file, length - 1); /* that I bytes are there (1) comes before k above 16 (10) */
+            check(file, STRIPPED_BEFORE + 3);
+        }
+}
+
+/* Marks and versions that fit no kind, or the other one; and header sizes around both limits, by song lengths that 5 refuses, too. */
+static void group_kinds(void)
+{
+    static const uint32_t marks[] = {0, 1, 0x19, 0x1A, 0x1B, 0x9A, 255}, versions[] = {0, 1, 4, 0x0100, 0x0103, 0x0104, 0x0105, 0x0401};
+    static const uint32_t songs[] = {0, 1, 2, 3, 255, 256, 257, 65535};
+    struct module module = small_module(STRIPPED, 5901);
+    for (size_t i = 0; i < COUNT(marks) * COUNT(versions) * COUNT(songs); i++) {
+        uint32_t song = songs[i % COUNT(songs)];
+        const uint32_t sizes[] = {0, 19, 20, 21, 19 + song, 20 + song, 21 + song, 275, 276};
+        field_put(module.bytes, (struct field){37, 1}, marks[i / COUNT(songs) / COUNT(versions)]);
+        field_put(module.bytes, (struct field){58, 2}, versions[i / COUNT(songs) % COUNT(versions)]);
+        field_put(module.bytes, (struct field){64, 2}, song);
+        for (size_t j = 0; j < COUNT(sizes); j++) {
+            field_put(module.bytes, (struct field){60, 4}, sizes[j]);
+            try_file(module.bytes, module.length);
+        }
+    }
+    module_free(&module);
+}
+
+/* A whole module of either kind: written in each way with every room that tells, and what is written again. */
+static void try_kinds(const struct module *module)
+{
+    must_accept(module);
+    check(module->bytes, module->length);
+    for (enum call_name name = CALL_PRESS; name <= CALL_TO_STRIPPED; name++) {
+        try_written(name, module->bytes, module->length);
+        lent_compare(&(struct call){.name = name, .input = module->bytes, .input_len = module->length});
+        try_written_again(name, module);
+    }
+}
+
+static bool same_bytes(const struct module *one, const struct module *other)
+{
+    return one->length == other->length && memcmp(one->bytes, other->bytes, one->length) == 0;
+}
+
+/* There and back again is there at once; and where a module's own kind is asked for, only the tracker name can be another. */
+static void try_both_ways(const struct module *module)
+{
+    const enum call_name names[] = {CALL_TO_NORMAL, CALL_TO_STRIPPED};
+    for (size_t i = 0; i < COUNT(names); i++) {
+        struct module there = written_by(names[1 - i], module);
+        struct module back = written_by(names[i], &there), at_once = written_by(names[i], module);
+        if (!same_bytes(&back, &at_once))
+            lent_unexpected(&(struct call){.name = names[i], .input = module->bytes, .input_len = module->length,
+                                           .room = room_for(names[i], module->length)}, "another file by way of the other kind", 0);
+        module_free(&there);
+        module_free(&back);
+        module_free(&at_once);
+    }
+    struct module pressed = written_by(CALL_PRESS, module);
+    struct module converted = written_by(fiddlemarsh_is_stripped(module->bytes) ? CALL_TO_STRIPPED : CALL_TO_NORMAL, module);
+    memset(pressed.bytes + 38, 0, 20);
+    if (!same_bytes(&pressed, &converted))
+        lent_unexpected(&(struct call){.name = CALL_PRESS, .input = module->bytes, .input_len = module->length, .room = module->length},
+                        "not what a conversion to its own kind gives, but for the tracker name", pressed.length);
+    module_free(&pressed);
+    module_free(&converted);
+}
+
+static void try_kind_shapes(uint64_t seed, unsigned rounds, bool large)
+{
+    struct chance chance = {seed};
+    struct module module = {0};
+    for (; rounds > 0; rounds--) {
+        struct shape shape = kind_by_chance(&chance, large, rounds % 3 != 0);
+        module_build(&module, &shape, &chance);
+        try_kinds(&module);
+        try_both_ways(&module);
+    }
+    module_free(&module);
+}
+
+static void group_kind_shapes(void)
+{
+    try_kind_shapes(6001, 1500, false);
+}
+
+static void group_large_kind_shapes(void)
+{
+    try_kind_shapes(6002, 9, true);
+}
+
+/* The most that a conversion adds: one order, and as many instruments as there can be with as many samples of headers of no bytes. */
+static void group_most_growth(void)
+{
+    enum { INSTRUMENTS = 128, SIZE = 28, BEFORE = STRIPPED_BEFORE };
+    static uint8_t file[BEFORE + INSTRUMENTS * SIZE];
+    struct chance chance = {6101};
+    uint8_t front[STRIPPED_MOST];
+    stripped_file(front, SIZE, 16, 0, &chance);
+    memcpy(file, front, BEFORE);
+    file[72] = INSTRUMENTS;
+    for (size_t i = 0; i < INSTRUMENTS; i++)
+        memcpy(file + BEFORE + i * SIZE, front + BEFORE, SIZE);
+    struct module module = {.bytes = file, .length = sizeof file};
+    struct module normal = written_by(CALL_TO_NORMAL, &module);
+    must(normal.length == sizeof file + FIDDLEMARSH_NORMAL_MORE_MOST, "not the most that a conversion adds");
+    try_kinds(&module);
+    try_both_ways(&module);
+    module_free(&normal);
+}
+
+/* A stripped module whose normal form has just as many bytes as a file may have, and one more: 2 comes before 14, and the file's own
+   refusal before both. */
+static void group_converted_limit(void)
+{
+    enum { SAMPLES = 16, SIZE = 30, HEADER = 3, NORMAL_BEFORE = 336 + 9 + 263 + 40 * SAMPLES, BYTES = (FILE_MOST - NORMAL_BEFORE) / SAMPLES,
+           HEADERS = STRIPPED_BEFORE + SIZE };
+    struct chance chance = {6201};
+    struct module module = {0};
+    uint8_t front[STRIPPED_MOST];
+    module_put_noise(&module, HEADERS + HEADER * SAMPLES + (size_t)SAMPLES * BYTES + 1, &chance);
+    stripped_file(front, SIZE, SAMPLES, HEADER, &chance);
+    memcpy(module.bytes, front, HEADERS);
+    for (uint32_t longer = 0; longer < 2; longer++) {
+        for (uint32_t i = 0; i < SAMPLES; i++)
+            field_put(module.bytes, (struct field){HEADERS + HEADER * i, HEADER}, BYTES + (i == SAMPLES - 1 ? longer : 0));
+        size_t length = module.length - 1 + longer;
+        for (size_t room = FILE_MOST - 1; room <= FILE_MOST + 1; room++)
+            convert(CALL_TO_NORMAL, module.bytes, length, room);
+        struct call call = {.name = CALL_TO_NORMAL, .input = module.bytes, .input_len = length};
+        uint64_t answer = lent_compare(&call);
+        if (answer != REFUSED(longer ? FIDDLEMARSH_FILE_TOO_LONG : FIDDLEMARSH_ROOM, 0))
+            lent_unexpected(&call, "not 2 where the converted file is over the limit, or not 14 where it isn't", answer);
+        convert(CALL_TO_NORMAL, module.bytes, length - 1, 0);
+        try_written(CALL_TO_STRIPPED, module.bytes, length);
+        check(module.bytes, length);
+    }
+    module_free(&module);
+}
+
 /* Running the groups */
 
 struct group {
@@ -1473,6 +1814,11 @@ static const struct group groups[] = {
     {"the paper's bench pieces", group_pieces},
     {"period: every note and finetune", group_periods},
     {"modules: every cut", group_every_cut},
+    {"stripped: every cut", group_stripped_cuts},
+    {"stripped: every k", group_every_count},
+    {"stripped: kinds and header sizes", group_kinds},
+    {"stripped: every room", group_stripped_rooms},
+    {"conversions: the most that is added", group_most_growth},
     {"modules: every room", group_every_room},
     {"tables: every room", group_table_rooms},
     {"decode and code: arguments at their limits", group_delta_arguments},
@@ -1482,6 +1828,7 @@ static const struct group groups[] = {
     {"adpcm: samples by chance", group_adpcm_chance},
     {"modules: ADPCM samples", group_adpcm_modules},
     {"modules: loops", group_loops},
+    {"stripped: every I and H", group_every_size},
     {"modules: every field at its limits", group_every_field},
     {"modules: every two faults", group_two_faults},
     {"modules: changes by chance", group_changes},
@@ -1513,6 +1860,13 @@ static const struct group groups[] = {
     {"adpcm: the most at once", group_adpcm_limit},
     {"modules: the largest", group_large},
     {"modules: the longest pressed", group_longest_pressed},
+    {"conversions: the size limit", group_converted_limit},
+    {"conversions: both kinds of every shape", group_kind_shapes},
+    {"stripped: changes by chance", group_stripped_changes},
+    {"stripped: every field at its limits", group_stripped_fields},
+    {"stripped: every two faults", group_stripped_faults},
+    {"conversions: large ones of both kinds", group_large_kind_shapes},
+    {"stripped: every byte at many values", group_stripped_bytes},
 };
 
 /* A comparison that never met a refusal says nothing about it. */
@@ -1525,7 +1879,8 @@ static void must_have_met(enum call_name name, unsigned from, unsigned to)
 static void must_have_met_all(void)
 {
     must_have_met(CALL_CHECK, 0, 13);
-    must_have_met(CALL_PRESS, 0, 14);
+    for (enum call_name name = CALL_PRESS; name <= CALL_TO_STRIPPED; name++)
+        must_have_met(name, 0, 14);
     must_have_met(CALL_UNPACK, 7, 9);
     must_have_met(CALL_UNPACK, 14, 14);
     must_have_met(CALL_UNPACK, 16, 16);
@@ -1562,7 +1917,7 @@ static void run_group(const struct group *group)
 
 static void say_numbers(enum call_name name)
 {
-    printf("%-6s by refusal number:", call_text(name));
+    printf("%-11s by refusal number:", call_text(name));
     for (unsigned number = 0; number <= 16; number++)
         if (lent_seen(name, number) > 0)
             printf(" %u:%llu", number, (unsigned long long)lent_seen(name, number));

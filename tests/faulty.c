@@ -26,6 +26,16 @@ uint64_t fiddlemarsh_press(const uint8_t *file, size_t file_len, uint8_t *out, s
     return reference_loader_press(file, file_len, out, out_len);
 }
 
+uint64_t fiddlemarsh_to_normal(const uint8_t *file, size_t file_len, uint8_t *out, size_t out_len)
+{
+    return reference_loader_to_normal(file, file_len, out, out_len);
+}
+
+uint64_t fiddlemarsh_to_stripped(const uint8_t *file, size_t file_len, uint8_t *out, size_t out_len)
+{
+    return reference_loader_to_stripped(file, file_len, out, out_len);
+}
+
 uint64_t fiddlemarsh_tables(const uint8_t *file, size_t file_len, uint32_t *patterns, size_t patterns_len, uint32_t *instruments,
                             size_t instruments_len, uint32_t *samples, size_t samples_len, int8_t *tunes, size_t tunes_len)
 {

@@ -40,7 +40,7 @@ refuses() { ! run "$1" && says "$2"; }
 
 ok "the header's program compiles" compile
 ok "it takes the example" run "$example"
-ok "it opens it up" says 'accepted, ends at place 6042
+ok "it opens it up" says 'accepted as a normal module, ends at place 6042
 pattern 0: 64 rows, 32 notes
 pattern 1: 64 rows, 32 notes
 pattern 2: 64 rows, 0 notes
@@ -50,7 +50,7 @@ patch() { printf "$2" | dd of="$program.xm" bs=1 seek="$1" conv=notrunc 2>/dev/n
 cp "$example" "$program.xm"
 patch 4466 '\377\005' && patch 4480 '\000' && patch 4483 '\255'
 ok "it takes it with an ADPCM sample" run "$program.xm"
-ok "it opens that up" says 'accepted, ends at place 5290
+ok "it opens that up" says 'accepted as a normal module, ends at place 5290
 pattern 0: 64 rows, 32 notes
 pattern 1: 64 rows, 32 notes
 pattern 2: 64 rows, 0 notes
@@ -63,7 +63,20 @@ ok "it refuses half of it" refuses "$program.xm" "tables: refused, number 1 (cut
 it was cut short on its way, or a size in it is wrong; save it anew and send it again"
 truncate -s 16777217 "$program.xm"
 ok "it refuses a long one" refuses "$program.xm" \
-    "tables: refused, number 2 (file_too_long) at place 0: the file is over 16,777,216 bytes, too large for a board: shorten its samples"
+    "tables: refused, number 2 (file_too_long) at place 0: the file is over 16,777,216 bytes, or would be once converted, too large for \
+a board: shorten its samples"
+# A stripped module with one instrument, which ends with H, 1: three sample headers of one byte, the length, and 20 + 0 + 2 bytes of data.
+# Where the kind would stand if they were whole, data say AD.
+head -c 90 /dev/zero >"$program.xm"
+patch 60 '\025' && patch 64 '\001' && patch 68 '\001' && patch 70 '\001' && patch 72 '\001' && patch 81 '\011' && patch 86 '\100'
+patch 90 '\036\000\000\000' && patch 117 '\003\000\001\024\000\002'
+patch 123 '\001\001\001\001\001\001\001\001\001\001\001\001\001\001\255\255\255\000\000\000\001\001'
+ok "it takes a stripped module" run "$program.xm"
+ok "it opens that up by its cut headers" says 'accepted as a stripped module, ends at place 145
+pattern 0: 64 rows, 0 notes
+sample 0: 20 values of 8 bits, up to 104, finetune 0, relative note 0
+sample 1: 0 values of 8 bits, up to 0, finetune 0, relative note 0
+sample 2: 2 values of 8 bits, up to 2, finetune 0, relative note 0'
 rm -f "$program.xm"
 
 echo "header: $passed passed, $failed failed"

@@ -34,9 +34,9 @@ static const struct refusal refusals[] = {
     {1, FIDDLEMARSH_CUT, "cut",
      "the file ends before all of it is there: it was cut short on its way, or a size in it is wrong; save it anew and send it again"},
     {2, FIDDLEMARSH_FILE_TOO_LONG, "file_too_long",
-     "the file is over 16,777,216 bytes, too large for a board: shorten its samples"},
+     "the file is over 16,777,216 bytes, or would be once converted, too large for a board: shorten its samples"},
     {3, FIDDLEMARSH_MARK_OR_VERSION, "mark_or_version",
-     "this is no XM module, or a stripped or very old one: save it as XM 1.04"},
+     "this is no XM module, or a very old one: save it as XM 1.04"},
     {4, FIDDLEMARSH_HEADER_SIZE, "header_size",
      "the header has no room for the order table: save the module with another tracker"},
     {5, FIDDLEMARSH_HEADER_COUNTS, "header_counts",
@@ -113,6 +113,11 @@ static void test_counts(void)
     const uint32_t instruments[6] = {4000, 3, 0, 5000, 16, 3};
     for (size_t i = 0; i < sizeof file; i++)
         file[i] = (uint8_t)i;
+    MUST(fiddlemarsh_is_stripped(file) == 0);
+    file[37] = 0x1A;
+    MUST(fiddlemarsh_is_stripped(file) == 0);
+    file[37] = 0;
+    MUST(fiddlemarsh_is_stripped(file) == 1);
     MUST(fiddlemarsh_channels(file) == 17732 && fiddlemarsh_patterns(file) == 18246 && fiddlemarsh_instruments(file) == 18760);
     file[72] = 2, file[73] = 0;
     MUST(fiddlemarsh_instruments(file) == 2 && fiddlemarsh_samples(file, instruments) == 19);
@@ -122,23 +127,57 @@ static void test_counts(void)
     MUST(fiddlemarsh_samples(file, instruments) == 0 && fiddlemarsh_samples(file, NULL) == 0);
 }
 
-/* Two rows, and a sample header where the second one says. */
+/* Two rows, and a sample header where the second one says, of any size: what is cut off reads as 0. */
 static void test_sample_headers(void)
 {
     uint8_t file[64] = {0};
     const uint32_t rows[14] = {40, 64, 0, 8, 0, 0, 0, 20, 64, 0, 16, 0, 0, 0};
     const uint32_t *row = rows + FIDDLEMARSH_SAMPLE_NUMBERS;
     file[20] = 0x01, file[21] = 0x02, file[22] = 0x03, file[23] = 0x84;
-    MUST(fiddlemarsh_sample_header_length(file, row) == 0x84030201u && fiddlemarsh_sample_is_adpcm(file, row) == 0);
+    MUST(fiddlemarsh_sample_header_length(file, row, 40) == 0x84030201u && fiddlemarsh_sample_is_adpcm(file, row, 40) == 0);
     file[40] = 7;
-    MUST(fiddlemarsh_sample_values(file, rows) == 7 && fiddlemarsh_sample_values(file, row) == 0x42018100u);
+    MUST(fiddlemarsh_sample_values(file, rows, 40) == 7 && fiddlemarsh_sample_values(file, row, 40) == 0x42018100u);
+    MUST(fiddlemarsh_sample_values(file, rows, 1) == 7 && fiddlemarsh_sample_values(file, row, 2) == 0x0100u);
     file[37] = 0xAD;
-    MUST(fiddlemarsh_sample_is_adpcm(file, row) == 1 && fiddlemarsh_sample_is_adpcm(file, rows) == 0);
+    MUST(fiddlemarsh_sample_is_adpcm(file, row, 40) == 1 && fiddlemarsh_sample_is_adpcm(file, rows, 40) == 0);
+    MUST(fiddlemarsh_sample_is_adpcm(file, row, 18) == 1 && fiddlemarsh_sample_is_adpcm(file, row, 17) == 0);
+    MUST(fiddlemarsh_sample_header_byte(file, row, 18, 17) == 0xAD && fiddlemarsh_sample_header_byte(file, row, 17, 17) == 0);
+    MUST(fiddlemarsh_sample_header_length(file, row, 4) == 0x84030201u && fiddlemarsh_sample_header_length(file, row, 3) == 0x030201u);
+    MUST(fiddlemarsh_sample_header_length(file, row, 1) == 1 && fiddlemarsh_sample_header_length(file, row, 0) == 0);
+}
+
+/* Four instruments: two samples of headers of 41 bytes; none; sixteen of none; and one of 3. */
+static void test_sample_header_sizes(void)
+{
+    const uint32_t instruments[12] = {345, 2, 0, 700, 0, 2, 729, 16, 2, 757, 1, 18};
+    uint32_t samples[19 * FIDDLEMARSH_SAMPLE_NUMBERS] = {0};
+    const uint32_t places[4][3] = {{0, 608, 690}, {1, 649, 700}, {2, 757, 757}, {18, 787, 790}};
+    for (size_t i = 0; i < 4; i++) {
+        uint32_t *row = samples + places[i][0] * FIDDLEMARSH_SAMPLE_NUMBERS;
+        row[FIDDLEMARSH_SAMPLE_HEADER_PLACE] = places[i][1];
+        row[FIDDLEMARSH_SAMPLE_DATA_PLACE] = places[i][2];
+    }
+    MUST(fiddlemarsh_sample_header_size(instruments, samples) == 41);
+    MUST(fiddlemarsh_sample_header_size(instruments + 3, samples) == 0 && fiddlemarsh_sample_header_size(instruments + 3, NULL) == 0);
+    MUST(fiddlemarsh_sample_header_size(instruments + 6, samples) == 0);
+    MUST(fiddlemarsh_sample_header_size(instruments + 9, samples) == 3);
+}
+
+/* 128 instruments of 28 bytes with 16 samples each, whose headers have no bytes, behind one order and one pattern header; as a normal
+   module they take 263 + 16 x 40 each, and the order table 255 more. */
+static void test_normal_room(void)
+{
+    MUST(FIDDLEMARSH_NORMAL_MORE_MOST == 336 + 9 + 128 * (263 + 16 * 40) - (81 + 9 + 128 * 28));
+    MUST(fiddlemarsh_normal_room(0) == 112255 && fiddlemarsh_normal_room(90) == 112345);
+    MUST(fiddlemarsh_normal_room(16664960) == 16777215 && fiddlemarsh_normal_room(16664961) == 16777216);
+    MUST(fiddlemarsh_normal_room(16664962) == 16777216 && fiddlemarsh_normal_room(16777216) == 16777216);
+    MUST(fiddlemarsh_normal_room(16777217) == 16777216 && fiddlemarsh_normal_room((size_t)-1) == 16777216);
 }
 
 static void test_constants(void)
 {
     MUST(FIDDLEMARSH_FILE_MOST == 16777216 && FIDDLEMARSH_DATA_MOST == 65535);
+    MUST(FIDDLEMARSH_NORMAL_MORE_MOST == 112255);
     MUST(FIDDLEMARSH_ROWS_MOST == 256 && FIDDLEMARSH_CHANNELS_MOST == 64);
     MUST(FIDDLEMARSH_PATTERNS_MOST == 256 && FIDDLEMARSH_INSTRUMENTS_MOST == 128 && FIDDLEMARSH_SAMPLES_MOST == 2048);
     MUST(FIDDLEMARSH_VALUES_MOST == 33554432);
@@ -159,7 +198,7 @@ static void test_constants(void)
     MUST(FIDDLEMARSH_SAMPLE_FINETUNE == 0 && FIDDLEMARSH_SAMPLE_RELATIVE_NOTE == 1);
     MUST(strcmp(FIDDLEMARSH_VERSION, TEXT(FIDDLEMARSH_VERSION_MAJOR) "." TEXT(FIDDLEMARSH_VERSION_MINOR) "." TEXT(
                                          FIDDLEMARSH_VERSION_PATCH)) == 0);
-    MUST(FIDDLEMARSH_VERSION_MAJOR == 5 && FIDDLEMARSH_VERSION_MINOR == 0 && FIDDLEMARSH_VERSION_PATCH == 0);
+    MUST(FIDDLEMARSH_VERSION_MAJOR == 6 && FIDDLEMARSH_VERSION_MINOR == 0 && FIDDLEMARSH_VERSION_PATCH == 0);
 }
 
 /* README has a row for each number, which ends with its sentence. */
@@ -195,6 +234,8 @@ int main(int argc, char **argv)
     test_answers();
     test_counts();
     test_sample_headers();
+    test_sample_header_sizes();
+    test_normal_room();
     test_constants();
     test_readme(argv[1]);
     if (!wrong)

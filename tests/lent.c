@@ -59,6 +59,8 @@ static const struct kind kinds[CALL_NAMES] = {
     {"unpack", "rows", 1, {"output"}, {1}},
     {"pack", "length", 1, {"output"}, {1}},
     {"press", "length", 1, {"output"}, {1}},
+    {"to_normal", "length", 1, {"output"}, {1}},
+    {"to_stripped", "length", 1, {"output"}, {1}},
     {"tables", "end", 1, {"patterns", "instruments", "samples", "tunes"}, {4, 4, 4, 1}},
     {"decode", "values", 1, {"output"}, {2}},
     {"code", "bytes", 2, {"output"}, {1}},
@@ -338,6 +340,10 @@ static uint64_t ask_reference(const struct call *call, uint8_t *const output[OUT
         return reference_loader_pack(call->rows, call->channels, call->input, call->input_len, output[0], call->room);
     case CALL_PRESS:
         return reference_loader_press(call->input, call->input_len, output[0], call->room);
+    case CALL_TO_NORMAL:
+        return reference_loader_to_normal(call->input, call->input_len, output[0], call->room);
+    case CALL_TO_STRIPPED:
+        return reference_loader_to_stripped(call->input, call->input_len, output[0], call->room);
     case CALL_TABLES:
         return reference_loader_tables(call->input, call->input_len, NUMBERS_AT(output[0]), call->room, NUMBERS_AT(output[1]),
                                        rooms[0], NUMBERS_AT(output[2]), rooms[1], (int8_t *)output[3], rooms[2]);
@@ -364,6 +370,10 @@ static uint64_t ask_library(const struct call *call, const uint8_t *input, uint8
         return fiddlemarsh_pack(call->rows, call->channels, input, call->input_len, output[0], call->room);
     case CALL_PRESS:
         return fiddlemarsh_press(input, call->input_len, output[0], call->room);
+    case CALL_TO_NORMAL:
+        return fiddlemarsh_to_normal(input, call->input_len, output[0], call->room);
+    case CALL_TO_STRIPPED:
+        return fiddlemarsh_to_stripped(input, call->input_len, output[0], call->room);
     case CALL_TABLES:
         return fiddlemarsh_tables(input, call->input_len, NUMBERS_AT(output[0]), call->room, NUMBERS_AT(output[1]), rooms[0],
                                   NUMBERS_AT(output[2]), rooms[1], (int8_t *)output[3], rooms[2]);

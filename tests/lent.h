@@ -6,7 +6,20 @@
 #include <stddef.h>
 #include <stdint.h>
 
-enum call_name { CALL_CHECK, CALL_UNPACK, CALL_PACK, CALL_PRESS, CALL_TABLES, CALL_DECODE, CALL_CODE, CALL_ADPCM, CALL_PERIOD, CALL_NAMES };
+enum call_name {
+    CALL_CHECK,
+    CALL_UNPACK,
+    CALL_PACK,
+    CALL_PRESS,
+    CALL_TO_NORMAL,
+    CALL_TO_STRIPPED,
+    CALL_TABLES,
+    CALL_DECODE,
+    CALL_CODE,
+    CALL_ADPCM,
+    CALL_PERIOD,
+    CALL_NAMES
+};
 
 /* Lengths count what the slice holds: bytes, values of decoding and coding, numbers of a table. */
 struct call {

@@ -1,5 +1,5 @@
-/* listing_test.c: the listing program, run on modules of every shape, on damaged ones and around its limit. Its one line must be
-   what the reference says.
+/* listing_test.c: the listing program, run on modules of every shape, stripped ones too, on damaged ones and around its limit. Its one
+   line must be what the reference says.
 
    listing_test PROGRAM [ARGUMENT...]      the command that starts the listing */
 
@@ -167,7 +167,7 @@ static void modules_of_every_shape(unsigned rounds)
     struct chance chance = {5001};
     struct module module = {0};
     for (unsigned round = 0; round < rounds; round++) {
-        struct shape shape = shape_by_chance(&chance, round % 16 == 0);
+        struct shape shape = round % 3 == 2 ? kind_by_chance(&chance, false, true) : shape_by_chance(&chance, round % 16 == 0);
         module_build(&module, &shape, &chance);
         try_listing(module.bytes, module.length);
         damage(&module, &chance);

@@ -91,6 +91,15 @@ static void put_field(struct module *module, size_t place, uint32_t width, uint3
     field_put(module->bytes, (struct field){(uint32_t)place, width}, number);
 }
 
+/* The same of a structure that ends behind 'size' bytes: what is beyond is not written. */
+static void put_cut_field(struct module *module, size_t start, uint32_t size, uint32_t offset, uint32_t width, uint32_t number)
+{
+    if (offset + width <= size)
+        put_field(module, start + offset, width, number);
+    else if (offset < size)
+        field_put(module->bytes, (struct field){(uint32_t)start + offset, size - offset}, number);
+}
+
 static void fill_noise(uint8_t *to, size_t count, struct chance *chance)
 {
     while (count >= 8) {
@@ -224,11 +233,12 @@ void module_put_cells(struct module *module, size_t count, int cells, struct cha
 
 static void put_header(struct module *module, const struct shape *shape, struct chance *chance)
 {
-    uint32_t extra = chance_between(chance, 0, shape->header_extra_most);
-    module_put_noise(module, 80 + 256 + extra, chance);
-    put_field(module, 37, 1, 0x1A);
-    put_field(module, 58, 2, 0x0104);
-    put_field(module, 60, 4, 276 + extra);
+    uint32_t size = shape->stripped ? 20 + shape->song_length : 276;
+    size += chance_between(chance, 0, shape->header_extra_most);
+    module_put_noise(module, 60 + size, chance);
+    put_field(module, 37, 1, shape->stripped ? 0 : 0x1A);
+    put_field(module, 58, 2, shape->stripped ? 0 : 0x0104);
+    put_field(module, 60, 4, size);
     put_field(module, 64, 2, shape->song_length);
     put_field(module, 66, 2, shape->restart);
     put_field(module, 68, 2, shape->channels);
@@ -259,7 +269,27 @@ static void put_pattern(struct module *module, const struct shape *shape, struct
         note_field(module, start + header_length, 1);
 }
 
-static void put_loop(struct module *module, size_t header, uint32_t length, uint32_t type, struct chance *chance)
+static uint32_t smaller(uint32_t a, uint32_t b)
+{
+    return a < b ? a : b;
+}
+
+/* Bytes of a structure, whose content ends at 'content': all noise, or by chance with zeros at the content's end, and noise behind.
+   Returns how many bytes of the content are there and not such zeros. */
+static uint32_t put_structure(struct module *module, const struct shape *shape, uint32_t size, uint32_t content, struct chance *chance)
+{
+    uint32_t most = smaller(size, content), kept = most;
+    if (shape->zeros_percent > 0 && chance_percent(chance, shape->zeros_percent))
+        kept = chance_between(chance, 0, most);
+    module_put_noise(module, kept < most ? kept : size, chance);
+    if (kept < most) {
+        memset(module_extend(module, most - kept), 0, most - kept);
+        module_put_noise(module, size - most, chance);
+    }
+    return kept;
+}
+
+static void put_loop(struct module *module, size_t header, uint32_t kept, uint32_t length, uint32_t type, struct chance *chance)
 {
     uint32_t loop_bits = type & 3, whole = type & 16 ? ~(uint32_t)1 : ~(uint32_t)0; /* 16-bit samples loop by two bytes */
     uint32_t loop_start = (uint32_t)chance_next(chance);
@@ -270,8 +300,8 @@ static void put_loop(struct module *module, size_t header, uint32_t length, uint
         loop_start = chance_between(chance, 0, length) & whole;
         loop_length = chance_percent(chance, 50) ? length - loop_start : chance_between(chance, 0, length - loop_start) & whole;
     }
-    put_field(module, header + 4, 4, loop_start);
-    put_field(module, header + 8, 4, loop_length);
+    put_cut_field(module, header, kept, 4, 4, loop_start);
+    put_cut_field(module, header, kept, 8, 4, loop_length);
 }
 
 static uint32_t adpcm_bytes(uint32_t length)
@@ -279,14 +309,22 @@ static uint32_t adpcm_bytes(uint32_t length)
     return length == 0 ? 0 : 16 + (length + 1) / 2;
 }
 
-/* Returns the bytes of the sample's data. */
+/* The part of a number that its first bytes hold. */
+static uint32_t cut_number(uint32_t number, uint32_t bytes)
+{
+    return bytes >= 4 ? number : number & ((1u << 8 * bytes) - 1);
+}
+
+/* Of 'size' bytes; what is not kept of them, and what is cut off, reads as 0. Returns the bytes of the sample's data. */
 static uint32_t put_sample_header(struct module *module, const struct shape *shape, uint32_t size, struct chance *chance)
 {
     size_t start = module->length;
-    module_put_noise(module, size, chance);
+    uint32_t kept = put_structure(module, shape, size, 40, chance);
     uint32_t loop_bits = PICK(chance, 0, 0, 1, 2);
     uint32_t type = ((uint32_t)chance_next(chance) & 0xFC) | loop_bits; /* the other bits are kept */
-    bool adpcm = chance_percent(chance, shape->adpcm_percent);
+    bool adpcm = chance_percent(chance, shape->adpcm_percent) && kept > 17;
+    if (kept <= 14)
+        type = 0;
     if (adpcm)
         type &= ~(uint32_t)16;
     uint32_t length = chance_between(chance, shape->sample_length_least, shape->sample_length_most);
@@ -294,24 +332,49 @@ static uint32_t put_sample_header(struct module *module, const struct shape *sha
         length = 0;
     if (type & 16)
         length &= ~(uint32_t)1;
-    put_field(module, start, 4, length);
-    put_loop(module, start, length, type, chance);
-    put_field(module, start + 14, 1, type);
-    put_field(module, start + 17, 1, adpcm ? 0xAD : PICK(chance, 0, 0, 0xAC, 0xAE, 0xDA, 0x2D, 255));
+    length = cut_number(length, kept);
+    put_cut_field(module, start, kept, 0, 4, length);
+    put_loop(module, start, kept, length, type, chance);
+    put_cut_field(module, start, kept, 14, 1, type);
+    put_cut_field(module, start, kept, 17, 1, adpcm ? 0xAD : PICK(chance, 0, 0, 0xAC, 0xAE, 0xDA, 0x2D, 255));
     return adpcm ? adpcm_bytes(length) : length;
+}
+
+/* Around each field's limits, and anywhere. With samples at least the byte is there that counts them. */
+static uint32_t stripped_size(uint32_t samples, struct chance *chance)
+{
+    if (chance_percent(chance, 20))
+        return chance_between(chance, samples > 0 ? 28 : 4, 300);
+    if (samples == 0)
+        return PICK(chance, 4, 4, 5, 25, 26, 27, 28, 29, 30, 33, 34, 241, 263);
+    return PICK(chance, 28, 28, 29, 30, 31, 32, 33, 34, 128, 129, 130, 225, 239, 240, 241, 242, 263, 264);
+}
+
+/* Around each field's limits, and anywhere; 0 where I cuts it off, and below 256 where it leaves one byte of it. */
+static uint32_t stripped_header_size(uint32_t size, struct chance *chance)
+{
+    if (size <= 29)
+        return 0;
+    if (size > 30 && chance_percent(chance, 5))
+        return chance_between(chance, 250, 300);
+    if (chance_percent(chance, 20))
+        return chance_between(chance, 0, 60);
+    return PICK(chance, 0, 0, 1, 2, 3, 4, 5, 12, 13, 14, 15, 16, 17, 18, 19, 39, 40, 41);
 }
 
 static void put_instrument(struct module *module, const struct shape *shape, struct chance *chance)
 {
     size_t start = module->length;
     uint32_t samples = chance_between(chance, shape->samples_least, shape->samples_most);
-    uint32_t size = (samples > 0 ? 263 : 29) + chance_between(chance, 0, shape->instrument_extra_most);
-    uint32_t header_size = 40 + chance_between(chance, 0, shape->sample_header_extra_most);
-    module_put_noise(module, size, chance);
+    uint32_t size = shape->stripped ? stripped_size(samples, chance)
+                                    : (samples > 0 ? 263 : 29) + chance_between(chance, 0, shape->instrument_extra_most);
+    uint32_t header_size = shape->stripped ? stripped_header_size(size, chance)
+                                           : 40 + chance_between(chance, 0, shape->sample_header_extra_most);
+    put_structure(module, shape, size, samples > 0 ? 241 : 29, chance);
     put_field(module, start, 4, size);
-    put_field(module, start + 27, 2, samples);
+    put_cut_field(module, start, size, 27, 2, samples);
     if (samples > 0)
-        put_field(module, start + 29, 4, header_size);
+        put_cut_field(module, start, size, 29, 4, header_size);
     size_t data = 0;
     for (uint32_t i = 0; i < samples; i++)
         data += put_sample_header(module, shape, header_size, chance);
@@ -356,5 +419,14 @@ struct shape shape_by_chance(struct chance *chance, bool large)
     shape.sample_length_most = PICK(chance, 0, 1, 9, 100, 1000);
     shape.adpcm_percent = PICK(chance, 0, 0, 30, 100);
     shape.trailing_most = PICK(chance, 0, 0, 1, 30);
+    return shape;
+}
+
+struct shape kind_by_chance(struct chance *chance, bool large, bool stripped)
+{
+    struct shape shape = shape_by_chance(chance, large);
+    shape.stripped = stripped;
+    shape.instruments = large ? shape.instruments : PICK(chance, 0, 1, 2, 3, 5);
+    shape.zeros_percent = PICK(chance, 0, 30, 80, 100);
     return shape;
 }

@@ -43,20 +43,22 @@ enum cells {
 
 /* What to build. Numbers behind 'most' are chosen by chance from 0 (rows: from 1) up to it. */
 struct shape {
+    bool stripped;                     /* a stripped module: I and H of any size, around their limits too */
     uint32_t song_length;
     uint32_t restart;
     uint32_t channels;
     uint32_t patterns;
     uint32_t instruments;
     uint32_t header_extra_most;        /* bytes between the order table and the first pattern */
+    uint32_t zeros_percent;            /* of the instruments and sample headers end in zeros */
     uint32_t pattern_extra_most;       /* L above 9 */
     uint32_t rows;                     /* of every pattern; 0: by chance, up to rows_most */
     uint32_t rows_most;
     int cells;                         /* enum cells; -1: by chance, a choice for each pattern */
     uint32_t samples_least;            /* of each instrument */
     uint32_t samples_most;
-    uint32_t instrument_extra_most;    /* I above 29 or 263 */
-    uint32_t sample_header_extra_most; /* H above 40 */
+    uint32_t instrument_extra_most;    /* I above 29 or 263, if not stripped */
+    uint32_t sample_header_extra_most; /* H above 40, if not stripped */
     uint32_t sample_length_least;
     uint32_t sample_length_most;
     uint32_t adpcm_percent;            /* of the samples are of kind AD */
@@ -65,6 +67,9 @@ struct shape {
 
 /* A shape by chance, of a few kilobytes; 'large' allows every limit of the rules. */
 struct shape shape_by_chance(struct chance *chance, bool large);
+
+/* The same of a stripped module, or of a normal one that ends many structures in zeros, as a stripped one would cut them off. */
+struct shape kind_by_chance(struct chance *chance, bool large, bool stripped);
 
 void module_build(struct module *module, const struct shape *shape, struct chance *chance);
 void module_free(struct module *module);

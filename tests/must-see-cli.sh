@@ -33,7 +33,7 @@ run_test() {
     $CC $LDFLAGS $WRAP "$@" "$library" -o "$copy/program"
     case $by in
     cli) ./cli.sh "$copy/program" "$example" ../README.md ;;
-    cli_press | cli_same | cli_samples) "./$by.sh" "$copy/program" "$example" "$copy/program" ;;
+    cli_press | cli_same | cli_samples | cli_convert) "./$by.sh" "$copy/program" "$example" "$copy/program" ;;
     esac
 }
 

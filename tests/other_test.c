@@ -67,9 +67,9 @@ static uint32_t compare_sample(const struct xmp_sample *other, uint32_t number)
     static int16_t values[LENGTH_MOST];
     const uint32_t *row = samples + number * FIDDLEMARSH_SAMPLE_NUMBERS;
     const uint8_t *data = file + row[FIDDLEMARSH_SAMPLE_DATA_PLACE];
-    uint32_t bytes = row[FIDDLEMARSH_SAMPLE_LENGTH];
-    uint64_t answer = fiddlemarsh_sample_is_adpcm(file, row)
-                          ? fiddlemarsh_adpcm(fiddlemarsh_sample_header_length(file, row), data, bytes, values, LENGTH_MOST)
+    uint32_t bytes = row[FIDDLEMARSH_SAMPLE_LENGTH], header_size = fiddlemarsh_sample_header_size(instruments, samples);
+    uint64_t answer = fiddlemarsh_sample_is_adpcm(file, row, header_size)
+                          ? fiddlemarsh_adpcm(fiddlemarsh_sample_header_length(file, row, header_size), data, bytes, values, LENGTH_MOST)
                           : fiddlemarsh_decode(row[FIDDLEMARSH_SAMPLE_WIDTH], data, bytes, values, LENGTH_MOST);
     uint32_t count = fiddlemarsh_decoded_values(answer);
     if (fiddlemarsh_refused(answer) || other->len < 0 || (uint32_t)other->len != count)

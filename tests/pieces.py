@@ -93,6 +93,11 @@ def say_press(file, room):
     return (refusal or accepted(len(pressed))) + sum_of_bytes(pressed or b'', room)
 
 
+def say_convert(file, stripped, room):
+    converted, refusal = answered(rules.convert, file, stripped, room)
+    return (refusal or accepted(len(converted))) + sum_of_bytes(converted or b'', room)
+
+
 def tables_of(module):
     return [rules.pattern_table(module), rules.instrument_table(module), rules.sample_table(module), rules.tune_table(module)]
 
@@ -130,7 +135,7 @@ def say_deltas(file, wanted, width, value_room, code_width, room):
     return decoded + (refusal or accepted(len(coded))) + sum_of_bytes(coded or b'', room)
 
 
-def say_values(file, wanted, room, left_out):
+def say_values(file, wanted, room, left_out, head_size):
     sample = rules.read_module(file).samples()[wanted]
     data = sample.data[:len(sample.data) - left_out]
     values, refusal = answered(rules.decode_sample, sample.head, data, room)
@@ -144,7 +149,7 @@ def say_unpack(file, wanted, skipped, rows, channels, room):
     return (refusal or accepted(unpacked_rows)) + sum_of_bytes(cells, room)
 
 
-SAY = {'check': say_check, 'structures': say_structures, 'reader': say_reader, 'line': say_line, 'press': say_press,
+SAY = {'check': say_check, 'structures': say_structures, 'reader': say_reader, 'line': say_line, 'press': say_press, 'convert': say_convert,
        'tables': say_tables, 'ask': say_ask, 'deltas': say_deltas, 'values': say_values, 'unpack': say_unpack}
 
 
@@ -190,13 +195,14 @@ def delta_calls(wanted, sample):
 
 
 def value_calls(wanted, sample):
-    """By the header's kind: no number to spare, more room, and one too little; and a byte of the data left out."""
+    """By the header's kind, as far as its H bytes tell: no number to spare, more room, and one too little; a byte of the data left out."""
     count = rules.little(sample.head, 0, 4) * 8 // rules.width_of(sample.head)
-    yield 'values', wanted, count, 0
-    yield 'values', wanted, count + 3, 0
+    size = sample.head_size
+    yield 'values', wanted, count, 0, size
+    yield 'values', wanted, count + 3, 0, size
     if count:
-        yield 'values', wanted, count - 1, 0
-        yield 'values', wanted, count, 1
+        yield 'values', wanted, count - 1, 0, size
+        yield 'values', wanted, count, 1, size
 
 
 def pattern_calls(channels, wanted, pattern):
@@ -214,9 +220,20 @@ def shown(wanted):
     return None if wanted < 9 else 1
 
 
+def convert_calls(file, module):
+    """To the other kind with no byte to spare; of a stripped file also a byte too little, and to its own kind."""
+    other = not module.stripped
+    length = len(rules.convert(file, other, rules.FILE_MOST))
+    yield 'convert', int(other), length
+    if module.stripped:
+        yield 'convert', 0, length - 1
+        yield 'convert', 1, len(file)
+
+
 def valid_calls(file, module):
     length = len(rules.press(file, len(file)))
     yield from (('press', room) for room in (len(file) + 9, length, length - 1))
+    yield from convert_calls(file, module)
     yield from table_calls(module)
     yield from ask_calls(file, module)
     for wanted, pattern in enumerate(module.patterns):
@@ -235,6 +252,8 @@ def calls(file):
     if refusal:
         yield 'press', len(file)
         yield 'tables', *TABLES
+        if len(file) >= 80 and rules.is_stripped(file):
+            yield 'convert', 0, len(file) + 9
     else:
         yield from valid_calls(file, module)
 

@@ -14,10 +14,10 @@ class Maker:
         taken, self.stream = self.stream[:size], self.stream[size:]
         return taken
 
-    def header(self, song=1, restart=0, channels=1, patterns=1, instruments=0, size=276, mark=0x1A, version=0x0104):
+    def header(self, song=1, restart=0, channels=1, patterns=1, instruments=0, size=276, mark=0x1A, version=0x0104, orders=256):
         front = self.noise(37) + bytes([mark]) + self.noise(20) + number(version, 2) + number(size, 4)
         counts = b''.join(number(count, 2) for count in (song, restart, channels, patterns, instruments))
-        return front + counts + self.noise(6) + self.noise(max(256, size - 20))
+        return front + counts + self.noise(6) + self.noise(max(orders, size - 20))
 
     def pattern(self, rows, data=b'', length=9, size=None):
         front = number(length, 4) + self.noise(1) + number(rows, 2) + number(len(data) if size is None else size, 2)
@@ -35,6 +35,16 @@ class Maker:
     def small(self, **changes):
         """A header with changes, and 64 empty rows."""
         return self.header(**changes) + self.pattern(64)
+
+    def bare(self, song=1, size=None, **changes):
+        """The same of a stripped module: no byte follows the orders but those that a larger size is for."""
+        return self.header(song, size=20 + song if size is None else size, mark=0, version=0, orders=song, **changes) + self.pattern(64)
+
+    def cut(self, size, heads=(), data=b'', head_size=0, count=None, voice=None):
+        """An instrument of a stripped module, whatever of it is in I bytes; what is behind its sample count may be given."""
+        counts = number(len(heads) if count is None else count, 2) + number(head_size, 4)
+        front = number(size, 4) + self.noise(23) + counts + (self.noise(max(0, size - 33)) if voice is None else voice)
+        return front[:size] + b''.join(head[:head_size] for head in heads) + data
 
     def voices(self, *heads, data=b'', **changes):
         """The smallest file with one instrument of these sample headers."""
@@ -184,6 +194,31 @@ def most_structures(make):
     return make.header(song=256, channels=64, patterns=256, instruments=128) + patterns + instruments
 
 
+def stripped_sizes(make):
+    """Instruments without samples: each I around its fields' ends; and names of zeros, which leave nothing, and with a letter last."""
+    sizes = [make.cut(size) for size in (4, 5, 25, 26, 27, 28, 29, 33, 300)]
+    names = [number(29, 4) + bytes(25), number(28, 4) + b'a' + bytes(23), number(27, 4) + bytes(20) + b'zz' + bytes(1)]
+    return make.bare(instruments=12) + b''.join(sizes + names)
+
+
+def stripped_headers(make):
+    """Sample headers that end around their fields' ends, in instruments that end around H."""
+    heads = [make.head(3, 1, 2, form=1), make.head(2, form=16)]
+    forms = [(28, 2, 0, 0), (29, 1, 0, 0), (30, 2, 1, 5), (32, 1, 4, 3), (33, 1, 14, 3), (34, 2, 15, 5)]
+    instruments = [make.cut(size, heads[:count], make.noise(data), head_size) for size, count, head_size, data in forms]
+    return make.bare(instruments=6) + b''.join(instruments)
+
+
+def stripped_voices(make):
+    """A note map and envelopes that end in zeros, or not; sample headers that are whole, longer, or end in zeros."""
+    plain = make.head(4, 0, 4, form=0x12)
+    zeros = make.head(5, kind=0xAD)[:18] + bytes(29)
+    forms = [(241, [plain], 4, 40, None), (300, [zeros, zeros], 38, 47, bytes(100) + b'z' + bytes(107) + make.noise(59)),
+             (100, [zeros], 19, 40, bytes(67))]
+    instruments = [make.cut(size, heads, make.noise(data), head, voice=voice) for size, heads, data, head, voice in forms]
+    return make.bare(song=5, restart=5, size=300, instruments=3) + b''.join(instruments) + make.noise(9)
+
+
 VALID = {
     'rows_256_stored': lambda make: make.header(restart=1) + make.pattern(256, [0x80] * 256),
     'every_cell': every_cell,
@@ -203,6 +238,13 @@ VALID = {
     'long_and_trailing': long_and_trailing,
     'largest_pattern': largest_pattern,
     'most_structures': most_structures,
+    'stripped': lambda make: make.bare(),
+    'stripped_song_256': lambda make: make.bare(song=256, restart=255),
+    'stripped_sizes': stripped_sizes,
+    'stripped_headers': stripped_headers,
+    'stripped_voices': stripped_voices,
+    'stripped_no_heads': lambda make: make.bare(instruments=1) + make.cut(28, count=3),
+    'stripped_count_cut': lambda make: make.bare(instruments=1) + make.cut(28, count=256 + 1),
     'loop_to_the_end': lambda make: make.voices(make.head(4, 1, 3, form=2), data=make.noise(4)),
     'no_loop': lambda make: make.voices(make.head(4, 0xFFFFFFFF, 0xFFFFFFFF), data=make.noise(4)),
     'no_loop_length': lambda make: make.voices(make.head(4, 0xFFFFFFFF, 0, form=1), data=make.noise(4)),
@@ -275,6 +317,27 @@ DAMAGED_INSTRUMENT = {
 }
 
 
+DAMAGED_STRIPPED = {
+    'stripped_by_version': lambda make: make.small(version=0),
+    'stripped_header_20': lambda make: make.bare(size=20),
+    'stripped_header_22': lambda make: make.bare(song=3, size=22),
+    'stripped_song_65535': lambda make: make.small(song=65535, mark=0, version=0),
+    'stripped_song_0': lambda make: make.bare(song=0),
+    'stripped_song_257': lambda make: make.bare(song=257),
+    'stripped_cut_orders': lambda make: make.bare(song=3)[:82],
+    'stripped_cut_front': lambda make: make.bare(instruments=1) + make.cut(4)[:3],
+    'stripped_size_3': lambda make: make.bare(instruments=1) + number(3, 4) + make.noise(40),
+    'stripped_cut_instrument': lambda make: make.bare(instruments=1) + make.cut(40, count=17)[:35],
+    'stripped_samples_17': lambda make: make.bare(instruments=1) + make.cut(28, count=17),
+    'stripped_samples_272': lambda make: make.bare(instruments=1) + make.cut(29, count=272),
+    'stripped_cut_headers': lambda make: make.bare(instruments=1) + make.cut(30, count=2, head_size=5) + make.noise(9),
+    'stripped_adpcm_16_bit': lambda make: make.bare(instruments=1) + make.cut(30, [make.head(0), make.head(0, form=16, kind=0xAD)], head_size=18),
+    'stripped_loop': lambda make: make.bare(instruments=1) + make.cut(30, [make.head(4, 2, 3, form=1)], make.noise(4), 15),
+    'stripped_odd_loop': lambda make: make.bare(instruments=1) + make.cut(30, [make.head(8, 1, 2, form=17)], make.noise(8), 15),
+    'stripped_cut_data': lambda make: make.bare(instruments=1) + make.cut(30, [make.head(4), make.head(9)], make.noise(12), 1),
+}
+
+
 def made(files):
     return {name: parts(Maker(name)) for name, parts in files.items()}
 
@@ -284,7 +347,7 @@ def valid_files():
 
 
 def damaged_files():
-    return made({**DAMAGED_HEADER, **DAMAGED_PATTERN, **DAMAGED_INSTRUMENT})
+    return made({**DAMAGED_HEADER, **DAMAGED_PATTERN, **DAMAGED_INSTRUMENT, **DAMAGED_STRIPPED})
 
 
 def bench_files():

@@ -23,11 +23,20 @@ def number(value, size):
     return value.to_bytes(size, 'little')
 
 
+def padded(data, size):
+    """So many bytes, of which those that are not there are 0."""
+    return data[:size] + bytes(max(0, size - len(data)))
+
+
 def signed(value, bits):
     return (value + 2 ** (bits - 1)) % 2 ** bits - 2 ** (bits - 1)
 
 
 # What a file holds
+
+
+FILE_MOST = 16777216
+NO_TRACKER = bytes(20)
 
 
 @dataclass
@@ -42,6 +51,7 @@ class Pattern:
 @dataclass
 class Sample:
     place: int
+    head_size: int
     head: bytes
     data_place: int
     data: bytes
@@ -63,6 +73,7 @@ class Instrument:
 
 @dataclass
 class Module:
+    stripped: bool
     header: bytes
     channels: int
     patterns: list
@@ -132,14 +143,22 @@ def unpack(rows, channels, data, room):
 # The walk over a file
 
 
+def is_stripped(file):
+    return file[37] == 0 and little(file, 58, 2) == 0
+
+
+def least_header(stripped, song):
+    return 20 + song if stripped else 276
+
+
 def read_header(file):
     """The patterns' and instruments' numbers, the channels, and where the first pattern stands."""
-    need(len(file) <= 16777216, 2, 0)
+    need(len(file) <= FILE_MOST, 2, 0)
     need(len(file) >= 80, 1, 0)
-    need(file[37] == 0x1A and little(file, 58, 2) == 0x0104, 3, 0)
+    need(file[37] == 0x1A and little(file, 58, 2) == 0x0104 or is_stripped(file), 3, 0)
     size = little(file, 60, 4)
-    need(size >= 276, 4, 0)
     song, channels, patterns, instruments = (little(file, offset, 2) for offset in (64, 68, 70, 72))
+    need(size >= least_header(is_stripped(file), song), 4, 0)
     need(1 <= song <= 256 and 1 <= patterns <= 256 and 1 <= channels <= 64 and instruments <= 128, 5, 0)
     need(size + 60 <= len(file), 1, 0)
     return patterns, instruments, channels, size + 60
@@ -189,35 +208,52 @@ def try_head(head, place):
     need(not loops(head) or width_of(head) == 8 or loop % 2 == 0, 13, place)
 
 
-def read_samples(file, instrument, heads, size, count):
+def read_samples(file, instrument, first, size, count):
     """An instrument's samples: all headers are tried before any data is."""
-    need(heads + count * size <= len(file), 1, instrument)
-    places = [heads + at * size for at in range(count)]
-    for place in places:
-        try_head(file[place:place + 40], place)
-    samples, data_place = [], heads + count * size
-    for place in places:
-        head = file[place:place + 40]
-        size = data_size(head)
-        need(data_place + size <= len(file), 1, data_place)
-        samples.append(Sample(place, head, data_place, file[data_place:data_place + size]))
-        data_place += size
+    data_place = first + count * size
+    need(data_place <= len(file), 1, instrument)
+    places = [first + at * size for at in range(count)]
+    heads = [padded(file[place:place + size], 40) for place in places]
+    for place, head in zip(places, heads):
+        try_head(head, place)
+    samples = []
+    for place, head in zip(places, heads):
+        end = data_place + data_size(head)
+        need(end <= len(file), 1, data_place)
+        samples.append(Sample(place, size, head, data_place, file[data_place:end]))
+        data_place = end
     return samples, data_place
 
 
-def read_instrument(file, place):
-    """An instrument and where it ends."""
+def normal_fields(file, place):
+    """An instrument's bytes up to the reserved ones, as far as they are content."""
     need(place + 29 <= len(file), 1, place)
     size, count = little(file, place, 4), little(file, place + 27, 2)
     need(size >= 29 and count <= 16 and (count == 0 or size >= 263), 10, place)
     need(place + size <= len(file), 1, place)
-    name_and_type = file[place + 4:place + 27]
+    need(count == 0 or little(file, place + 29, 4) >= 40, 11, place)
+    return file[place:place + 241]
+
+
+def stripped_fields(file, place):
+    """The same of a stripped module: from offset I on they read as 0."""
+    need(place + 4 <= len(file), 1, place)
+    size = little(file, place, 4)
+    need(size >= 4, 10, place)
+    need(place + size <= len(file), 1, place)
+    fields = padded(file[place:place + size], 241)
+    need(little(fields, 27, 2) <= 16, 10, place)
+    return fields
+
+
+def read_instrument(file, place):
+    """An instrument and where it ends."""
+    fields = stripped_fields(file, place) if is_stripped(file) else normal_fields(file, place)
+    heads, count = place + little(fields, 0, 4), little(fields, 27, 2)
     if count == 0:
-        return Instrument(place, name_and_type, b'', []), place + size
-    head_size = little(file, place + 29, 4)
-    need(head_size >= 40, 11, place)
-    samples, end = read_samples(file, place, place + size, head_size, count)
-    return Instrument(place, name_and_type, file[place + 33:place + 241], samples), end
+        return Instrument(place, fields[4:27], b'', []), heads
+    samples, end = read_samples(file, place, heads, little(fields, 29, 4), count)
+    return Instrument(place, fields[4:27], fields[33:241], samples), end
 
 
 def read_module(file):
@@ -229,7 +265,7 @@ def read_module(file):
     for _ in range(instrument_count):
         instrument, place = read_instrument(file, place)
         instruments.append(instrument)
-    return Module(file[:336], channels, patterns, instruments, place)
+    return Module(is_stripped(file), file[:336], channels, patterns, instruments, place)
 
 
 # Tables and structures
@@ -317,11 +353,14 @@ def code(width, values, room):
 # The press
 
 
-def pressed_header(module):
+def pressed_header(module, stripped, tracker):
     header = module.header
     song, restart = little(header, 64, 2), little(header, 66, 2)
-    return (b'Extended module: ' + header[17:37] + b'\x1a' + header[38:58] + number(0x0104, 2) + number(276, 4) + header[64:66]
-            + number(restart if restart < song else 0, 2) + header[68:80] + header[80:80 + song] + bytes(256 - song))
+    text = bytes(17) if stripped else b'Extended module: '
+    mark, version = (0, 0) if stripped else (0x1A, 0x0104)
+    size = least_header(stripped, song)
+    return (text + header[17:37] + bytes([mark]) + tracker + number(version, 2) + number(size, 4) + header[64:66]
+            + number(restart if restart < song else 0, 2) + header[68:80] + padded(header[80:80 + song], size - 20))
 
 
 def pressed_pattern(pattern):
@@ -329,18 +368,40 @@ def pressed_pattern(pattern):
     return number(9, 4) + b'\0' + number(pattern.rows, 2) + number(len(data), 2) + data
 
 
-def pressed_instrument(instrument):
+def pressed_normal(instrument):
     count = len(instrument.samples)
     front = number(263 if count else 29, 4) + instrument.name_and_type + number(count, 2)
-    if not count:
-        return front
-    heads, data = (b''.join(parts) for parts in zip(*((sample.head, sample.data) for sample in instrument.samples)))
-    return front + number(40, 4) + instrument.voice + bytes(22) + heads + data
+    return front + (number(40, 4) + instrument.voice + bytes(22) if count else b'') + joined_samples(instrument, 40)
+
+
+def pressed_stripped(instrument):
+    """The smallest H, then the smallest I: neither cuts off anything but zeros."""
+    head_size = max((len(sample.head.rstrip(b'\0')) for sample in instrument.samples), default=0)
+    fields = instrument.name_and_type + number(len(instrument.samples), 2) + number(head_size, 4) + instrument.voice
+    kept = fields.rstrip(b'\0')
+    return number(4 + len(kept), 4) + kept + joined_samples(instrument, head_size)
+
+
+def joined_samples(instrument, head_size):
+    return b''.join(sample.head[:head_size] for sample in instrument.samples) + b''.join(sample.data for sample in instrument.samples)
+
+
+def written(module, stripped, tracker):
+    """The shortest file of a kind, with a tracker name."""
+    pressed_instrument = pressed_stripped if stripped else pressed_normal
+    return (pressed_header(module, stripped, tracker) + b''.join(map(pressed_pattern, module.patterns))
+            + b''.join(map(pressed_instrument, module.instruments)))
 
 
 def press(file, room):
     module = read_module(file)
-    pressed = (pressed_header(module) + b''.join(map(pressed_pattern, module.patterns))
-               + b''.join(map(pressed_instrument, module.instruments)))
+    pressed = written(module, module.stripped, NO_TRACKER if module.stripped else module.header[38:58])
     need(len(pressed) <= room, 14, 0)
     return pressed
+
+
+def convert(file, stripped, room):
+    converted = written(read_module(file), stripped, NO_TRACKER)
+    need(len(converted) <= FILE_MOST, 2, 0)
+    need(len(converted) <= room, 14, 0)
+    return converted

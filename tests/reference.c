@@ -1,4 +1,4 @@
-/* reference.c: the base's rules in plain C, written from the rules paper alone. See reference.h.
+/* reference.c: the rules in plain C, written from the rules paper alone. See reference.h.
 
    A call that writes reads its input twice: the first pass decides every refusal and measures, the second writes. */
 
@@ -12,7 +12,7 @@ enum {
     HEADER_FIXED = 80,      /* the header's bytes in front of the order table */
     HEADER_SIZE_FROM = 60,  /* header size counts from here */
     HEADER_SIZE_LEAST = 276,
-    ORDER_TABLE = 256,
+    HEADER_SIZE_STRIPPED = 20, /* the least of a stripped module, and its song length */
     PATTERN_HEADER = 9,
     PATTERNS_MOST = 256,
     ROWS_MOST = 256,
@@ -23,6 +23,7 @@ enum {
     INSTRUMENTS_MOST = 128,
     INSTRUMENT_LEAST = 29,  /* with no samples */
     INSTRUMENT_FULL = 263,  /* with samples */
+    INSTRUMENT_STRIPPED = 4, /* the least of a stripped module */
     INSTRUMENT_FIELDS = 33, /* note map, envelopes and the rest, up to the reserved bytes */
     INSTRUMENT_RESERVED = 241,
     SAMPLES_MOST = 16,
@@ -198,6 +199,7 @@ static inline struct scan scan_cells(const uint8_t *data, size_t size, size_t co
 /* The parts of a file */
 
 struct header {
+    bool stripped;
     uint32_t size;
     uint32_t song_length;
     uint32_t channels;
@@ -224,13 +226,27 @@ struct sample {
     uint32_t length;
     uint32_t loop_start;
     uint32_t loop_length;
+    int8_t finetune;
     uint8_t type;
+    int8_t relative_note;
     uint8_t kind;
 };
 
+/* Mark and version of a normal module, and of a stripped one. */
+static bool is_normal(const uint8_t *file)
+{
+    return file[37] == 0x1A && number16(file + 58) == 0x0104;
+}
+
+static bool is_stripped(const uint8_t *file)
+{
+    return file[37] == 0 && number16(file + 58) == 0;
+}
+
 static struct header header_fields(const uint8_t *file)
 {
-    return (struct header){.size = number32(file + 60),
+    return (struct header){.stripped = is_stripped(file),
+                           .size = number32(file + 60),
                            .song_length = number16(file + 64),
                            .channels = number16(file + 68),
                            .patterns = number16(file + 70),
@@ -245,16 +261,22 @@ static bool counts_fit(const struct header *header)
            header->instruments <= INSTRUMENTS_MOST;
 }
 
+/* Of a stripped module by the song length as it stands, which is not tried before. */
+static uint32_t header_size_least(bool stripped, uint32_t song_length)
+{
+    return stripped ? HEADER_SIZE_STRIPPED + song_length : HEADER_SIZE_LEAST;
+}
+
 static struct reference_refusal try_header(const uint8_t *file, size_t file_len, struct header *header)
 {
     if (file_len > FILE_MOST)
         return refuse(2, 0);
     if (file_len < HEADER_FIXED)
         return refuse(1, 0);
-    if (file[37] != 0x1A || number16(file + 58) != 0x0104)
+    if (!is_normal(file) && !is_stripped(file))
         return refuse(3, 0);
     *header = header_fields(file);
-    if (header->size < HEADER_SIZE_LEAST)
+    if (header->size < header_size_least(header->stripped, header->song_length))
         return refuse(4, 0);
     if (!counts_fit(header))
         return refuse(5, 0);
@@ -299,12 +321,27 @@ static inline struct reference_refusal try_pattern(const uint8_t *file, size_t f
     return accepted;
 }
 
-static inline struct sample sample_fields(const uint8_t *header)
+/* Bytes of which some may be cut off, in a stripped module: those from 'size' on read as 0. Where nothing is cut off they are read
+   where they stand, and nothing is copied. */
+static inline const uint8_t *read_cut(const uint8_t *bytes, size_t size, uint8_t *copy, size_t wanted)
 {
+    if (size >= wanted)
+        return bytes;
+    memcpy(copy, bytes, size);
+    memset(copy + size, 0, wanted - size);
+    return copy;
+}
+
+static inline struct sample sample_fields(const uint8_t *header, size_t size)
+{
+    uint8_t copy[SAMPLE_HEADER];
+    header = read_cut(header, size, copy, SAMPLE_HEADER);
     return (struct sample){.length = number32(header),
                            .loop_start = number32(header + 4),
                            .loop_length = number32(header + 8),
+                           .finetune = (int8_t)header[13],
                            .type = header[14],
+                           .relative_note = (int8_t)header[16],
                            .kind = header[17]};
 }
 
@@ -336,9 +373,9 @@ static uint64_t loop_end(const struct sample *sample)
     return (uint64_t)sample->loop_start + sample->loop_length;
 }
 
-static struct reference_refusal try_sample_header(const uint8_t *file, size_t at)
+static struct reference_refusal try_sample_header(const uint8_t *file, size_t at, size_t size)
 {
-    struct sample sample = sample_fields(file + at);
+    struct sample sample = sample_fields(file + at, size);
     if (sample.kind == KIND_ADPCM && sample_width(sample.type) == 16)
         return refuse(12, at);
     if ((sample.type & 3) == 3)
@@ -354,21 +391,40 @@ static struct reference_refusal try_sample_header(const uint8_t *file, size_t at
     return accepted;
 }
 
-/* The parts of an instrument whose sample headers are known to be present; its end is not known yet. */
-static inline struct instrument instrument_fields(const uint8_t *file, size_t at)
+/* An instrument's bytes, up to the reserved ones. Those of a normal module are there as far as they are content. */
+static inline const uint8_t *instrument_bytes(const uint8_t *file, size_t at, bool stripped, uint8_t copy[INSTRUMENT_RESERVED])
 {
-    uint32_t samples = number16(file + at + 27);
-    uint32_t header_size = samples > 0 ? number32(file + at + 29) : 0;
+    return stripped ? read_cut(file + at, number32(file + at), copy, INSTRUMENT_RESERVED) : file + at;
+}
+
+/* The parts of an instrument of which I bytes are known to be present, and all of its sample headers if it has any; its end is not
+   known yet. */
+static inline struct instrument instrument_fields(const uint8_t *file, size_t at, bool stripped)
+{
+    uint8_t copy[INSTRUMENT_RESERVED];
+    const uint8_t *bytes = instrument_bytes(file, at, stripped, copy);
+    uint32_t samples = number16(bytes + 27);
+    uint32_t header_size = samples > 0 ? number32(bytes + 29) : 0;
     size_t headers = at + number32(file + at);
     size_t data = headers + (size_t)samples * header_size;
     return (struct instrument){headers, data, data, header_size, samples};
+}
+
+static inline size_t sample_header(const struct instrument *instrument, uint32_t number)
+{
+    return instrument->headers + (size_t)number * instrument->header_size;
+}
+
+static inline struct sample sample_of(const uint8_t *file, const struct instrument *instrument, uint32_t number)
+{
+    return sample_fields(file + sample_header(instrument, number), instrument->header_size);
 }
 
 static size_t samples_end(const uint8_t *file, const struct instrument *instrument)
 {
     size_t end = instrument->data;
     for (uint32_t i = 0; i < instrument->samples; i++) {
-        struct sample sample = sample_fields(file + instrument->headers + (size_t)i * instrument->header_size);
+        struct sample sample = sample_of(file, instrument, i);
         end += sample_bytes(&sample);
     }
     return end;
@@ -376,19 +432,15 @@ static size_t samples_end(const uint8_t *file, const struct instrument *instrume
 
 static struct reference_refusal try_samples(const uint8_t *file, size_t file_len, size_t at, struct instrument *instrument)
 {
-    uint32_t header_size = number32(file + at + 29);
-    if (header_size < SAMPLE_HEADER)
-        return refuse(11, at);
-    *instrument = instrument_fields(file, at);
-    if ((uint64_t)instrument->samples * header_size > file_len - instrument->headers)
+    if ((uint64_t)instrument->samples * instrument->header_size > file_len - instrument->headers)
         return refuse(1, at);
     for (uint32_t i = 0; i < instrument->samples; i++) {
-        struct reference_refusal refusal = try_sample_header(file, instrument->headers + (size_t)i * header_size);
+        struct reference_refusal refusal = try_sample_header(file, sample_header(instrument, i), instrument->header_size);
         if (refusal.number != 0)
             return refusal;
     }
     for (uint32_t i = 0; i < instrument->samples; i++) {
-        struct sample sample = sample_fields(file + instrument->headers + (size_t)i * header_size);
+        struct sample sample = sample_of(file, instrument, i);
         uint32_t bytes = sample_bytes(&sample);
         if (bytes > file_len - instrument->end)
             return refuse(1, instrument->end);
@@ -397,7 +449,22 @@ static struct reference_refusal try_samples(const uint8_t *file, size_t file_len
     return accepted;
 }
 
-static struct reference_refusal try_instrument(const uint8_t *file, size_t file_len, size_t at, struct instrument *instrument)
+/* Of a stripped module: there is no 11. */
+static struct reference_refusal try_stripped_instrument(const uint8_t *file, size_t file_len, size_t at, struct instrument *instrument)
+{
+    if (file_len - at < INSTRUMENT_STRIPPED)
+        return refuse(1, at);
+    if (number32(file + at) < INSTRUMENT_STRIPPED)
+        return refuse(10, at);
+    if (number32(file + at) > file_len - at)
+        return refuse(1, at);
+    *instrument = instrument_fields(file, at, true);
+    if (instrument->samples > SAMPLES_MOST)
+        return refuse(10, at);
+    return try_samples(file, file_len, at, instrument);
+}
+
+static struct reference_refusal try_normal_instrument(const uint8_t *file, size_t file_len, size_t at, struct instrument *instrument)
 {
     if (file_len - at < INSTRUMENT_LEAST)
         return refuse(1, at);
@@ -407,10 +474,16 @@ static struct reference_refusal try_instrument(const uint8_t *file, size_t file_
         return refuse(10, at);
     if (size > file_len - at)
         return refuse(1, at);
-    if (samples > 0)
-        return try_samples(file, file_len, at, instrument);
-    *instrument = instrument_fields(file, at);
-    return accepted;
+    *instrument = instrument_fields(file, at, false);
+    if (samples > 0 && instrument->header_size < SAMPLE_HEADER)
+        return refuse(11, at);
+    return try_samples(file, file_len, at, instrument);
+}
+
+static struct reference_refusal try_instrument(const uint8_t *file, size_t file_len, size_t at, bool stripped,
+                                               struct instrument *instrument)
+{
+    return stripped ? try_stripped_instrument(file, file_len, at, instrument) : try_normal_instrument(file, file_len, at, instrument);
 }
 
 /* The walk over a file */
@@ -425,21 +498,64 @@ static struct walk walk_refused(struct reference_refusal refusal)
     return (struct walk){.checked = {.refusal = refusal}};
 }
 
-static size_t instrument_pressed(const struct instrument *instrument)
+/* How many of the bytes are left if zeros at the end are cut off; 'least' of them always are. */
+static size_t without_zeros(const uint8_t *bytes, size_t size, size_t least)
 {
-    if (instrument->samples == 0)
-        return INSTRUMENT_LEAST;
-    return INSTRUMENT_FULL + instrument->samples * SAMPLE_HEADER + (instrument->end - instrument->data);
+    while (size > least && bytes[size - 1] == 0)
+        size--;
+    return size;
 }
 
-static inline struct walk walk_file(const uint8_t *file, size_t file_len, bool measure)
+/* The smallest H that cuts off nothing but zeros of any header. */
+static uint32_t smallest_header(const uint8_t *file, const struct instrument *instrument)
+{
+    size_t smallest = 0;
+    for (uint32_t i = 0; i < instrument->samples; i++) {
+        uint8_t copy[SAMPLE_HEADER];
+        const uint8_t *header = read_cut(file + sample_header(instrument, i), instrument->header_size, copy, SAMPLE_HEADER);
+        smallest = without_zeros(header, SAMPLE_HEADER, smallest);
+    }
+    return (uint32_t)smallest;
+}
+
+/* An instrument's bytes in a stripped module, up to the reserved ones. H is chosen before I, since it is among what I may cut off;
+   returns the smallest I. */
+static uint32_t stripped_bytes(const uint8_t *file, size_t at, bool stripped, const struct instrument *instrument,
+                               uint8_t to[INSTRUMENT_RESERVED])
+{
+    uint8_t copy[INSTRUMENT_RESERVED];
+    const uint8_t *bytes = instrument_bytes(file, at, stripped, copy);
+    memset(to, 0, INSTRUMENT_RESERVED);
+    memcpy(to + 4, bytes + 4, INSTRUMENT_LEAST - 4);
+    if (instrument->samples > 0) {
+        put32(to + INSTRUMENT_LEAST, smallest_header(file, instrument));
+        memcpy(to + INSTRUMENT_FIELDS, bytes + INSTRUMENT_FIELDS, INSTRUMENT_RESERVED - INSTRUMENT_FIELDS);
+    }
+    uint32_t size = (uint32_t)without_zeros(to, INSTRUMENT_RESERVED, INSTRUMENT_STRIPPED);
+    put32(to, size);
+    return size;
+}
+
+static size_t instrument_pressed(const uint8_t *file, size_t at, bool stripped, const struct instrument *instrument, bool to_stripped)
+{
+    uint8_t bytes[INSTRUMENT_RESERVED];
+    size_t data = instrument->end - instrument->data;
+    if (to_stripped)
+        return stripped_bytes(file, at, stripped, instrument, bytes) + instrument->samples * smallest_header(file, instrument) + data;
+    if (instrument->samples == 0)
+        return INSTRUMENT_LEAST;
+    return INSTRUMENT_FULL + instrument->samples * SAMPLE_HEADER + data;
+}
+
+/* 'to_stripped': which kind of file is measured, if any is. */
+static inline struct walk walk_file(const uint8_t *file, size_t file_len, bool measure, bool to_stripped)
 {
     struct header header;
     struct reference_refusal refusal = try_header(file, file_len, &header);
     if (refusal.number != 0)
         return walk_refused(refusal);
     size_t at = HEADER_SIZE_FROM + (size_t)header.size;
-    size_t pressed = HEADER_FIXED + ORDER_TABLE;
+    size_t pressed = HEADER_SIZE_FROM + (size_t)header_size_least(to_stripped, header.song_length);
     for (uint32_t i = 0; i < header.patterns; i++) {
         struct pattern pattern;
         refusal = try_pattern(file, file_len, at, header.channels, measure, &pattern);
@@ -451,10 +567,11 @@ static inline struct walk walk_file(const uint8_t *file, size_t file_len, bool m
     uint32_t samples = 0;
     for (uint32_t i = 0; i < header.instruments; i++) {
         struct instrument instrument;
-        refusal = try_instrument(file, file_len, at, &instrument);
+        refusal = try_instrument(file, file_len, at, header.stripped, &instrument);
         if (refusal.number != 0)
             return walk_refused(refusal);
-        pressed += instrument_pressed(&instrument);
+        if (measure)
+            pressed += instrument_pressed(file, at, header.stripped, &instrument, to_stripped);
         samples += instrument.samples;
         at = instrument.end;
     }
@@ -463,7 +580,7 @@ static inline struct walk walk_file(const uint8_t *file, size_t file_len, bool m
 
 REFERENCE_CALL struct reference_checked reference_check(const uint8_t *file, size_t file_len)
 {
-    return walk_file(file, file_len, false).checked;
+    return walk_file(file, file_len, false, false).checked;
 }
 
 /* Tables */
@@ -488,17 +605,16 @@ static void fill_sample_rows(const uint8_t *file, const struct instrument *instr
 {
     size_t data = instrument->data;
     for (uint32_t i = 0; i < instrument->samples; i++) {
-        size_t place = instrument->headers + (size_t)i * instrument->header_size;
-        struct sample sample = sample_fields(file + place);
-        rows[i] = (struct reference_sample_row){.header_place = (uint32_t)place,
+        struct sample sample = sample_of(file, instrument, i);
+        rows[i] = (struct reference_sample_row){.header_place = (uint32_t)sample_header(instrument, i),
                                                 .data_place = (uint32_t)data,
                                                 .length = sample_bytes(&sample),
                                                 .width = sample_width(sample.type),
                                                 .loop_kind = sample_loops(&sample) ? sample.type & 3 : 0,
                                                 .loop_start = loop_number(&sample, sample.loop_start),
                                                 .loop_length = loop_number(&sample, sample.loop_length),
-                                                .finetune = (int8_t)file[place + 13],
-                                                .relative_note = (int8_t)file[place + 16]};
+                                                .finetune = sample.finetune,
+                                                .relative_note = sample.relative_note};
         data += sample_bytes(&sample);
     }
 }
@@ -507,7 +623,7 @@ static void fill_instrument_rows(const uint8_t *file, size_t at, uint32_t instru
 {
     uint32_t samples = 0;
     for (uint32_t i = 0; i < instruments; i++) {
-        struct instrument instrument = instrument_fields(file, at);
+        struct instrument instrument = instrument_fields(file, at, is_stripped(file));
         tables->instruments[i] = (struct reference_instrument_row){(uint32_t)at, instrument.samples, samples};
         if (instrument.samples > 0)
             fill_sample_rows(file, &instrument, tables->samples + samples);
@@ -547,12 +663,13 @@ static bool search_meets(struct search *search, size_t place)
 
 static struct reference_structure search_instruments(const uint8_t *file, size_t at, uint32_t instruments, struct search *search)
 {
+    bool stripped = is_stripped(file);
     for (uint32_t i = 0; i < instruments; i++) {
-        struct instrument instrument = instrument_fields(file, at);
+        struct instrument instrument = instrument_fields(file, at, stripped);
         if (search_meets(search, at))
             return (struct reference_structure){accepted, REFERENCE_INSTRUMENT, (uint32_t)at};
         for (uint32_t j = 0; j < instrument.samples; j++) {
-            size_t header = instrument.headers + (size_t)j * instrument.header_size;
+            size_t header = sample_header(&instrument, j);
             if (search_meets(search, header))
                 return (struct reference_structure){accepted, REFERENCE_SAMPLE_HEADER, (uint32_t)header};
         }
@@ -658,20 +775,40 @@ REFERENCE_CALL struct reference_packed reference_pack(size_t rows, size_t channe
     return (struct reference_packed){accepted, length, (uint32_t)rows};
 }
 
-/* Pressing */
+/* Pressing and converting */
+
+/* What is written of a module: which kind, and whether with its tracker name. */
+struct form {
+    bool stripped;
+    bool tracker;
+};
 
 /* The writers below put one structure of an accepted file and return the output's next place. */
 
-static uint8_t *press_header(const uint8_t *file, const struct header *header, uint8_t *out)
+static void put_kind(struct form form, uint8_t *out)
+{
+    if (form.stripped)
+        memset(out, 0, 17);
+    else
+        memcpy(out, id_text, 17);
+    out[37] = form.stripped ? 0 : 0x1A;
+    put16(out + 58, form.stripped ? 0 : 0x0104);
+}
+
+static uint8_t *press_header(const uint8_t *file, const struct header *header, struct form form, uint8_t *out)
 {
     uint32_t restart = number16(file + 66);
-    memcpy(out, id_text, 17);
-    memcpy(out + 17, file + 17, HEADER_FIXED - 17);
-    put32(out + 60, HEADER_SIZE_LEAST);
+    uint32_t size = header_size_least(form.stripped, header->song_length);
+    memset(out, 0, HEADER_SIZE_FROM + size);
+    memcpy(out + 17, file + 17, 20);
+    put_kind(form, out);
+    if (form.tracker)
+        memcpy(out + 38, file + 38, 20);
+    put32(out + 60, size);
+    memcpy(out + 64, file + 64, HEADER_FIXED - 64);
     put16(out + 66, restart < header->song_length ? restart : 0);
     memcpy(out + HEADER_FIXED, file + HEADER_FIXED, header->song_length);
-    memset(out + HEADER_FIXED + header->song_length, 0, ORDER_TABLE - header->song_length);
-    return out + HEADER_FIXED + ORDER_TABLE;
+    return out + HEADER_SIZE_FROM + size;
 }
 
 /* Ends at the first cell that isn't empty, so that other patterns cost nothing here. */
@@ -715,31 +852,45 @@ static uint8_t *press_pattern(const uint8_t *file, const struct pattern *pattern
     return end;
 }
 
-static uint8_t *press_samples(const uint8_t *file, size_t at, const struct instrument *instrument, uint8_t *out)
+/* As much of each header as H says, and all data. */
+static uint8_t *press_samples(const uint8_t *file, const struct instrument *instrument, uint32_t header_size, uint8_t *out)
 {
-    put32(out + INSTRUMENT_LEAST, SAMPLE_HEADER);
-    memcpy(out + INSTRUMENT_FIELDS, file + at + INSTRUMENT_FIELDS, INSTRUMENT_RESERVED - INSTRUMENT_FIELDS);
-    memset(out + INSTRUMENT_RESERVED, 0, INSTRUMENT_FULL - INSTRUMENT_RESERVED);
-    out += INSTRUMENT_FULL;
-    for (uint32_t i = 0; i < instrument->samples; i++, out += SAMPLE_HEADER)
-        memcpy(out, file + instrument->headers + (size_t)i * instrument->header_size, SAMPLE_HEADER);
+    for (uint32_t i = 0; i < instrument->samples; i++, out += header_size) {
+        uint8_t copy[SAMPLE_HEADER];
+        memcpy(out, read_cut(file + sample_header(instrument, i), instrument->header_size, copy, SAMPLE_HEADER), header_size);
+    }
     memcpy(out, file + instrument->data, instrument->end - instrument->data);
     return out + (instrument->end - instrument->data);
 }
 
-static uint8_t *press_instrument(const uint8_t *file, size_t at, const struct instrument *instrument, uint8_t *out)
+static uint8_t *press_normal_instrument(const uint8_t *file, size_t at, bool stripped, const struct instrument *instrument,
+                                        uint8_t *out)
 {
-    memcpy(out + 4, file + at + 4, INSTRUMENT_LEAST - 4);
+    uint8_t copy[INSTRUMENT_RESERVED];
+    const uint8_t *bytes = instrument_bytes(file, at, stripped, copy);
+    memcpy(out + 4, bytes + 4, INSTRUMENT_LEAST - 4);
     put32(out, instrument->samples > 0 ? INSTRUMENT_FULL : INSTRUMENT_LEAST);
-    if (instrument->samples > 0)
-        return press_samples(file, at, instrument, out);
-    return out + INSTRUMENT_LEAST;
+    if (instrument->samples == 0)
+        return out + INSTRUMENT_LEAST;
+    put32(out + INSTRUMENT_LEAST, SAMPLE_HEADER);
+    memcpy(out + INSTRUMENT_FIELDS, bytes + INSTRUMENT_FIELDS, INSTRUMENT_RESERVED - INSTRUMENT_FIELDS);
+    memset(out + INSTRUMENT_RESERVED, 0, INSTRUMENT_FULL - INSTRUMENT_RESERVED);
+    return press_samples(file, instrument, SAMPLE_HEADER, out + INSTRUMENT_FULL);
 }
 
-static void press_file(const uint8_t *file, uint8_t *out)
+static uint8_t *press_stripped_instrument(const uint8_t *file, size_t at, bool stripped, const struct instrument *instrument,
+                                          uint8_t *out)
+{
+    uint8_t bytes[INSTRUMENT_RESERVED];
+    uint32_t size = stripped_bytes(file, at, stripped, instrument, bytes);
+    memcpy(out, bytes, size);
+    return press_samples(file, instrument, smallest_header(file, instrument), out + size);
+}
+
+static void press_file(const uint8_t *file, struct form form, uint8_t *out)
 {
     struct header header = header_fields(file);
-    out = press_header(file, &header, out);
+    out = press_header(file, &header, form, out);
     size_t at = HEADER_SIZE_FROM + (size_t)header.size;
     for (uint32_t i = 0; i < header.patterns; i++) {
         struct pattern pattern = pattern_fields(file, at);
@@ -747,22 +898,44 @@ static void press_file(const uint8_t *file, uint8_t *out)
         at = pattern.data + pattern.size;
     }
     for (uint32_t i = 0; i < header.instruments; i++) {
-        struct instrument instrument = instrument_fields(file, at);
+        struct instrument instrument = instrument_fields(file, at, header.stripped);
         instrument.end = samples_end(file, &instrument);
-        out = press_instrument(file, at, &instrument, out);
+        out = form.stripped ? press_stripped_instrument(file, at, header.stripped, &instrument, out)
+                            : press_normal_instrument(file, at, header.stripped, &instrument, out);
         at = instrument.end;
     }
 }
 
-REFERENCE_CALL struct reference_count reference_press(const uint8_t *file, size_t file_len, uint8_t *out, size_t out_len)
+/* A pressed file is never longer than its input, so only a conversion can be over the limit. */
+static struct reference_count press_as(const uint8_t *file, size_t file_len, struct form form, uint8_t *out, size_t out_len)
 {
-    struct walk walk = walk_file(file, file_len, true);
+    struct walk walk = walk_file(file, file_len, true, form.stripped);
     if (walk.checked.refusal.number != 0)
         return (struct reference_count){walk.checked.refusal, 0};
+    if (walk.pressed > FILE_MOST)
+        return (struct reference_count){refuse(2, 0), 0};
     if (walk.pressed > out_len)
         return (struct reference_count){refuse(14, 0), 0};
-    press_file(file, out);
+    press_file(file, form, out);
     return (struct reference_count){accepted, (uint32_t)walk.pressed};
+}
+
+/* In its own kind; of a refused file it does not matter which. A stripped module has no tracker name. */
+REFERENCE_CALL struct reference_count reference_press(const uint8_t *file, size_t file_len, uint8_t *out, size_t out_len)
+{
+    bool stripped = file_len >= HEADER_FIXED && is_stripped(file);
+    return press_as(file, file_len, (struct form){.stripped = stripped, .tracker = !stripped}, out, out_len);
+}
+
+/* A conversion has no tracker name either way. */
+REFERENCE_CALL struct reference_count reference_to_normal(const uint8_t *file, size_t file_len, uint8_t *out, size_t out_len)
+{
+    return press_as(file, file_len, (struct form){.stripped = false, .tracker = false}, out, out_len);
+}
+
+REFERENCE_CALL struct reference_count reference_to_stripped(const uint8_t *file, size_t file_len, uint8_t *out, size_t out_len)
+{
+    return press_as(file, file_len, (struct form){.stripped = true, .tracker = false}, out, out_len);
 }
 
 /* Samples */
@@ -914,6 +1087,18 @@ REFERENCE_CALL uint64_t reference_loader_press(const uint8_t *file, size_t file_
 {
     struct reference_count pressed = reference_press(file, file_len, out, out_len);
     return loader_number(pressed.refusal, pressed.count);
+}
+
+REFERENCE_CALL uint64_t reference_loader_to_normal(const uint8_t *file, size_t file_len, uint8_t *out, size_t out_len)
+{
+    struct reference_count normal = reference_to_normal(file, file_len, out, out_len);
+    return loader_number(normal.refusal, normal.count);
+}
+
+REFERENCE_CALL uint64_t reference_loader_to_stripped(const uint8_t *file, size_t file_len, uint8_t *out, size_t out_len)
+{
+    struct reference_count stripped = reference_to_stripped(file, file_len, out, out_len);
+    return loader_number(stripped.refusal, stripped.count);
 }
 
 /* Numbers to a row of each table, the most bytes or values of a delta call, and the greatest ADPCM length. */

@@ -1,4 +1,4 @@
-/* reference.h: the base's rules once more, in plain C, written from the rules paper alone. It shares nothing with the proved
+/* reference.h: the rules once more, in plain C, written from the rules paper alone. It shares nothing with the proved
    code; the comparison and the benchmark hold the library against it.
 
    Memory rules are those of the library: what is written must not overlap what is read, a refused call changes nothing. */
@@ -73,8 +73,8 @@ struct reference_structure {
     uint32_t place;
 };
 
-/* Refusal and one result number: the rows of unpacking, the length of pressing, the count of values or bytes of deltas,
-   the count of ADPCM values. */
+/* Refusal and one result number: the rows of unpacking, the length of pressing and converting, the count of values or bytes of
+   deltas, the count of ADPCM values. */
 struct reference_count {
     struct reference_refusal refusal;
     uint32_t count;
@@ -117,7 +117,12 @@ REFERENCE_CALL struct reference_count reference_unpack(size_t rows, size_t chann
 REFERENCE_CALL struct reference_packed reference_pack(size_t rows, size_t channels, const uint8_t *cells, size_t cells_len,
                                                       uint8_t *out, size_t out_len);
 
+/* Either kind of module in its own kind. */
 REFERENCE_CALL struct reference_count reference_press(const uint8_t *file, size_t file_len, uint8_t *out, size_t out_len);
+
+/* Either kind as a normal module, or as a stripped one: 2 if that would be over the limit, just before 14. */
+REFERENCE_CALL struct reference_count reference_to_normal(const uint8_t *file, size_t file_len, uint8_t *out, size_t out_len);
+REFERENCE_CALL struct reference_count reference_to_stripped(const uint8_t *file, size_t file_len, uint8_t *out, size_t out_len);
 
 /* Reading deltas into values, and coding values as deltas; value_room counts values, room counts bytes. */
 REFERENCE_CALL struct reference_count reference_delta_decode(size_t width, const uint8_t *bytes, size_t byte_count,
@@ -143,6 +148,8 @@ REFERENCE_CALL uint64_t reference_loader_unpack(size_t rows, size_t channels, co
 REFERENCE_CALL uint64_t reference_loader_pack(size_t rows, size_t channels, const uint8_t *cells, size_t cells_len,
                                               uint8_t *out, size_t out_len);
 REFERENCE_CALL uint64_t reference_loader_press(const uint8_t *file, size_t file_len, uint8_t *out, size_t out_len);
+REFERENCE_CALL uint64_t reference_loader_to_normal(const uint8_t *file, size_t file_len, uint8_t *out, size_t out_len);
+REFERENCE_CALL uint64_t reference_loader_to_stripped(const uint8_t *file, size_t file_len, uint8_t *out, size_t out_len);
 
 /* Tables of flat numbers: three to a pattern, three to an instrument; of a sample seven, and its two tunes apart. Lengths count
    numbers, and what is left of a last row that is not whole counts for none. */

@@ -1,5 +1,5 @@
-/* reference_test.c: the reference's patterns, tables, structures, deltas, ADPCM samples and stretches, held against numbers worked out
-   by hand from the rules paper; and laws between them over generated modules. */
+/* reference_test.c: the reference's patterns, tables, structures, stripped modules, conversions, deltas, ADPCM samples and stretches,
+   held against numbers and files worked out by hand from the rules paper; and laws between them over generated modules. */
 
 #include "modules.h"
 #include "reference.h"
@@ -479,6 +479,358 @@ static void generated_modules(void)
     module_free(&module);
 }
 
+/* Stripped modules */
+
+/* Bytes that a worked file is put together of. */
+struct bytes {
+    uint8_t at[8000];
+    size_t length;
+};
+
+static void add_number(struct bytes *to, uint32_t width, uint32_t number)
+{
+    field_put(to->at, (struct field){(uint32_t)to->length, width}, number);
+    to->length += width;
+}
+
+static void add(struct bytes *to, size_t count, uint8_t byte)
+{
+    memset(to->at + to->length, byte, count);
+    to->length += count;
+}
+
+static void add_counting(struct bytes *to, size_t count)
+{
+    for (size_t i = 1; i <= count; i++)
+        add(to, 1, (uint8_t)i);
+}
+
+/* A module of nulls with one pattern of 64 empty rows, whose header has these numbers and so many order entries. */
+static struct bytes headed(uint32_t mark, uint32_t version, uint32_t size, const char *id, uint8_t tracker, size_t orders,
+                           uint32_t instruments)
+{
+    struct bytes file = {.length = 0};
+    memcpy(file.at, id, strlen(id));
+    file.length = 17;
+    add(&file, 20, 0);
+    add_number(&file, 1, mark);
+    add(&file, 20, tracker);
+    add_number(&file, 2, version);
+    add_number(&file, 4, size);
+    const uint32_t numbers[] = {1, 0, 1, 1, instruments, 0, 6, 125};
+    for (size_t i = 0; i < COUNT(numbers); i++)
+        add_number(&file, 2, numbers[i]);
+    add(&file, orders, 0);
+    add_number(&file, 4, 9), add_number(&file, 1, 0), add_number(&file, 2, 64), add_number(&file, 2, 0);
+    return file;
+}
+
+static const char id[] = "Extended module: ";
+
+/* In their shortest form: 345 bytes, and 90. */
+static struct bytes small_normal(uint32_t instruments)
+{
+    return headed(0x1A, 0x0104, 276, id, 0, 256, instruments);
+}
+
+static struct bytes small_stripped(uint32_t instruments)
+{
+    return headed(0, 0, 21, "", 0, 1, instruments);
+}
+
+/* An instrument of nulls up to its sample count. */
+static void add_count(struct bytes *to, uint32_t size, uint32_t width, uint32_t samples)
+{
+    add_number(to, 4, size);
+    add(to, 23, 0);
+    add_number(to, width, samples);
+}
+
+/* One sample of five bytes, whose header is its length: in the shortest form; and with an I and an H that are larger than they need
+   be. */
+static struct bytes five_stripped(bool longer)
+{
+    struct bytes file = small_stripped(1);
+    add_count(&file, longer ? 35 : 30, 2, 1);
+    add_number(&file, longer ? 4 : 1, longer ? 3 : 1);
+    add(&file, longer ? 2 : 0, 0);
+    add_number(&file, longer ? 3 : 1, 5);
+    add_counting(&file, 5);
+    return file;
+}
+
+static struct bytes five_normal(void)
+{
+    struct bytes file = small_normal(1);
+    add_count(&file, 263, 2, 1);
+    add_number(&file, 4, 40);
+    add(&file, 230, 0);
+    add_number(&file, 4, 5);
+    add(&file, 36, 0);
+    add_counting(&file, 5);
+    return file;
+}
+
+/* One sample whose header is cut behind the last byte that isn't 0: of kind AD and one value, and its type; or a loop at 16 bits. */
+static struct bytes one_value(uint32_t type)
+{
+    struct bytes file = small_stripped(1);
+    add_count(&file, 30, 2, 1);
+    add_number(&file, 1, 18);
+    add_number(&file, 4, 1), add(&file, 10, 0), add_number(&file, 1, type), add(&file, 2, 0), add_number(&file, 1, 0xAD);
+    add(&file, 17, 7);
+    return file;
+}
+
+static struct bytes looped(uint32_t start, uint32_t size)
+{
+    struct bytes file = small_stripped(1);
+    add_count(&file, 30, 2, 1);
+    add_number(&file, 1, 15);
+    add_number(&file, 4, 4), add_number(&file, 4, start), add_number(&file, 4, size), add(&file, 2, 0), add_number(&file, 1, 17);
+    add(&file, 4, 7);
+    return file;
+}
+
+static bool checks_to(const struct bytes *file, uint32_t end, uint32_t instruments, uint32_t samples)
+{
+    struct reference_checked checked = reference_check(file->at, file->length);
+    return checked.refusal.number == 0 && checked.end == end && checked.channels == 1 && checked.patterns == 1 &&
+           checked.instruments == instruments && checked.samples == samples;
+}
+
+static bool refused_with(const struct bytes *file, uint32_t number, uint32_t place)
+{
+    struct reference_checked checked = reference_check(file->at, file->length);
+    return checked.refusal.number == number && checked.refusal.place == place && checked.end == 0;
+}
+
+typedef struct reference_count (*writer)(const uint8_t *file, size_t file_len, uint8_t *out, size_t out_len);
+
+/* What is written, with just the room for it; a byte less is 14, and leaves the output as it was. */
+static bool writes(writer write, const struct bytes *file, const struct bytes *want)
+{
+    uint8_t out[8000];
+    memset(out, 0x5A, sizeof out);
+    struct reference_count less = write(file->at, file->length, out, want->length - 1);
+    bool untouched = less.refusal.number == 14 && less.refusal.place == 0 && out[0] == 0x5A;
+    struct reference_count written = write(file->at, file->length, out, want->length);
+    return untouched && written.refusal.number == 0 && written.count == want->length && out[want->length] == 0x5A &&
+           memcmp(out, want->at, want->length) == 0;
+}
+
+static void stripped_headers(void)
+{
+    struct bytes file = small_stripped(0);
+    must(file.length == 90 && checks_to(&file, 90, 0, 0));
+    /* neither pair of mark and version */
+    file = headed(0, 0x0104, 276, id, 0, 256, 0), must(refused_with(&file, 3, 0));
+    file = headed(0x1A, 0, 276, id, 0, 256, 0), must(refused_with(&file, 3, 0));
+    /* header size below 20 + song length; a normal header's of 21 */
+    file = headed(0, 0, 20, "", 0, 0, 0), must(refused_with(&file, 4, 0));
+    file = headed(0x1A, 0x0104, 21, id, 0, 1, 0), must(refused_with(&file, 4, 0));
+    /* by the song length as it stands: 4 of 65,535 orders, 5 of none */
+    file = small_stripped(0), file.at[64] = file.at[65] = 255, must(refused_with(&file, 4, 0));
+    file = small_stripped(0), file.at[64] = 0, must(refused_with(&file, 5, 0));
+    /* a normal header's size is fine, and one cut off is not */
+    file = headed(0, 0, 276, "", 0, 256, 0), must(checks_to(&file, 345, 0, 0));
+    file = small_stripped(0), file.length = 80, must(refused_with(&file, 1, 0));
+    file.length = 79, file.at[37] = 1, must(refused_with(&file, 1, 0));
+}
+
+static void stripped_instruments(void)
+{
+    struct bytes file = small_stripped(1);
+    /* three bytes; I = 3; I = 5 in 4 bytes; I = 40 in 28, and 17 samples; 17 samples; and 16 */
+    add_number(&file, 3, 4), must(refused_with(&file, 1, 90));
+    file = small_stripped(1), add_number(&file, 4, 3), must(refused_with(&file, 10, 90));
+    file = small_stripped(1), add_number(&file, 4, 5), must(refused_with(&file, 1, 90));
+    file = small_stripped(1), add_number(&file, 4, 4), must(checks_to(&file, 94, 1, 0));
+    file = small_stripped(1), add_count(&file, 40, 1, 17), must(refused_with(&file, 1, 90));
+    file = small_stripped(1), add_count(&file, 28, 1, 17), must(refused_with(&file, 10, 90));
+    file = small_stripped(1), add_count(&file, 28, 1, 16), must(checks_to(&file, 118, 1, 16));
+    /* the count at offset I reads as 0: "greater than" is a slip */
+    file = small_stripped(1), add_count(&file, 27, 1, 16), must(checks_to(&file, 117, 1, 0));
+    /* a cut goes through a number: of 272 samples I = 28 leaves 16 */
+    file = small_stripped(1), add_count(&file, 28, 2, 272), must(checks_to(&file, 118, 1, 16));
+    file = small_stripped(1), add_count(&file, 29, 2, 272), must(refused_with(&file, 10, 90));
+    /* no 11: H of 39, and H cut off; a header that is not there is 1 */
+    file = small_stripped(1), add_count(&file, 30, 2, 1), add_number(&file, 1, 39), add(&file, 39, 0), must(checks_to(&file, 159, 1, 1));
+    file.length--, must(refused_with(&file, 1, 90));
+    /* without samples nothing from 29 on is read */
+    file = small_stripped(1), add_count(&file, 33, 2, 0), add(&file, 4, 255), must(checks_to(&file, 123, 1, 0));
+}
+
+static void stripped_samples(void)
+{
+    struct bytes file = one_value(0);
+    must(checks_to(&file, 155, 1, 1) && writes(reference_press, &file, &file));
+    file = one_value(16), must(refused_with(&file, 12, 120));
+    file = looped(2, 2), must(checks_to(&file, 139, 1, 1));
+    file = looped(2, 4), must(refused_with(&file, 13, 120));
+    file = looped(1, 2), must(refused_with(&file, 13, 120));
+    file = looped(0, 3), must(refused_with(&file, 13, 120));
+    file = five_stripped(true), must(checks_to(&file, 133, 1, 1));
+    file.length--, must(refused_with(&file, 1, 128));
+}
+
+/* With H = 0 the headers stand at one place, and are handed over one by one. */
+static void stripped_structures(void)
+{
+    const struct { enum reference_kind kind; uint32_t place; } all[] = {
+        {REFERENCE_PATTERN, 81}, {REFERENCE_INSTRUMENT, 90}, {REFERENCE_SAMPLE_HEADER, 118}, {REFERENCE_SAMPLE_HEADER, 118},
+        {REFERENCE_END, 0}};
+    struct bytes file = small_stripped(1);
+    add_count(&file, 28, 1, 2);
+    for (size_t i = 0; i < COUNT(all) + 2; i++) {
+        struct reference_structure structure = reference_structure_at(file.at, file.length, i);
+        size_t want = i < COUNT(all) ? i : COUNT(all) - 1;
+        must(structure.refusal.number == 0 && structure.kind == all[want].kind && structure.place == all[want].place);
+    }
+    /* the file tells the kind, not an instrument whose own byte 37 is 1 */
+    file = small_stripped(1), add_count(&file, 38, 2, 1), add(&file, 8, 0), add(&file, 1, 1);
+    must(reference_structure_at(file.at, file.length, 1).place == 90 && reference_structure_at(file.at, file.length, 2).place == 128);
+}
+
+/* Headers of 14 bytes: the tunes in front of that are read, and the type, behind it, is 0. */
+static void stripped_tables(void)
+{
+    struct bytes file = small_stripped(2);
+    struct reference_pattern_row patterns[1];
+    struct reference_instrument_row instruments[2];
+    struct reference_sample_row samples[2];
+    struct reference_tables tables = {patterns, 1, instruments, 2, samples, 2};
+    add_number(&file, 4, 4);
+    add_count(&file, 30, 2, 2);
+    add_number(&file, 1, 14);
+    add_number(&file, 4, 3), add(&file, 9, 255), add(&file, 1, 0x80);
+    add_number(&file, 4, 4), add(&file, 9, 255), add(&file, 1, 0x7F);
+    add(&file, 7, 255);
+    must(reference_check_tables(file.at, file.length, &tables).end == 159);
+    must(patterns[0].data_place == 90 && patterns[0].data_size == 0 && patterns[0].rows == 64);
+    must(instruments[0].place == 90 && instruments[0].samples == 0 && instruments[0].first_sample == 0);
+    must(instruments[1].place == 94 && instruments[1].samples == 2 && instruments[1].first_sample == 0);
+    must(samples[0].header_place == 124 && samples[0].data_place == 152 && samples[0].length == 3 && samples[0].width == 8);
+    must(samples[1].header_place == 138 && samples[1].data_place == 155 && samples[1].length == 4 && samples[1].width == 8);
+    must(samples[0].finetune == -128 && samples[0].relative_note == 0 && samples[1].finetune == 127);
+}
+
+static void stripped_presses(void)
+{
+    struct bytes file = five_stripped(true), want = five_stripped(false), none = small_stripped(1), plain = small_stripped(0);
+    /* the smallest H, then the smallest I */
+    must(writes(reference_press, &file, &want) && writes(reference_press, &want, &want));
+    file = small_stripped(1), add_number(&file, 4, 28), add(&file, 24, 0);
+    add_number(&none, 4, 4);
+    must(writes(reference_press, &file, &none) && writes(reference_press, &none, &none));
+    /* what is not content: ID text, tracker name, what stands behind the orders, and behind I */
+    file = headed(0, 0, 276, id, 'F', 256, 0), file.at[81] = file.at[335] = 9;
+    must(writes(reference_press, &file, &plain));
+    file = small_stripped(1), add_number(&file, 4, 300), add(&file, 23, 0), add(&file, 2, 0), add(&file, 271, 255);
+    must(writes(reference_press, &file, &none));
+    /* restart at song length reads as 0 */
+    file = small_stripped(0), file.at[66] = 1;
+    must(writes(reference_press, &file, &plain));
+}
+
+/* The last byte that isn't 0 is kept, wherever it stands: in the name, the type, and with a sample the note map to the fadeout; H is
+   then the last of any header. */
+static void stripped_sizes(void)
+{
+    for (uint32_t last = 4; last < 27; last++) {
+        struct bytes file = small_stripped(1), want = small_stripped(1);
+        add_number(&file, 4, 29), add(&file, 25, 0), file.at[90 + last] = 7;
+        add_number(&want, 4, last + 1), add(&want, last - 4, 0), add(&want, 1, 7);
+        must(writes(reference_press, &file, &want));
+    }
+    for (uint32_t last = 33; last < 241; last++) {
+        struct bytes file = small_stripped(1), want = small_stripped(1);
+        add_count(&file, 263, 2, 1), add_number(&file, 4, 40), add(&file, 208, 0), add(&file, 22, 9), add(&file, 40, 0);
+        file.at[90 + last] = 7;
+        add_count(&want, last + 1, 2, 1), add(&want, last - 29, 0), add(&want, 1, 7);
+        must(writes(reference_press, &file, &want));
+    }
+    for (uint32_t last = 18; last < 40; last++) {
+        struct bytes file = small_stripped(1), want = small_stripped(1);
+        add_count(&file, 33, 2, 3), add_number(&file, 4, 41), add(&file, 3 * 41, 0);
+        file.at[90 + 33 + 41 + last] = 7, file.at[90 + 33 + 2 * 41 + 3] = 0, file.at[90 + 33 + 2 * 41 + 5] = 8;
+        file.at[90 + 33 + 40] = 9; /* no part of the first header */
+        add_count(&want, 30, 2, 3), add_number(&want, 1, last + 1), add(&want, 3 * (last + 1), 0);
+        want.at[90 + 30 + last + 1 + last] = 7, want.at[90 + 30 + 2 * (last + 1) + 5] = 8;
+        must(writes(reference_press, &file, &want));
+    }
+}
+
+/* Both ways, without a tracker name; and to the kind that a file has already. */
+static void conversions(void)
+{
+    struct bytes named = headed(0x1A, 0x0104, 276, id, 'F', 256, 0), normal = small_normal(0), stripped = small_stripped(0);
+    must(writes(reference_to_stripped, &named, &stripped) && writes(reference_to_normal, &named, &normal));
+    must(writes(reference_press, &named, &named));
+    must(writes(reference_to_stripped, &normal, &stripped) && writes(reference_to_normal, &stripped, &normal));
+    must(writes(reference_to_normal, &normal, &normal) && writes(reference_to_stripped, &stripped, &stripped));
+    normal = five_normal(), stripped = five_stripped(false);
+    must(writes(reference_to_stripped, &normal, &stripped) && writes(reference_to_normal, &stripped, &normal));
+    stripped = five_stripped(true);
+    must(writes(reference_to_normal, &stripped, &normal));
+    /* the file's own refusals come first */
+    stripped.length--;
+    must(reference_to_normal(stripped.at, stripped.length, NULL, 0).refusal.number == 1);
+    must(reference_to_stripped(stripped.at, stripped.length, NULL, 0).refusal.place == 128);
+    must(reference_loader_to_normal(normal.at, normal.length, NULL, 0) == (uint64_t)14 << 32);
+    must(reference_loader_to_stripped(normal.at, 20, NULL, 0) == (uint64_t)1 << 32);
+    uint8_t out[8000];
+    must(reference_loader_to_normal(normal.at, normal.length, out, sizeof out) == normal.length);
+    must(reference_loader_to_stripped(normal.at, normal.length, out, sizeof out) == stripped.length - 6);
+}
+
+/* One sample of so many bytes that the normal file, which has 345 + 263 + 40 bytes besides, is as long as a file may be; and longer. */
+static void converted_files_have_a_limit(void)
+{
+    const uint32_t most = 16777216 - 648;
+    struct bytes front = small_stripped(1);
+    uint8_t *file = calloc(1, 16777216), *out = calloc(1, 16777216);
+    must(file != NULL && out != NULL);
+    add_count(&front, 30, 2, 1), add_number(&front, 1, 3);
+    memcpy(file, front.at, front.length);
+    for (uint32_t length = most; length <= most + 1; length++) {
+        size_t file_len = front.length + 3 + length;
+        field_put(file, (struct field){(uint32_t)front.length, 3}, length);
+        must(reference_check(file, file_len).end == file_len);
+        struct reference_count normal = reference_to_normal(file, file_len, out, 16777216);
+        must(length > most ? normal.refusal.number == 2 && normal.refusal.place == 0 && normal.count == 0 : normal.count == 16777216);
+        must(reference_to_normal(file, file_len, out, 0).refusal.number == (length > most ? 2 : 14));
+        must(reference_to_normal(file, file_len - 1, out, 0).refusal.number == 1);
+        must(reference_to_stripped(file, file_len, out, 16777216).count == file_len);
+        must(reference_press(file, file_len, out, 16777216).count == file_len);
+    }
+    free(file);
+    free(out);
+}
+
+/* Over generated modules of either kind: tables and structures agree, and there and back again is there at once. */
+static void generated_kinds(void)
+{
+    static uint8_t there[1 << 20], back[1 << 20], at_once[1 << 20];
+    const writer writers[] = {reference_to_normal, reference_to_stripped};
+    struct chance chance = {4003};
+    struct module module = {0};
+    for (unsigned round = 0; round < 300; round++) {
+        struct shape shape = kind_by_chance(&chance, false, round % 2);
+        module_build(&module, &shape, &chance);
+        tables_and_structures_agree(&module);
+        for (size_t i = 0; i < COUNT(writers); i++) {
+            size_t length = writers[1 - i](module.bytes, module.length, there, sizeof there).count;
+            struct reference_count one = writers[i](there, length, back, sizeof back);
+            struct reference_count other = writers[i](module.bytes, module.length, at_once, sizeof at_once);
+            must(reference_check(there, length).end == length && one.refusal.number == 0 && one.count > 0);
+            must(one.count == other.count && memcmp(back, at_once, one.count) == 0);
+            must(reference_press(back, one.count, there, sizeof there).count == one.count && memcmp(back, there, one.count) == 0);
+        }
+    }
+    module_free(&module);
+}
+
 /* Periods */
 
 static bool is_period(uint64_t note, int64_t finetune, uint32_t dividend, uint32_t divisor)
@@ -542,6 +894,16 @@ int main(void)
     structures_of_the_hand_module();
     stretches();
     generated_modules();
+    stripped_headers();
+    stripped_instruments();
+    stripped_samples();
+    stripped_structures();
+    stripped_tables();
+    stripped_presses();
+    stripped_sizes();
+    conversions();
+    converted_files_have_a_limit();
+    generated_kinds();
     periods_by_hand();
     periods_fall();
     printf("reference_test: %lu statements hold\n", held);

@@ -12,14 +12,16 @@ use Rattle.xm.specs.Answer.{Answer, gives, refuses, after}
 use Rattle.xm.specs.Stored.{Pattern, writeStored}
 use Rattle.xm.specs.Table.{Checked, checking, checkingInto, Tables, roomOf, tablesAfter}
 use Rattle.xm.specs.Packing.{cellBytes, rowsRead, lengthAndRows, unpacking, packing}
+use Rattle.xm.specs.ModuleKind.{ModuleKind}
 use Rattle.xm.specs.Press.{pressedLength, pressing}
+use Rattle.xm.specs.Convert.{converting}
 use Rattle.xm.specs.Delta.{countWritten, decodingLimited, codingLimited}
 use Rattle.xm.specs.Adpcm.{adpcmLimited}
 use Rattle.xm.specs.Demands.{LoaderTells}
 use Rattle.xm.proofs.Demands.{loaders-tell}
 use Rattle.periods.specs.Period.{Period, tuning, bothNumbers}
 use Rattle.periods.proofs.Calls as periods
-use Rattle.fiddlemarsh.specs.Promise.{Checks, Unpacks, Packs, Presses, Fills, Decodes, Codes, DecodesAdpcm, Tunes, Tells, TellsKept}
+use Rattle.fiddlemarsh.specs.Promise.{Checks, Unpacks, Packs, Presses, Converts, Fills, Decodes, Codes, DecodesAdpcm, Tunes, Tells, TellsKept}
 
 -- At least 2^32 exactly when refused
 refused-exactly : {A : Type 0} (value : A → ℕ) (answer : Answer A) {number : ℕ} → LoaderTells value answer number
@@ -87,6 +89,15 @@ module _ (file lent : List ℕ) where
 
   pub press-once : {number other : ℕ} {held kept : List ℕ} → Presses file lent number held → Presses file lent other kept → (number ≡ other) × (held ≡ kept)
   press-once = once
+
+-- To either kind
+module _ (to : ModuleKind) (file lent : List ℕ) where
+  pub convert-tells : {number : ℕ} {held : List ℕ} → Converts to file lent number held → Bytes file → TellsKept pressedLength (converting to file (length lent)) number lent held
+  convert-tells met b =
+      tells-kept pressedLength (λ (bytes : List ℕ). bytes) (converting to file (length lent)) lent (met .0) (met .1) (loaders-tell .convert to file (length lent) b)
+
+  pub convert-once : {number other : ℕ} {held kept : List ℕ} → Converts to file lent number held → Converts to file lent other kept → (number ≡ other) × (held ≡ kept)
+  convert-once = once
 
 -- The check with tables
 module _ (file : List ℕ) (lent : Tables) where

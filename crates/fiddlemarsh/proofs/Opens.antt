@@ -3,17 +3,19 @@
 -- nothing.
 use Prim.Native.Nat.{ℕ, _+_, _*_, _≤_, _<_}
 use mathlib.Core.List.{List}
-use mathlib.Core.Path.{_≡_, refl, ap, _∙_}
+use mathlib.Core.Path.{_≡_, ap, _∙_}
 use native.Mathlib.Omega.{arith}
 use lib.IntN.{ℤ}
 use borrow.Author.Tests.{eq-eqb, ne-eqb}
 use lib.ListN.{length, getD, drop, length-drop, length-take}
-use Rattle.xm.specs.Number.{Bytes, byteAt, longAt, part}
+use Rattle.xm.specs.Number.{Bytes, byteAt, part}
+use Rattle.xm.specs.ModuleKind.{normal}
 use Rattle.xm.specs.Answer.{Answer, gives, inFront, after, loaderNumber}
 use Rattle.xm.specs.Stored.{Pattern, emptyRows}
 use Rattle.xm.specs.Packing.{cellBytes, rowsRead}
+use Rattle.xm.specs.Header.{kindAt}
 use Rattle.xm.specs.Module.{moduleFormat, fileMost}
-use Rattle.xm.specs.Sample.{adpcm}
+use Rattle.xm.specs.Sample.{leastHead, headBytes, lengthOf, kindOf, adpcm}
 use Rattle.xm.specs.Delta.{countWritten, decoding, decodingLimited}
 use Rattle.xm.specs.Adpcm.{adpcmDecoding, adpcmLimited, decodingBy}
 use Rattle.xm.specs.Press.{contentOf}
@@ -24,7 +26,7 @@ use Rattle.xm.proofs.Adpcm.{size-half, adpcm-gave}
 use Rattle.xm.proofs.Accepted.{accepted-files, decodes-at}
 use Rattle.xm.proofs.Demands.{loaders-tell}
 use Rattle.tables.proofs.IntoLaws.{into-accepted}
-use Rattle.tables.proofs.Calls.{headAt, valuesAt, sample-number, filled-loops, filled-unpacks}
+use Rattle.tables.proofs.Calls.{headAt, headSizeAt, valuesAt, sample-number, filled-whole, filled-loops, filled-unpacks}
 use Rattle.fiddlemarsh.specs.Promise.{Unpacks, Fills, Decodes, DecodesAdpcm}
 
 -- A number and a memory of an answer that gives something
@@ -50,23 +52,31 @@ module _ (file : List ℕ) (plain : Bytes file) (lent : Tables) (c : Checked) (a
         → (answer ≡ patternIn k .rows) × (then ≡ inFront (cellBytes (patternIn k)) cells)
     opens-pattern k cells low enough = rw (met .1) (told rowsRead cellBytes _ cells (filled-unpacks file plain lent c accepted k (length cells) low enough))
 
-    -- of a sample's row: header place, data place, length, width, loop kind, loop start, loop length; and of its header the length and the kind
+    -- of a sample's row: header place, data place, length, width, loop kind, loop start, loop length; and of its header, as far as its region goes,
+    -- the length and the kind
     abbrev pub sampleNumber : (k column : ℕ) → ℕ
     sampleNumber k column = getD (held .samples) (sampleStride * k + column) 0
 
+    abbrev pub headIn : ℕ → List ℕ
+    headIn k = headBytes (headSizeAt c k) (drop (sampleNumber k 0) file)
+
     abbrev pub kindIn : ℕ → ℕ
-    kindIn k = byteAt (sampleNumber k 0 + 17) file
+    kindIn k = kindOf (headIn k)
 
     abbrev pub lengthIn : ℕ → ℕ
-    lengthIn k = longAt (sampleNumber k 0) file
+    lengthIn k = lengthOf (headIn k)
 
     abbrev pub dataIn : ℕ → List ℕ
     dataIn k = part (sampleNumber k 1) (sampleNumber k 2) file
 
+    -- A normal module's header stands whole at its place
+    pub opens-head : c .found .0 .kind ≡ normal → (k : ℕ) → k < length (sampleRows (c .found)) → (offset : ℕ) → offset < leastHead → byteAt offset (headIn k) ≡ byteAt (sampleNumber k 0 + offset) file
+    opens-head q k low offset l = rw (met .1) (filled-whole file plain lent c accepted q k low offset l)
+
     -- No sample of a file is above the loader's limits
     part-small : (place size : ℕ) → length (part place size file) ≤ fileMost
     part-small place size =
-        into-accepted (roomOf lent) file c accepted λ q room. whole-read moduleFormat file (c .found) (c .end) q λ small e.
+        into-accepted (roomOf lent) file c accepted λ q room. whole-read (moduleFormat (kindAt file)) file (c .found) (c .end) q λ small e.
         omega (arith, length-take size (drop place file), length-drop place file)
 
     -- A sample's loop is that of its header, in samples, and lies within the content's values

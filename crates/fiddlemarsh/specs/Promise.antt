@@ -9,7 +9,9 @@ use Rattle.xm.specs.Got.{Refusal}
 use Rattle.xm.specs.Answer.{Answer, refuses}
 use Rattle.xm.specs.Table.{checkLoader, checkIntoLoader, Tables, roomOf}
 use Rattle.xm.specs.Packing.{unpackLoader, unpackAfter, packLoader, packAfter}
+use Rattle.xm.specs.ModuleKind.{ModuleKind}
 use Rattle.xm.specs.Press.{pressLoader, pressAfter}
+use Rattle.xm.specs.Convert.{convertLoader, convertAfter}
 use Rattle.xm.specs.Delta.{decodeLoader, decodeLimitedAfter, codeLoader, codeLimitedAfter}
 use Rattle.xm.specs.Adpcm.{adpcmLoader, adpcmLimitedAfter}
 use Rattle.xm.specs.Demands.{LoaderTells}
@@ -28,6 +30,9 @@ Packs rows channels cells lent number held = (number ≡ packLoader rows channel
 
 abbrev pub Presses : (file lent : List ℕ) (number : ℕ) (held : List ℕ) → Type 0
 Presses file lent number held = (number ≡ pressLoader file (length lent)) × (held ≡ pressAfter file lent)
+
+abbrev pub Converts : (to : ModuleKind) (file lent : List ℕ) (number : ℕ) (held : List ℕ) → Type 0
+Converts to file lent number held = (number ≡ convertLoader to file (length lent)) × (held ≡ convertAfter to file lent)
 
 abbrev pub Fills : (file : List ℕ) (lent : Tables) (number : ℕ) (held : Tables) → Type 0
 Fills file lent number held = (number ≡ checkIntoLoader (roomOf lent) file) × (held ≡ tablesThen file lent)

@@ -1,9 +1,11 @@
-// What the loader links: nine calls, each with the loader's one number as its answer.
+// What the loader links: eleven calls, each with the loader's one number as its answer.
 ghost use mathlib.Core.Path.{_≡_};
 ghost use lib.ListN.{length};
 ghost use Rattle.xm.specs.Table.{checkLoader, checkIntoLoader, roomOf};
 ghost use Rattle.xm.specs.Packing.{unpackLoader, unpackAfter, packLoader, packAfter};
+ghost use Rattle.xm.specs.ModuleKind.{normal, stripped};
 ghost use Rattle.xm.specs.Press.{pressLoader, pressAfter};
+ghost use Rattle.xm.specs.Convert.{convertLoader, convertAfter};
 ghost use Rattle.xm.specs.Delta.{decodeLoader, decodeLimitedAfter, codeLoader, codeLimitedAfter};
 ghost use Rattle.xm.specs.Adpcm.{adpcmLoader, adpcmLimitedAfter};
 ghost use Rattle.periods.specs.Period.{periodLoader};
@@ -54,7 +56,27 @@ pub extern "C" fn fiddlemarsh_press(file: &[u8], out: &mut [u8]) -> u64
     loader::press_number(pressed)
 }
 
-// Three numbers to a pattern, three to an instrument; of a sample four, and its two tunes apart.
+// The length of the normal module that was written.
+#[no_mangle]
+pub extern "C" fn fiddlemarsh_to_normal(file: &[u8], out: &mut [u8]) -> u64
+    ensures answer { λ r. ⌜ r ≡ convertLoader normal (now (file .entry)) (length (now (out .entry))) ⌝ }
+    ensures memory { λ _. ⌜ now (out .exit) ≡ convertAfter normal (now (file .entry)) (now (out .entry)) ⌝ }
+{
+    let converted = press::to_normal(file, out);
+    loader::press_number(converted)
+}
+
+// The length of the stripped module that was written.
+#[no_mangle]
+pub extern "C" fn fiddlemarsh_to_stripped(file: &[u8], out: &mut [u8]) -> u64
+    ensures answer { λ r. ⌜ r ≡ convertLoader stripped (now (file .entry)) (length (now (out .entry))) ⌝ }
+    ensures memory { λ _. ⌜ now (out .exit) ≡ convertAfter stripped (now (file .entry)) (now (out .entry)) ⌝ }
+{
+    let converted = press::to_stripped(file, out);
+    loader::press_number(converted)
+}
+
+// Three numbers to a pattern, three to an instrument; of a sample seven, and its two tunes apart.
 #[no_mangle]
 pub extern "C" fn fiddlemarsh_tables(
     file: &[u8],

@@ -7,15 +7,17 @@ use native.Mathlib.Nat.{add-assoc, mul-le-mul-right, zero-mul}
 use native.Mathlib.Omega.{arith}
 use lib.Dec.{eqb}
 use lib.IntN.{ℤ}
-use lib.ListN.{length, getD, drop, replicate, length-drop, length-append, length-replicate, getD-replicate}
+use lib.ListN.{length, getD, take, drop, replicate, length-drop, length-append, length-replicate, getD-replicate}
 use lib.Seq.{getD-drop, take-take, drop-drop, length-take-le}
 use Rattle.xm.specs.Number.{byteAt, signed}
 use Rattle.xm.specs.Got.{Got, got, refused, _>>=_, _>>_, checked, _at_}
 use Rattle.xm.specs.Format.{each}
 use Rattle.xm.specs.Sample.{leastHead, headBytes, adpcm, adpcmSize, dataSizeBy, dataSize, Stretch, readHead, readData, headFormat, dataFormat, SamplesFound, samplesFormat, sizeOfFirst}
 use Rattle.xm.proofs.Number.{Agree, agree-byte, agree-long}
+use Rattle.xm.proofs.Cut.{padded-length, padded-at, long-padded}
 use Rattle.xm.proofs.Got.{pass, step, test-holds, test-fails, step-refused, passed, bind-got, got-value, got-used, got-carry}
 use Rattle.xm.proofs.Format.{cons-path, read-length}
+use Rattle.xm.proofs.Sample.{head-whole}
 use Rattle.xm.proofs.Instrument.{heads-used}
 use Rattle.refusal.specs.Fault.{faultOf, placeStep}
 use Rattle.refusal.specs.declared.Fault.{Fault}
@@ -29,13 +31,16 @@ use Rattle.heads.specs.declared.SampleHead.{SampleHead}
 use Rattle.refusal.proofs.Tests.{fault-holds, fault-refuses}
 use Rattle.refusal.proofs.Walking.{refused-on, Reached, reached-start, reached-on, reached-out, reached-place}
 
--- A header's fields are the numbers at their offsets
-module _ (file : List ℕ) (place size : ℕ) (there : place + leastHead ≤ length file) where
+-- A header's fields are the numbers at their offsets: of one that is there whole, and of one that is cut off
+module _ (file : List ℕ) (place size : ℕ) (there : place + size ≤ length file) (wide : leastHead ≤ size) where
   abbrev from : List ℕ
   from = drop place file
 
   front : Agree leastHead (headBytes size from) from
-  front = record { long = omega (arith, length-drop place file); same = take-take leastHead leastHead from (omega arith) }
+  front = record {
+    long = omega (arith, length-drop place file);
+    same = ap (take leastHead) (head-whole size from wide (omega (arith, length-drop place file))) ∙ take-take leastHead leastHead from (omega arith);
+  }
 
   tune : {finetune : ℤ} (offset : ℕ) → offset < leastHead → finetune ≡ signed 8 (getD file (place + offset) 0) → finetune ≡ signed 8 (byteAt offset (headBytes size from))
   tune offset h e = e ∙ ap (signed 8) (sym (agree-byte front offset h ∙ getD-drop place file offset 0))
@@ -49,6 +54,19 @@ module _ (file : List ℕ) (place size : ℕ) (there : place + leastHead ≤ len
     start-small = s .small;
     looped-small = o .small;
   }
+
+pub head-cut : (size : ℕ) (from : List ℕ) {length start looped form kind : ℕ} {finetune note : ℤ}
+    → Long 0 (take size from) length → Long 4 (take size from) start → Long 8 (take size from) looped → finetune ≡ signed 8 (byteAt 13 (take size from)) → Byte 14 (take size from) form
+    → note ≡ signed 8 (byteAt 16 (take size from)) → Byte 17 (take size from) kind
+    → HeadAt (headBytes size from) (record { length = length; «loop_start» = start; «loop_length» = looped; finetune = finetune; form = form; «relative_note» = note; kind = kind })
+head-cut size from l s o f t n k =
+    let cut = take size from in
+    record {
+      value = cc (long-padded leastHead 0 cut (omega arith), long-padded leastHead 4 cut (omega arith), long-padded leastHead 8 cut (omega arith), padded-at leastHead 13 cut (omega arith), padded-at leastHead 14 cut (omega arith), padded-at leastHead 16 cut (omega arith), padded-at leastHead 17 cut (omega arith));
+      length-small = l .small;
+      start-small = s .small;
+      looped-small = o .small;
+    }
 
 -- A header's tests, by the fields that the code has
 same-fault : (place : ℕ) (head : SampleHead) → firstFault (headTestsOf 0 head) ≡ firstFault (headTestsOf place head)
@@ -222,16 +240,16 @@ module _ (file : List ℕ) (start size count : ℕ) where
   heads-behind e = next-got start heads e λ hs n eh q. omega (arith, heads-used count size start (drop start file) hs n eh)
 
 -- What the samples take, and what they are written in: 40 bytes a header, and the data as they are
-heads-written : (count size place : ℕ) (s : List ℕ) (is : List Stretch) (n : ℕ) → (0 < count → leastHead ≤ size) → each headFormat .read (replicate count size) place s ≡ got is n
+heads-written : (count size place : ℕ) (s : List ℕ) (is : List Stretch) (n : ℕ) → each headFormat .read (replicate count size) place s ≡ got is n
     → length (each headFormat .write (each headFormat .view is)) ≡ count * leastHead
 unfolding readHead
-heads-written zero size place s is n l e = got-carry (λ (r : List Stretch) (u : ℕ). length (each headFormat .write (each headFormat .view r)) ≡ 0 * leastHead) e refl
-heads-written (suc count) size place s is n l e =
+heads-written zero size place s is n e = got-carry (λ (r : List Stretch) (u : ℕ). length (each headFormat .write (each headFormat .view r)) ≡ 0 * leastHead) e refl
+heads-written (suc count) size place s is n e =
     bind-got _ _ e λ i k ei e₁. bind-got _ _ e₁ λ js m ej e₂.
     passed _ _ ei λ h ei.
-    let one : length (i .bytes) ≡ leastHead = ap (λ (t : Stretch). length (t .bytes)) (sym (got-value ei)) ∙ length-take-le leastHead s (omega (arith, h .0, l (omega arith))) in
+    let one : length (i .bytes) ≡ leastHead = ap (λ (t : Stretch). length (t .bytes)) (sym (got-value ei)) ∙ padded-length leastHead (take size s) in
     got-carry (λ (r : List Stretch) (u : ℕ). length (each headFormat .write (each headFormat .view r)) ≡ suc count * leastHead) e₂
-    (rw length-append (omega (arith, one, heads-written count size (place + k) (drop k s) js m (λ h. l (omega arith)) ej)))
+    (rw length-append (omega (arith, one, heads-written count size (place + k) (drop k s) js m ej)))
 
 data-written : (heads : List (List ℕ)) (place : ℕ) (s : List ℕ) (ds : List Stretch) (n : ℕ) → each dataFormat .read heads place s ≡ got ds n
     → length (each dataFormat .write (each dataFormat .view ds)) ≡ n
@@ -255,7 +273,8 @@ pub record SamplesSize (count size : ℕ) (v : SamplesFound) (n : ℕ) : Type 0 
   pub counted : length (v .0) ≡ count
   pub first : 1 ≤ count → sizeOfFirst (v .0) ≡ size
   pub heads : count * size ≤ n
-  pub written : (0 < count → leastHead ≤ size) → length (samplesFormat .write (samplesFormat .view v)) + count * size ≡ count * leastHead + n
+  pub headed : length (each headFormat .write (each headFormat .view (v .0))) ≡ count * leastHead
+  pub behind : length (each dataFormat .write (each dataFormat .view (v .1))) + count * size ≡ n
 
 pub samples-size : (count size place : ℕ) (s : List ℕ) (v : SamplesFound) (n : ℕ) → samplesFormat .read (replicate count size) place s ≡ got v n → SamplesSize count size v n
 samples-size count size place s v n e =
@@ -266,7 +285,8 @@ samples-size count size place s v n e =
       counted = read-length headFormat (replicate count size) place s hs m eh ∙ length-replicate count size;
       first = one count eh;
       heads = omega (arith, used);
-      written = λ l. rw length-append (omega (arith, used, heads-written count size place s hs m l eh, data-written (each headFormat .view hs) (place + m) (drop m s) ds k ed));
+      headed = heads-written count size place s hs m eh;
+      behind = omega (arith, used, data-written (each headFormat .view hs) (place + m) (drop m s) ds k ed);
     })
   where
     one : (count : ℕ) {hs : List Stretch} {m : ℕ} → each headFormat .read (replicate count size) place s ≡ got hs m → 1 ≤ count → sizeOfFirst hs ≡ size

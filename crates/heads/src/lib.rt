@@ -3,8 +3,11 @@ use adpcm::adpcm_size;
 use refusal::Fault;
 use refusal::Step;
 use slices::read::byte;
+use slices::read::byte_in;
 use slices::read::long;
+use slices::read::long_in;
 use slices::read::signed_byte;
+use slices::read::signed_in;
 ghost use mathlib.Core.Path.{_≡_};
 ghost use Prim.Native.Nat.{_+_, _*_, _≤_, _<_};
 ghost use lib.ListN.{length, drop, replicate};
@@ -29,8 +32,10 @@ pub struct SampleHead {
     pub kind: usize,
 }
 
-pub fn sample_head(file: &[u8], at: usize, size: usize) -> SampleHead
-    requires { ⌜ at + leastHead ≤ length (now file) ⌝ }
+// A header of 40 bytes or more.
+fn whole_head(file: &[u8], at: usize, size: usize) -> SampleHead
+    requires { ⌜ at + size ≤ length (now file) ⌝ }
+    requires { ⌜ leastHead ≤ size ⌝ }
     ensures { λ r. ⌜ HeadAt (headBytes size (drop at (now (file .entry)))) r ⌝ }
 {
     let finetune = file[at + 13];
@@ -44,6 +49,32 @@ pub fn sample_head(file: &[u8], at: usize, size: usize) -> SampleHead
         relative_note: signed_byte(relative_note),
         kind: byte(file, at, 17),
     }
+}
+
+// A header of any size, as a stripped module may have it.
+fn cut_head(file: &[u8], at: usize, size: usize) -> SampleHead
+    requires { ⌜ at + size ≤ length (now file) ⌝ }
+    ensures { λ r. ⌜ HeadAt (headBytes size (drop at (now (file .entry)))) r ⌝ }
+{
+    SampleHead {
+        length: long_in(file, at, size, 0),
+        loop_start: long_in(file, at, size, 4),
+        loop_length: long_in(file, at, size, 8),
+        finetune: signed_in(file, at, size, 13),
+        form: byte_in(file, at, size, 14),
+        relative_note: signed_in(file, at, size, 16),
+        kind: byte_in(file, at, size, 17),
+    }
+}
+
+pub fn sample_head(file: &[u8], at: usize, size: usize) -> SampleHead
+    requires { ⌜ at + size ≤ length (now file) ⌝ }
+    ensures { λ r. ⌜ HeadAt (headBytes size (drop at (now (file .entry)))) r ⌝ }
+{
+    if 40 <= size {
+        return whole_head(file, at, size);
+    }
+    cut_head(file, at, size)
 }
 
 // The bytes that a sample's data take: of kind AD not its length.
@@ -146,7 +177,6 @@ fn head_fault(head: SampleHead) -> u32
 
 fn read_head(file: &[u8], at: usize, size: usize) -> Step
     requires { ⌜ at + size ≤ length (now file) ⌝ }
-    requires { ⌜ leastHead ≤ size ⌝ }
     ensures { λ r. ⌜ r ≡ placeStep at (readHead size at (drop at (now (file .entry)))) ⌝ }
 {
     let head = sample_head(file, at, size);
@@ -162,7 +192,7 @@ fn read_head(file: &[u8], at: usize, size: usize) -> Step
 
 // The data of the sample whose header stands at `head`.
 fn read_data(file: &[u8], head: usize, size: usize, at: usize) -> Step
-    requires { ⌜ head + leastHead ≤ length (now file) ⌝ }
+    requires { ⌜ head + size ≤ length (now file) ⌝ }
     requires { ⌜ at ≤ length (now file) ⌝ }
     ensures { λ r. ⌜ r ≡ placeStep at (readData (headBytes size (drop head (now (file .entry)))) at (drop at (now (file .entry)))) ⌝ }
 {
@@ -180,7 +210,6 @@ fn read_data(file: &[u8], head: usize, size: usize, at: usize) -> Step
 // All `count` headers, each of `size` bytes.
 fn read_heads(file: &[u8], at: usize, size: usize, count: usize) -> Step
     requires { ⌜ at + count * size ≤ length (now file) ⌝ }
-    requires { ⌜ (0 < count → leastHead ≤ size) ⌝ }
     ensures { λ r. ⌜ r ≡ placeStep at (each headFormat .read (replicate count size) at (drop at (now (file .entry)))) ⌝ }
 {
     let mut place = at;
@@ -199,7 +228,6 @@ fn read_heads(file: &[u8], at: usize, size: usize, count: usize) -> Step
 // The data of the `count` samples whose headers stand from `heads` on.
 fn read_all_data(file: &[u8], heads: usize, size: usize, count: usize, at: usize) -> Step
     requires { ⌜ heads + count * size ≤ length (now file) ⌝ }
-    requires { ⌜ (0 < count → leastHead ≤ size) ⌝ }
     requires { ⌜ at ≤ length (now file) ⌝ }
     ensures { λ r. ⌜ r ≡ placeStep at (each dataFormat .read (headsFrom count size (drop heads (now (file .entry)))) at (drop at (now (file .entry)))) ⌝ }
 {
@@ -221,7 +249,6 @@ fn read_all_data(file: &[u8], heads: usize, size: usize, count: usize, at: usize
 // All headers, and then the data of each.
 pub fn read_samples(file: &[u8], at: usize, size: usize, count: usize) -> Step
     requires { ⌜ at + count * size ≤ length (now file) ⌝ }
-    requires { ⌜ (0 < count → leastHead ≤ size) ⌝ }
     ensures { λ r. ⌜ r ≡ placeStep at (samplesFormat .read (replicate count size) at (drop at (now (file .entry)))) ⌝ }
 {
     let step = read_heads(file, at, size, count);

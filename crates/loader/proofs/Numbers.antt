@@ -11,7 +11,9 @@ use Rattle.xm.specs.Answer.{Answer, gives, refuses, loaderNumber}
 use Rattle.xm.specs.Stored.{Pattern}
 use Rattle.xm.specs.Table.{Checked, checking, checkLoader, checkingInto, checkIntoLoader, Tables, roomOf}
 use Rattle.xm.specs.Packing.{rowsRead, lengthAndRows, unpacking, unpackLoader, packing, packLoader}
+use Rattle.xm.specs.ModuleKind.{ModuleKind}
 use Rattle.xm.specs.Press.{pressedLength, pressing, pressLoader}
+use Rattle.xm.specs.Convert.{converting, convertLoader}
 use Rattle.xm.specs.Delta.{countWritten, decodingLimited, decodeLoader, codingLimited, codeLoader}
 use Rattle.xm.specs.Adpcm.{adpcmLimited, adpcmLoader}
 use Rattle.xm.specs.Demands.{refusalMost, LoaderTells}
@@ -108,6 +110,15 @@ module _ (file : List ℕ) (room : ℕ) {pressed : Pressed} (met : pressed ≡ p
   press-fits b =
       rw press-same (fits pressedLength (pressing file room) (pressLoader file room) (loaders-tell .press file room b)
       (λ r e. demand₁ .press file b .numbered room r e .1))
+
+module _ (to : ModuleKind) (file : List ℕ) (room : ℕ) {converted : Pressed} (met : converted ≡ pressedOf (converting to file room)) where
+  pub convert-same : pressNumber converted ≡ convertLoader to file room
+  convert-same = ap pressNumber met ∙ press-cases (converting to file room)
+
+  pub convert-fits : Bytes file → pressNumber converted < 2 ^ 64
+  convert-fits b =
+      rw convert-same (fits pressedLength (converting to file room) (convertLoader to file room) (loaders-tell .convert to file room b)
+      (λ r e. demand₁ .convert to file b .numbered room r e .1))
 
 module _ (file : List ℕ) (lent : Tables) {verdict : Verdict} (met : verdict ≡ verdictOf (checkingInto (roomOf lent) file)) where
   pub tables-same : checkNumber verdict ≡ checkIntoLoader (roomOf lent) file

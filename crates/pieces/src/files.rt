@@ -1,4 +1,4 @@
-// Calls on a file alone: the check, the structures in order, their counts, the listing's line, and the press.
+// Calls on a file alone: the check, the structures in order, their counts, the listing's line, the press and the conversions.
 use crate::lent::least;
 use crate::write::Answer;
 use crate::write::accepted;
@@ -92,9 +92,26 @@ fn of_pressed(pressed: Pressed) -> Answer {
     }
 }
 
+// Numbers: the room.
 pub fn put_press(file: &[u8], wanted: usize, lent: &mut [u8]) {
     let room = least(wanted, lent.len());
     let pressed = press::press(file, &mut lent[0..room]);
     put_answer(of_pressed(pressed));
+    put_lent(lent, room);
+}
+
+// To a stripped module if `kind` is 1, and else to a normal one.
+fn converted(file: &[u8], kind: usize, out: &mut [u8]) -> Pressed {
+    if kind == 1 {
+        return press::to_stripped(file, out);
+    }
+    press::to_normal(file, out)
+}
+
+// Numbers: the kind, the room.
+pub fn put_converted(file: &[u8], kind: usize, wanted: usize, lent: &mut [u8]) {
+    let room = least(wanted, lent.len());
+    let answer = converted(file, kind, &mut lent[0..room]);
+    put_answer(of_pressed(answer));
     put_lent(lent, room);
 }

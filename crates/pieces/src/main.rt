@@ -17,8 +17,13 @@ use script::Numbers;
 use script::numbers_of;
 use write::say;
 
-// The call of a line, by its first two letters: check, structures, reader, line, press; tables, ask, deltas, values, unpack.
+// The call of a line, by its first two letters: check, convert, structures, reader, line, press; tables, ask, deltas, values, unpack.
 fn run_call(file: &[u8], numbers: Numbers, first: u8, second: u8) {
+    if first == b'c' && second == b'o' {
+        let mut lent = memory();
+        files::put_converted(file, numbers.first, numbers.second, &mut lent);
+        return;
+    }
     if first == b'c' {
         files::put_verdict(walk::check(file));
         return;

@@ -82,7 +82,8 @@ fn put_decoded(head: &[u8], width: usize, data: &[u8], wanted: usize, values: &m
     put_sum(sum::of_values(values));
 }
 
-// Numbers: the sample, room for values, and how many bytes of its data are left out. The header stands where the row says.
+// Numbers: the sample, room for values, how many bytes of its data are left out, and H. The header stands where the row says, as far as its
+// H bytes reach.
 pub fn put_values(file: &[u8], numbers: Numbers, samples: &[u32]) {
     let stretch = sample_stretch(file, samples, numbers.first);
     let data = part(
@@ -91,7 +92,7 @@ pub fn put_values(file: &[u8], numbers: Numbers, samples: &[u32]) {
         stretch.len() - least(numbers.third, stretch.len()),
     );
     let row = SAMPLE_STRIDE * least(numbers.first, 64);
-    let head = part(file, entry(samples, row), 40);
+    let head = part(file, entry(samples, row), least(numbers.fourth, 40));
     let mut values: [i16; 1040] = [23130; 1040];
     put_decoded(
         head,

@@ -1,63 +1,112 @@
--- The call's exits: its answer, and what the memory that it was lent holds afterwards. Assumes nothing.
-use Prim.Native.Nat.{ℕ, _≤_, _<_}
+-- The calls' exits: the answer, and what the memory that was lent holds afterwards. Assumes nothing.
+use Prim.Native.Nat.{ℕ, _+_, _≤_, _<_}
+use mathlib.Core.Bool.{Bool, true, false}
 use mathlib.Core.List.{List}
 use mathlib.Core.Path.{_≡_, refl, sym, ap, _∙_}
 use native.Mathlib.Omega.{arith}
-use lib.ListN.{length}
+use lib.ListN.{length, length-append}
 use Rattle.xm.specs.Number.{Bytes}
-use Rattle.xm.specs.Got.{Got, got, refused, _at_, listIn, Told}
+use Rattle.xm.specs.ModuleKind.{ModuleKind}
+use Rattle.xm.specs.Got.{Got, got, refused, listIn, Told}
 use Rattle.xm.specs.Answer.{inFront}
-use Rattle.xm.specs.Module.{Found, moduleFormat, readFile}
+use Rattle.xm.specs.Header.{kindAt, writeHeader}
+use Rattle.xm.specs.Module.{Found, fileMost, moduleFormat, bodyFormat, readFile}
 use Rattle.xm.specs.Press.{contentOf, pressed, pressingAs}
+use Rattle.xm.specs.Convert.{converted}
 use Rattle.xm.specs.Demands.{FileOf}
 use Rattle.xm.proofs.Got.{no-true, got-told, step-refused}
 use Rattle.xm.proofs.Answer.{answer-refuses}
 use Rattle.xm.proofs.Module.{module-back, module-keeps}
-use Rattle.xm.proofs.Press.{press-gives, press-narrow}
-use Rattle.refusal.specs.Fault.{faultOf, refusalIn}
+use Rattle.xm.proofs.Press.{press-gives, press-narrow, file-good}
+use Rattle.xm.proofs.Convert.{converted-good, own-refusal-first, convert-gives, convert-large, convert-narrow}
+use Rattle.refusal.specs.Fault.{refusalIn}
 use Rattle.refusal.specs.declared.Fault.{Fault}
 use Rattle.mark.specs.Mark.{Marks}
 use Rattle.walk.specs.File.{walkStep, walkFault}
 use Rattle.walk.specs.declared.WalkStep.{WalkStep}
 use Rattle.walk.specs.declared.WalkStep.the-variants as walked
-use Rattle.press.specs.Module.{pressedFile}
-use Rattle.press.specs.Promise.{Presses}
+use Rattle.walk.proofs.FileLaws.{header-length}
+use Rattle.press.specs.Module.{contentKept, writtenFile}
+use Rattle.press.specs.Promise.{Presses, Converts}
+use Rattle.press.specs.declared.Pressed.{Pressed}
 use Rattle.press.specs.declared.Pressed.the-variants.{Length, Refused}
 
+abbrev refusedBy : (number : ℕ) → Pressed
+refusedBy number = Refused (record { number = number; place = 0 })
+
 -- What the walk's answer says of the reading
-accepted-got : {R : Type 0} (g : Got Found) {size : ℕ} → walked.Accepted size ≡ walkStep g → ((found : Found) (end : ℕ) → g ≡ got found end → size ≡ length (pressed (contentOf found)) → R) → R
-accepted-got (got found end) e k = k found end refl (cc)
-accepted-got (refused r) e k = absurd (no-true (cc))
+accepted-got : {R : Type 0} (to : ModuleKind) (g : Got Found) {size : ℕ} → walked.Accepted size ≡ walkStep to g
+    → ((found : Found) (end : ℕ) → g ≡ got found end → size ≡ length (pressed to (contentOf found)) → R) → R
+accepted-got to (got found end) e k = k found end refl (cc)
+accepted-got to (refused r) e k = absurd (no-true (cc))
 
-walk-refused : (g : Got Found) {step : WalkStep} {f r : Fault} → step ≡ walkStep g → step ≡ walked.Refused f → r ≡ walkFault step → g ≡ refused (refusalIn r)
-walk-refused (got found end) e told passed = cc
-walk-refused (refused q) e told passed = cc
+walk-refused : (to : ModuleKind) (g : Got Found) {step : WalkStep} {f r : Fault} → step ≡ walkStep to g → step ≡ walked.Refused f → r ≡ walkFault step → g ≡ refused (refusalIn r)
+walk-refused to (got found end) e told passed = cc
+walk-refused to (refused q) e told passed = cc
 
-module _ (file lent : List ℕ) where
+module _ (to : ModuleKind) (file lent : List ℕ) where
+  abbrev kind : ModuleKind
+  kind = kindAt file
+
   -- Refused by the walk
-  pub press-refused : {step : WalkStep} {f r : Fault} → step ≡ walkStep (readFile file) → step ≡ walked.Refused f → r ≡ walkFault step → Presses file lent (Refused r) lent
-  unfolding pressingAs
-  press-refused e told passed = rw (answer-refuses (λ bytes used. bytes) (step-refused _ (walk-refused (readFile file) e told passed))) (refl, refl)
+  module _ {step : WalkStep} {f r : Fault} (e : step ≡ walkStep to (readFile file)) (told : step ≡ walked.Refused f) (passed : r ≡ walkFault step) where
+    pub press-refused : Presses file lent (Refused r) lent
+    unfolding pressingAs
+    press-refused = rw (answer-refuses (λ bytes used. bytes) (step-refused _ (walk-refused to (readFile file) e told passed))) (refl, refl)
 
-  module _ {size : ℕ} (e : walked.Accepted size ≡ walkStep (readFile file)) where
+    pub convert-refused : Converts to file lent (Refused r) lent
+    convert-refused = rw (own-refusal-first to file (length lent) (refusalIn r) (walk-refused to (readFile file) e told passed)) (refl, refl)
+
+  module _ {size : ℕ} (e : walked.Accepted size ≡ walkStep to (readFile file)) where
     pub accepted-told : (marks : List ℕ) → ((found : Found) (end : ℕ) → readFile file ≡ got found end → Marks file 0 (found .1 .0) marks)
         → Told (λ (found : Found). Marks file 0 (found .1 .0) marks) (readFile file)
-    accepted-told marks m = accepted-got (readFile file) e λ found end q z. got-told (λ (found : Found). Marks file 0 (found .1 .0) marks) q (m found end q)
+    accepted-told marks m = accepted-got to (readFile file) e λ found end q z. got-told (λ (found : Found). Marks file 0 (found .1 .0) marks) q (m found end q)
 
-    pub accepted-size : size ≡ length (pressedFile file)
-    accepted-size = accepted-got (readFile file) e λ found end q z. z ∙ sym (ap (λ (g : Got Found). length (listIn (λ (found : Found). pressed (contentOf found)) g)) q)
+    -- what is written, by what was found
+    found-written : (kept : Bool) {found : Found} {end : ℕ} → readFile file ≡ got found end → writtenFile to kept file ≡ pressed to (contentKept kept (contentOf found))
+    found-written kept q = ap (listIn (λ (found : Found). pressed to (contentKept kept (contentOf found)))) q
 
     module _ (b : Bytes file) where
-      file-of : (found : Found) (end : ℕ) → readFile file ≡ got found end → FileOf moduleFormat (contentOf found) file
+      file-of : (found : Found) (end : ℕ) → readFile file ≡ got found end → FileOf (moduleFormat kind) (contentOf found) file
       file-of found end q = record { plain = b; found = found; end = end; reads = q; same = refl }
 
-      -- No room
-      pub press-short : length lent < size → Presses file lent (Refused (faultOf (14 at 0))) lent
-      press-short h = accepted-got (readFile file) e λ found end q z.
-          rw (press-narrow moduleFormat module-back module-keeps (file-of found end q) (length lent) (omega arith)) (refl, refl)
+      -- Without its tracker name it is as long
+      as-long : (found : Found) (end : ℕ) → readFile file ≡ got found end → length (pressed to (converted (contentOf found))) ≡ length (pressed to (contentOf found))
+      as-long found end q =
+          let x = contentOf found in
+          let good = file-good (moduleFormat kind) (module-back kind) (module-keeps kind) (file-of found end q) in
+          let body = bodyFormat to .write (x .1) in
+          length-append (writeHeader to (converted x .0)) body
+          ∙ ap (λ (n : ℕ). n + length body) (header-length to to (converted x .0) (converted-good kind to x good .0) ∙ sym (header-length kind to (x .0) (good .0)))
+          ∙ sym (length-append (writeHeader to (x .0)) body)
 
-      -- Written
-      pub press-done : size ≤ length lent → {count : ℕ} {held : List ℕ} → count ≡ size → held ≡ inFront (pressedFile file) lent → Presses file lent (Length count) held
-      press-done h n m = accepted-got (readFile file) e λ found end q z.
-          rw (press-gives moduleFormat module-back module-keeps (file-of found end q) (length lent) (omega arith))
-          (ap Length (n ∙ z), m ∙ ap (λ (g : Got Found). inFront (listIn (λ (found : Found). pressed (contentOf found)) g) lent) q)
+      pub accepted-size : (kept : Bool) → size ≡ length (writtenFile to kept file)
+      accepted-size true = accepted-got to (readFile file) e λ found end q z. z ∙ sym (ap length (found-written true q))
+      accepted-size false = accepted-got to (readFile file) e λ found end q z. z ∙ sym (ap length (found-written false q) ∙ as-long found end q)
+
+      -- Pressed: no room, or written
+      module _ (own : to ≡ kind) where
+        pub press-short : length lent < size → {number : ℕ} → number ≡ 14 → Presses file lent (Refused (record { number = number; place = 0 })) lent
+        press-short h n = accepted-got to (readFile file) e λ found end q z.
+            rw (press-narrow (moduleFormat kind) (module-back kind) (module-keeps kind) (file-of found end q) (length lent) (omega (arith, ap (λ (k : ModuleKind). length (pressed k (contentOf found))) own)))
+            (ap refusedBy n, refl)
+
+        pub press-done : size ≤ length lent → {count : ℕ} {held : List ℕ} → count ≡ size → held ≡ inFront (writtenFile to true file) lent → Presses file lent (Length count) held
+        press-done h n m = accepted-got to (readFile file) e λ found end q z.
+            let same = ap (λ (k : ModuleKind). pressed k (contentOf found)) own in
+            rw (press-gives (moduleFormat kind) (module-back kind) (module-keeps kind) (file-of found end q) (length lent) (omega (arith, ap length same)))
+            (ap Length (n ∙ z ∙ ap length same), m ∙ ap (λ (bytes : List ℕ). inFront bytes lent) (found-written true q ∙ same))
+
+      -- Converted: too long, no room, or written
+      pub convert-over : fileMost < size → {number : ℕ} → number ≡ 2 → Converts to file lent (Refused (record { number = number; place = 0 })) lent
+      convert-over h n = accepted-got to (readFile file) e λ found end q z.
+          rw (convert-large kind to (file-of found end q) (length lent) (omega (arith, as-long found end q))) (ap refusedBy n, refl)
+
+      pub convert-short : size ≤ fileMost → length lent < size → {number : ℕ} → number ≡ 14 → Converts to file lent (Refused (record { number = number; place = 0 })) lent
+      convert-short h l n = accepted-got to (readFile file) e λ found end q z.
+          rw (convert-narrow kind to (file-of found end q) (length lent) (omega (arith, as-long found end q)) (omega (arith, as-long found end q))) (ap refusedBy n, refl)
+
+      pub convert-done : size ≤ fileMost → size ≤ length lent → {count : ℕ} {held : List ℕ} → count ≡ size → held ≡ inFront (writtenFile to false file) lent → Converts to file lent (Length count) held
+      convert-done h l n m = accepted-got to (readFile file) e λ found end q z.
+          rw (convert-gives kind to (file-of found end q) (length lent) (omega (arith, as-long found end q)) (omega (arith, as-long found end q)))
+          (ap Length (n ∙ z ∙ sym (as-long found end q)), m ∙ ap (λ (bytes : List ℕ). inFront bytes lent) (found-written false q))

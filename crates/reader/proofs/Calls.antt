@@ -7,13 +7,14 @@ use native.Mathlib.Omega.{arith}
 use lib.ListN.{length, length-map}
 use denote.Ref.{RefT, now}
 use Rattle.xm.specs.Number.{Bytes}
+use Rattle.xm.specs.ModuleKind.{ModuleKind}
 use Rattle.xm.specs.Got.{Got, got, refused, Refusal}
 use Rattle.xm.specs.Format.{Kind, Region, patternHeader, instrument, sampleHeader, sampleData, joined}
 use Rattle.xm.specs.Answer.{Answer, numbers, answered}
 use Rattle.xm.specs.PatternInFile.{patternFormat}
 use Rattle.xm.specs.Sample.{stretchRegion}
 use Rattle.xm.specs.Instrument.{InstrumentFound, instrumentFormat}
-use Rattle.xm.specs.Module.{Found, moduleFormat, readFile}
+use Rattle.xm.specs.Module.{Found, regionsOf, readFile}
 use Rattle.xm.specs.Asking.{Lies}
 use Rattle.xm.specs.Table.{InstrumentRow, SampleRow, patternRow, patternRows, instrumentRows, sampleRows, checkedAs, checking}
 use Rattle.xm.specs.Structure.{kindNumber, structures, reading, Ahead, started, called, readOn, readFor}
@@ -117,17 +118,18 @@ each-count : {A : Type 0} (kind : Kind) (f : A → List Region) (m : ℕ) → ((
 each-count kind f m h [] = omega arith
 each-count kind f m h (x ∷ xs) = omega (arith, kind-count kind (f x) (joined f xs), h x, each-count kind f m h xs)
 
-instrument-none : (i : InstrumentFound) → length (ofKind patternHeader (instrumentFormat .regions i)) ≡ 0
-instrument-none i =
+instrument-none : (kind : ModuleKind) (i : InstrumentFound) → length (ofKind patternHeader (instrumentFormat kind .regions i)) ≡ 0
+instrument-none kind i =
     let heads = joined (stretchRegion sampleHeader) (i .samples .0) in
     let bytes = joined (stretchRegion sampleData) (i .samples .1) in
     omega (arith, kind-count patternHeader heads bytes, each-count patternHeader (stretchRegion sampleHeader) 0 (λ x. refl) (i .samples .0), each-count patternHeader (stretchRegion sampleData) 0 (λ x. refl) (i .samples .1))
 
-patterns-count : (found : Found) → length (ofKind patternHeader (moduleFormat .regions found)) ≡ length (patternRows found)
+patterns-count : (found : Found) → length (ofKind patternHeader (regionsOf found)) ≡ length (patternRows found)
 patterns-count found =
+    let kind = found .0 .kind in
     let patterns = joined (patternFormat .regions) (found .1 .0) in
-    let instruments = joined (instrumentFormat .regions) (found .1 .1) in
-    omega (arith, kind-count patternHeader patterns instruments, each-count patternHeader (patternFormat .regions) 1 (λ p. refl) (found .1 .0), each-count patternHeader (instrumentFormat .regions) 0 instrument-none (found .1 .1), length-map (found .1 .0) patternRow)
+    let instruments = joined (instrumentFormat kind .regions) (found .1 .1) in
+    omega (arith, kind-count patternHeader patterns instruments, each-count patternHeader (patternFormat .regions) 1 (λ p. refl) (found .1 .0), each-count patternHeader (instrumentFormat kind .regions) 0 (instrument-none kind) (found .1 .1), length-map (found .1 .0) patternRow)
 
 pub counted-numbers : (file : List ℕ) → Bytes file → {answer : answer.Counted} → answer ≡ countedOf (counting file) → countedNumbers answer ≡ numbers countResults (checking file)
 unfolding counting checking
@@ -138,7 +140,7 @@ counted-numbers file plain met = ap countedNumbers met ∙ go (readFile file) re
         let tell = readers-tell .hands-over file found end plain e in
         let tables = accepted-files file found end plain e .tables in
         let rows = rows-counted file found end e refl in
-        let regions = moduleFormat .regions found in
+        let regions = regionsOf found in
         cons-path refl (cons-path refl
         (cons-path (ap length (tell .every-kind patternHeader refl) ∙ patterns-count found ∙ rows .patterns)
         (cons-path (ap length (tell .every-kind instrument refl) ∙ sym (length-map (ofKind instrument regions) Lies.place) ∙ ap length (tables .instruments) ∙ length-map (instrumentRows found) InstrumentRow.place ∙ rows .instruments)

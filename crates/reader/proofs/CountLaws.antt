@@ -9,7 +9,7 @@ use Rattle.xm.specs.Number.{Bytes}
 use Rattle.xm.specs.Got.{Got, got, refused, listIn}
 use Rattle.xm.specs.Format.{Kind, Region, header, patternHeader, patternData, instrument, sampleHeader, sampleData, All}
 use Rattle.xm.specs.Answer.{Answer, gives, answered, result}
-use Rattle.xm.specs.Module.{Found, moduleFormat, readFile}
+use Rattle.xm.specs.Module.{Found, regionsOf, readFile}
 use Rattle.xm.specs.Structure.{isStructure, structures, Ahead, handOver, started, called, readOn, readFor}
 use Rattle.xm.specs.Structure as structure
 use Rattle.xm.specs.Region.{ofKind, regionAt}
@@ -19,7 +19,7 @@ use Rattle.xm.proofs.Answer.{answer-gives, answer-refuses}
 use Rattle.xm.proofs.Format.{cons-path}
 use Rattle.xm.proofs.Region.{kind-append}
 use Rattle.xm.proofs.Structure.{hand-stays, readers-tell}
-use Rattle.structures.specs.Handing.{kindAt, standingIn, standingOf, aheadOf, aheadIn, reachedOf, reachedIn, handing}
+use Rattle.structures.specs.Handing.{standingAt, standingIn, standingOf, aheadOf, aheadIn, reachedOf, reachedIn, handing}
 use Rattle.structures.specs.declared.Reached.{Reached}
 use Rattle.structures.specs.declared.Reached.the-variants as reached
 use Rattle.structures.specs.declared.Standing.{Standing}
@@ -60,7 +60,7 @@ counts-append xs ys = same-counts (kind-count patternHeader xs ys) (kind-count i
 abbrev only : (kind : Kind) (place size : ℕ) → List Region
 only kind place size = record { kind = kind; place = place; size = size } ∷ []
 
-counts-one : (counts : Counts) (kind : Kind) (place size : ℕ) → isStructure kind ≡ true → oneMore counts (kindAt kind place) ≡ plus counts (countsOf (only kind place size))
+counts-one : (counts : Counts) (kind : Kind) (place size : ℕ) → isStructure kind ≡ true → oneMore counts (standingAt kind place) ≡ plus counts (countsOf (only kind place size))
 counts-one counts header place size h = absurd (no-true h)
 counts-one counts patternHeader place size h = same-counts (omega arith) (omega arith) (omega arith)
 counts-one counts patternData place size h = absurd (no-true h)
@@ -68,7 +68,7 @@ counts-one counts instrument place size h = same-counts (omega arith) (omega ari
 counts-one counts sampleHeader place size h = same-counts (omega arith) (omega arith) (omega arith)
 counts-one counts sampleData place size h = absurd (no-true h)
 
-hands-kind : (kind : Kind) (place : ℕ) → isStructure kind ≡ true → handsOver (kindAt kind place) ≡ true
+hands-kind : (kind : Kind) (place : ℕ) → isStructure kind ≡ true → handsOver (standingAt kind place) ≡ true
 hands-kind header place h = absurd (no-true h)
 hands-kind patternHeader place h = refl
 hands-kind patternData place h = absurd (no-true h)
@@ -140,9 +140,9 @@ module _ (file : List ℕ) (plain : Bytes file) (found : Found) (end : ℕ) (rea
   tell = readers-tell .hands-over file found end plain reads
 
   is-structure : (i : ℕ) → i < length rs → IsStructure (regionAt rs i .kind)
-  is-structure i l = all-at (λ (r : Region). IsStructure (r .kind)) rs i (all-structures (moduleFormat .regions found)) l
+  is-structure i l = all-at (λ (r : Region). IsStructure (r .kind)) rs i (all-structures (regionsOf found)) l
 
-  stands-for : (i : ℕ) → i < length rs → standAfter file i ≡ kindAt (regionAt rs i .kind) (regionAt rs i .place)
+  stands-for : (i : ℕ) → i < length rs → standAfter file i ≡ standingAt (regionAt rs i .kind) (regionAt rs i .place)
   stands-for i l = stand-after file i ∙ ap standingOf (tell .each-one i l)
 
   stands-last : standAfter file (length rs) ≡ End

@@ -8,16 +8,18 @@ use lib.IntN.{ℤ}
 use lib.ListN.{length, getD, take, drop, length-map, List·getD-append, List·getD-map}
 use lib.Seq.{take-append-seam}
 use native.Mathlib.Omega.{arith}
-use Rattle.xm.specs.Number.{Bytes, byteAt, longAt}
+use Rattle.xm.specs.Number.{Bytes, byteAt}
+use Rattle.xm.specs.ModuleKind.{normal}
 use Rattle.xm.specs.Got.{Refusal, _at_, _>>_, ensure, checked}
 use Rattle.xm.specs.Format.{joined}
 use Rattle.xm.specs.Answer.{Answer, gives, refuses, numberOf, inFront}
+use Rattle.xm.specs.Sample.{leastHead, headBytes, lengthOf, kindOf}
 use Rattle.xm.specs.Adpcm.{decodingBy}
 use Rattle.xm.specs.Table.{Checked, sampleRows, sampleStride, tuneStride, checkIntoNumbers, checkingInto, roomWith, rowsAfter, Tables, tablesAfter}
 use Rattle.xm.specs.Table as paper
 use Rattle.xm.specs.Asking.{Lies, asking, stretchOf, askingRows, noRow}
 use Rattle.xm.specs.Demands.{LoopReads, AcceptedFile, liesAt}
-use Rattle.xm.proofs.Accepted.{accepted-files, loop-at, decodes-at}
+use Rattle.xm.proofs.Accepted.{accepted-files, loop-at, decodes-at, normal-byte}
 use Rattle.xm.proofs.Table.{joined-map}
 use Rattle.refusal.specs.Fault.{faultOf}
 use Rattle.walk.specs.File.{verdictOf, verdictNumbers}
@@ -25,7 +27,7 @@ use Rattle.walk.specs.declared.Verdict.{Verdict}
 use Rattle.tables.specs.Into.{lent, checkedInto, roomFor, patternsAfter, instrumentsAfter}
 use Rattle.tables.specs.Place.{sampleRow, numbersOf, tunesOf}
 use Rattle.tables.specs.declared.sample.SampleRow.{SampleRow}
-use Rattle.tables.proofs.Calls.{into-numbers, headAt, valuesAt}
+use Rattle.tables.proofs.Calls.{into-numbers, headAt, headSizeAt, valuesAt}
 use Rattle.tables.proofs.IntoLaws.{into-accepted}
 use Rattle.records.specs.Records.{rowOf, rowsOf, recordsOf, noRecord, checkedRecords, recordsAfter, rowAsking, rowAskingIn, rowAskedOf, rowsGiven, rowAskedNumbers, rowAskedTunes, rowNumbers, rowTunes}
 use Rattle.records.specs.declared.row.RowAsked.{RowAsked}
@@ -174,13 +176,21 @@ module _ (file : List ℕ) (plain : Bytes file) (patterns instruments : List ℕ
       ∙ ap (λ (rows : List paper.SampleRow). askingRows file rows number) (rows-in-front (sampleRows (c .found)) records)
       ∙ found .asked .records (drop (length (sampleRows (c .found))) (rowsOf records)) number low
 
-  -- decodes to the content's values, at its width, by the kind and the length that stand at its header place,
+  -- decodes to the content's values, at its width, by the kind and the length of the header that is read at its header place, as far as its region
+  -- goes
   abbrev storedRow : SampleRow
   storedRow = getD after number noRecord
 
-  pub stored-decodes : decodingBy (byteAt (storedRow .«header_place» + 17) file) (longAt (storedRow .«header_place») file) (storedRow .width) (stretchOf file (askingRows file (rowsOf after) number)) (length (valuesAt c number))
+  abbrev pub headRead : List ℕ
+  headRead = headBytes (headSizeAt c number) (drop (storedRow .«header_place») file)
+
+  pub stored-decodes : decodingBy (kindOf headRead) (lengthOf headRead) (storedRow .width) (stretchOf file (askingRows file (rowsOf after) number)) (length (valuesAt c number))
       ≡ gives (valuesAt c number)
   stored-decodes = rw (stored-record, stored-asked) (decodes-at file (c .found) (c .end) found number low (length (valuesAt c number)) (omega arith))
+
+  -- and whole in a normal module,
+  pub stored-whole : c .found .0 .kind ≡ normal → (k : ℕ) → k < leastHead → byteAt k headRead ≡ byteAt (storedRow .«header_place» + k) file
+  stored-whole q k l = rw stored-record (normal-byte file (c .found) (c .end) found number low q k l)
 
   -- with its header's loop, in samples, within these values.
   pub stored-loops : LoopReads (headAt c number) (storedRow .width) (storedRow .«loop_kind») (storedRow .«loop_start») (storedRow .«loop_length»)

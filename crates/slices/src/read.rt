@@ -1,8 +1,8 @@
-// The numbers of one, two and four bytes at an offset from a place, and a byte read as signed.
+// The numbers of one, two and four bytes at an offset from a place, also of a structure that is cut off; and a byte read as signed.
 ghost use mathlib.Core.Path.{_≡_};
 ghost use Prim.Native.Nat.{_+_, _≤_, _<_};
-ghost use lib.ListN.{length, drop};
-ghost use Rattle.xm.specs.Number.{signed};
+ghost use lib.ListN.{length, take, drop};
+ghost use Rattle.xm.specs.Number.{byteAt, signed};
 ghost use Rattle.slices.specs.Number.{Byte, Word, Long};
 
 pub fn byte(file: &[u8], place: usize, offset: usize) -> usize
@@ -43,4 +43,41 @@ pub fn signed_byte(number: u8) -> i8
     } else {
         (number - 128) as i8 + (-128)
     }
+}
+
+// The same of a structure of `size` bytes: what would stand at its end or beyond reads as 0.
+pub fn byte_in(file: &[u8], place: usize, size: usize, offset: usize) -> usize
+    requires { ⌜ place + size ≤ length (now file) ⌝ }
+    ensures { λ r. ⌜ Byte offset (take size (drop place (now (file .entry)))) r ⌝ }
+{
+    if offset < size {
+        return byte(file, place, offset);
+    }
+    0
+}
+
+pub fn word_in(file: &[u8], place: usize, size: usize, offset: usize) -> usize
+    requires { ⌜ place + size ≤ length (now file) ⌝ }
+    requires { ⌜ offset < 65536 ⌝ }
+    ensures { λ r. ⌜ Word offset (take size (drop place (now (file .entry)))) r ⌝ }
+{
+    byte_in(file, place, size, offset) + 256 * byte_in(file, place, size, offset + 1)
+}
+
+pub fn long_in(file: &[u8], place: usize, size: usize, offset: usize) -> usize
+    requires { ⌜ place + size ≤ length (now file) ⌝ }
+    requires { ⌜ offset < 65534 ⌝ }
+    ensures { λ r. ⌜ Long offset (take size (drop place (now (file .entry)))) r ⌝ }
+{
+    word_in(file, place, size, offset) + 65536 * word_in(file, place, size, offset + 2)
+}
+
+pub fn signed_in(file: &[u8], place: usize, size: usize, offset: usize) -> i8
+    requires { ⌜ place + size ≤ length (now file) ⌝ }
+    ensures { λ r. ⌜ r ≡ signed 8 (byteAt offset (take size (drop place (now (file .entry))))) ⌝ }
+{
+    if offset < size {
+        return signed_byte(file[place + offset]);
+    }
+    0
 }

@@ -3,6 +3,7 @@ use Prim.Native.Nat.{ℕ}
 use mathlib.Core.List.{List}
 use mathlib.Core.Path.{_≡_, refl, ap}
 use native.Mathlib.Omega.{arith}
+use Rattle.xm.specs.ModuleKind.{ModuleKind}
 use Rattle.xm.specs.Got.{Got, got, refused, AllHold, _at_}
 use Rattle.xm.specs.Header.{channelsAt, patternsAt, instrumentsAt, HeaderFound, headerEnd, headerOf, headerTests, readHeader}
 use Rattle.xm.proofs.Got.{pass}
@@ -26,17 +27,17 @@ pub part-of : (file : List ℕ) {part : HeaderPart} → part ≡ headerPart file
 part-of file e = record { channels = ap HeaderPart.channels e; patterns = ap HeaderPart.patterns e; instruments = ap HeaderPart.instruments e; start = ap HeaderPart.start e }
 
 -- The tests decide
-module _ (file : List ℕ) {fault : ℕ} (e : fault ≡ firstFault (headerTests 0 file)) where
-  pub header-faulty : (fault ≡ 0 → ⊥) → readHeader 0 file ≡ refused (fault at 0)
+module _ (kind : ModuleKind) (file : List ℕ) {fault : ℕ} (e : fault ≡ firstFault (headerTests kind 0 file)) where
+  pub header-faulty : (fault ≡ 0 → ⊥) → readHeader kind 0 file ≡ refused (fault at 0)
   unfolding readHeader
-  header-faulty = fault-refuses 0 (headerTests 0 file) _ (omega arith) e
+  header-faulty = fault-refuses 0 (headerTests kind 0 file) _ (omega arith) e
 
-  pub header-holds : fault ≡ 0 → AllHold (headerTests 0 file)
-  header-holds = fault-holds 0 (headerTests 0 file) (omega arith) e
+  pub header-holds : fault ≡ 0 → AllHold (headerTests kind 0 file)
+  header-holds = fault-holds 0 (headerTests kind 0 file) (omega arith) e
 
-pub header-read : (file : List ℕ) → AllHold (headerTests 0 file) → readHeader 0 file ≡ got (record { place = 0; size = headerEnd file; content = headerOf file }) (headerEnd file)
+pub header-read : (kind : ModuleKind) (file : List ℕ) → AllHold (headerTests kind 0 file) → readHeader kind 0 file ≡ got (record { kind = kind; place = 0; size = headerEnd file; content = headerOf kind file }) (headerEnd file)
 unfolding readHeader
-header-read file h = pass (headerTests 0 file) h refl
+header-read kind file h = pass (headerTests kind 0 file) h refl
 
 -- What the step's answer says of the reading
 pub header-refused : (g : Got HeaderFound) {step : HeaderStep} {f r : Fault} → step ≡ headerStep g → step ≡ Refused f → r ≡ headerFault step → g ≡ refused (refusalIn r)

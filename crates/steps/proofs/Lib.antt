@@ -1,3 +1,4 @@
+pub mod KindLaws
 pub mod HeaderLaws
 pub mod PatternLaws
 pub mod InstrumentLaws

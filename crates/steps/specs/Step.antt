@@ -2,14 +2,16 @@
 -- was refused, the refusal.
 use Prim.Native.Nat.{ℕ, zero, suc, _+_}
 use mathlib.Core.List.{List}
-use lib.ListN.{length}
+use mathlib.Core.Path.{_≡_}
+use lib.ListN.{length, drop}
 use Rattle.xm.specs.Number.{part}
+use Rattle.xm.specs.ModuleKind.{ModuleKind}
 use Rattle.xm.specs.Got.{Got, got, refused}
 use Rattle.xm.specs.Stored.{writeStored}
-use Rattle.xm.specs.Header.{channelsAt, patternsAt, instrumentsAt, headerEnd, HeaderFound}
+use Rattle.xm.specs.Header.{channelsAt, patternsAt, instrumentsAt, headerEnd, kindAt, HeaderFound}
 use Rattle.xm.specs.PatternInFile.{headSizeAt, rowsAt, dataSizeAt, PatternFound}
 use Rattle.xm.specs.Sample.{sizeOfFirst}
-use Rattle.xm.specs.Instrument.{instrumentSizeAt, countAt, headerSizeAt, InstrumentFound, instrumentView, writeInstrument}
+use Rattle.xm.specs.Instrument.{instrumentSizeAt, countAt, headerSizeAt, fieldsOf, InstrumentFound, readInstrument}
 use Rattle.xm.specs.Table.{sampleCount}
 use Rattle.refusal.specs.Fault.{faultOf, noFault}
 use Rattle.refusal.specs.declared.Fault.{Fault}
@@ -23,6 +25,7 @@ use Rattle.steps.specs.declared.pattern.PatternHead.{PatternHead}
 use Rattle.steps.specs.declared.pattern.PatternStep.{PatternStep}
 use Rattle.steps.specs.declared.pattern.PatternStep.the-variants as pattern
 use Rattle.steps.specs.declared.instrument.InstrumentHead.{InstrumentHead}
+use Rattle.steps.specs.declared.instrument.InstrumentPart.{InstrumentPart}
 use Rattle.steps.specs.declared.instrument.InstrumentStep.{InstrumentStep}
 use Rattle.steps.specs.declared.instrument.InstrumentStep.the-variants as instrument
 
@@ -72,18 +75,23 @@ abbrev pub headSizeOf : (k : ℕ) → List ℕ → ℕ
 headSizeOf zero s = 0
 headSizeOf (suc k) s = headerSizeAt s
 
-abbrev pub instrumentHead : (place : ℕ) → List ℕ → InstrumentHead
-instrumentHead place s = record { samples = countAt s; heads = place + instrumentSizeAt s; «head_size» = headSizeOf (countAt s) s }
+abbrev pub instrumentHead : ModuleKind → (place : ℕ) → List ℕ → InstrumentHead
+instrumentHead kind place s =
+    let fields = fieldsOf kind s in
+    record { samples = countAt fields; heads = place + instrumentSizeAt s; «head_size» = headSizeOf (countAt fields) fields }
 
 abbrev pub instrumentStep : (place : ℕ) → Got InstrumentFound → InstrumentStep
 instrumentStep place (got i used) = instrument.Read (record {
   size = i .size;
   samples = sampleCount i;
   «head_size» = sizeOfFirst (i .samples .0);
-  pressed = length (writeInstrument (instrumentView i));
   next = place + used;
 })
 instrumentStep place (refused r) = instrument.Refused (faultOf r)
+
+-- The step at a place of a file, of its own kind, gave this part.
+abbrev pub InstrumentIs : (file : List ℕ) (place : ℕ) → InstrumentPart → Type 0
+InstrumentIs file place piece = instrument.Read piece ≡ instrumentStep place (readInstrument (kindAt file) place (drop place file))
 
 abbrev pub instrumentFault : InstrumentStep → Fault
 instrumentFault (instrument.Read part) = noFault

@@ -1,4 +1,8 @@
 // The header step.
+use crate::kind::is_stripped;
+use crate::kind::least_header;
+use crate::kind::mark_by;
+use crate::kind::version_by;
 use refusal::Fault;
 use refusal::no_fault;
 use slices::read::byte;
@@ -7,7 +11,8 @@ use slices::read::word;
 ghost use mathlib.Core.Path.{_≡_};
 ghost use Prim.Native.Nat.{_≤_};
 ghost use lib.ListN.{length};
-ghost use Rattle.xm.specs.Header.{ordersFrom, readHeader, countTests, headerTests};
+ghost use Rattle.xm.specs.ModuleKind.{kindBy};
+ghost use Rattle.xm.specs.Header.{ordersFrom, kindAt, readHeader, countTests, headerTests};
 ghost use Rattle.xm.specs.Got.{allPass};
 ghost use Rattle.refusal.specs.Test.{firstFault};
 ghost use Rattle.steps.specs.Step.{headerPart, headerStep, headerFault};
@@ -77,25 +82,25 @@ fn counts_pass(song_length: usize, patterns: usize, channels: usize, instruments
 }
 
 // The number of the first fault, or 0: the first 80 bytes present (1); 3; 4; 5; header size + 60 within the file (1).
-fn header_fault(file: &[u8]) -> u32
-    ensures { λ r. ⌜ r ≡ firstFault (headerTests 0 (now (file .entry))) ⌝ }
+fn header_fault(file: &[u8], stripped: bool) -> u32
+    ensures { λ r. ⌜ r ≡ firstFault (headerTests (kindBy stripped) 0 (now (file .entry))) ⌝ }
 {
     if file.len() < 80 {
         return 1;
     }
     let mark = byte(file, 0, 37);
-    if mark != 0x1A {
+    if mark != mark_by(stripped) {
         return 3;
     }
     let version = word(file, 0, 58);
-    if version != 0x0104 {
+    if version != version_by(stripped) {
         return 3;
     }
     let part = header_part(file);
-    if part.start < 60 + 276 {
+    let song_length = word(file, 0, 64);
+    if part.start < 60 + least_header(stripped, song_length) {
         return 4;
     }
-    let song_length = word(file, 0, 64);
     if !counts_pass(song_length, part.patterns, part.channels, part.instruments) {
         return 5;
     }
@@ -105,10 +110,11 @@ fn header_fault(file: &[u8]) -> u32
     0
 }
 
+// The header of a file of either kind.
 pub fn read_header(file: &[u8]) -> HeaderStep
-    ensures { λ r. ⌜ r ≡ headerStep (readHeader 0 (now (file .entry))) ⌝ }
+    ensures { λ r. ⌜ r ≡ headerStep (readHeader (kindAt (now (file .entry))) 0 (now (file .entry))) ⌝ }
 {
-    let fault = header_fault(file);
+    let fault = header_fault(file, is_stripped(file));
     if fault != 0 {
         return HeaderStep::Refused(Fault {
             number: fault,

@@ -1,26 +1,30 @@
 // The instrument step: the tests in front, and behind its fields the samples.
+use crate::kind::is_stripped;
 use heads::read_samples;
 use refusal::Fault;
 use refusal::Step;
 use refusal::fault_of;
 use refusal::no_fault;
 use slices::read::long;
+use slices::read::long_in;
 use slices::read::word;
+use slices::read::word_in;
 ghost use mathlib.Core.Path.{_≡_};
 ghost use Prim.Native.Nat.{_≤_};
 ghost use lib.ListN.{length, drop};
+ghost use Rattle.xm.specs.ModuleKind.{normal, stripped};
 ghost use Rattle.xm.specs.Got.{AllHold};
-ghost use Rattle.xm.specs.Instrument.{leastInstrument, instrumentTests, readInstrument};
+ghost use Rattle.xm.specs.Header.{kindAt};
+ghost use Rattle.xm.specs.Instrument.{instrumentTests, readInstrument};
 ghost use Rattle.xm.specs.Module.{fileMost};
 ghost use Rattle.refusal.specs.Test.{firstFault};
 ghost use Rattle.steps.specs.Step.{instrumentHead, instrumentStep, instrumentFault};
 
-// An instrument's I, k and H (0 if there are no samples), the bytes of its pressed form, and where the next one starts.
+// An instrument's I, k and H (0 if there are no samples), and where the next one starts.
 pub struct InstrumentPart {
     pub size: usize,
     pub samples: usize,
     pub head_size: usize,
-    pub pressed: usize,
     pub next: usize,
 }
 
@@ -50,7 +54,7 @@ pub fn fault_of_instrument(step: InstrumentStep) -> Fault
 // present (1).
 fn instrument_fault(file: &[u8], at: usize) -> u32
     requires { ⌜ at ≤ length (now file) ⌝ }
-    ensures { λ r. ⌜ r ≡ firstFault (instrumentTests at (drop at (now (file .entry)))) ⌝ }
+    ensures { λ r. ⌜ r ≡ firstFault (instrumentTests normal at (drop at (now (file .entry)))) ⌝ }
 {
     let left = file.len() - at;
     if left < 29 {
@@ -86,10 +90,47 @@ fn instrument_fault(file: &[u8], at: usize) -> u32
     0
 }
 
+// The same of a stripped one: 4 bytes present (1); I below 4 (10); I bytes present (1); k above 16 (10); all k headers present (1).
+fn stripped_fault(file: &[u8], at: usize) -> u32
+    requires { ⌜ at ≤ length (now file) ⌝ }
+    ensures { λ r. ⌜ r ≡ firstFault (instrumentTests stripped at (drop at (now (file .entry)))) ⌝ }
+{
+    let left = file.len() - at;
+    if left < 4 {
+        return 1;
+    }
+    let size = long(file, at, 0);
+    if size < 4 {
+        return 10;
+    }
+    if left < size {
+        return 1;
+    }
+    let count = word_in(file, at, size, 27);
+    if 16 < count {
+        return 10;
+    }
+    if left < size + count * long_in(file, at, size, 29) {
+        return 1;
+    }
+    0
+}
+
+// Of either kind, as the file says.
+fn fault_in_front(file: &[u8], at: usize) -> u32
+    requires { ⌜ at ≤ length (now file) ⌝ }
+    ensures { λ r. ⌜ r ≡ firstFault (instrumentTests (kindAt (now (file .entry))) at (drop at (now (file .entry)))) ⌝ }
+{
+    if is_stripped(file) {
+        return stripped_fault(file, at);
+    }
+    instrument_fault(file, at)
+}
+
 // The fields of an instrument that passed.
-pub fn instrument_head(file: &[u8], at: usize) -> InstrumentHead
-    requires { ⌜ AllHold (instrumentTests at (drop at (now file))) ⌝ }
-    ensures { λ r. ⌜ r ≡ instrumentHead at (drop at (now (file .entry))) ⌝ }
+fn normal_head(file: &[u8], at: usize) -> InstrumentHead
+    requires { ⌜ AllHold (instrumentTests normal at (drop at (now file))) ⌝ }
+    ensures { λ r. ⌜ r ≡ instrumentHead normal at (drop at (now (file .entry))) ⌝ }
 {
     let heads = at + long(file, at, 0);
     let samples = word(file, at, 27);
@@ -107,19 +148,43 @@ pub fn instrument_head(file: &[u8], at: usize) -> InstrumentHead
     }
 }
 
-// The size of an instrument's fields in a pressed file.
-fn least_size(samples: usize) -> usize
-    ensures { λ r. ⌜ r ≡ leastInstrument samples ⌝ }
+// The same of a stripped one, whose own I may cut off k and H.
+fn stripped_head(file: &[u8], at: usize) -> InstrumentHead
+    requires { ⌜ AllHold (instrumentTests stripped at (drop at (now file))) ⌝ }
+    ensures { λ r. ⌜ r ≡ instrumentHead stripped at (drop at (now (file .entry))) ⌝ }
 {
-    if samples == 0 { 29 } else { 263 }
+    let size = long(file, at, 0);
+    let samples = word_in(file, at, size, 27);
+    if samples == 0 {
+        return InstrumentHead {
+            samples: 0,
+            heads: at + size,
+            head_size: 0,
+        };
+    }
+    InstrumentHead {
+        samples: samples,
+        heads: at + size,
+        head_size: long_in(file, at, size, 29),
+    }
+}
+
+pub fn instrument_head(file: &[u8], at: usize) -> InstrumentHead
+    requires { ⌜ AllHold (instrumentTests (kindAt (now file)) at (drop at (now file))) ⌝ }
+    ensures { λ r. ⌜ r ≡ instrumentHead (kindAt (now (file .entry))) at (drop at (now (file .entry))) ⌝ }
+{
+    if is_stripped(file) {
+        return stripped_head(file, at);
+    }
+    normal_head(file, at)
 }
 
 pub fn read_instrument(file: &[u8], at: usize) -> InstrumentStep
     requires { ⌜ at ≤ length (now file) ⌝ }
     requires { ⌜ length (now file) ≤ fileMost ⌝ }
-    ensures { λ r. ⌜ r ≡ instrumentStep at (readInstrument at (drop at (now (file .entry)))) ⌝ }
+    ensures { λ r. ⌜ r ≡ instrumentStep at (readInstrument (kindAt (now (file .entry))) at (drop at (now (file .entry)))) ⌝ }
 {
-    let fault = instrument_fault(file, at);
+    let fault = fault_in_front(file, at);
     if fault != 0 {
         return InstrumentStep::Refused(Fault {
             number: fault,
@@ -127,17 +192,14 @@ pub fn read_instrument(file: &[u8], at: usize) -> InstrumentStep
         });
     }
     let head = instrument_head(file, at);
-    let count = head.samples;
-    let step = read_samples(file, head.heads, head.head_size, count);
+    let step = read_samples(file, head.heads, head.head_size, head.samples);
     let Step::Next(next) = step else {
         return InstrumentStep::Refused(fault_of(step));
     };
-    let data = head.heads + count * head.head_size;
     InstrumentStep::Read(InstrumentPart {
         size: head.heads - at,
-        samples: count,
+        samples: head.samples,
         head_size: head.head_size,
-        pressed: least_size(count) + 40 * count + (next - data),
         next: next,
     })
 }

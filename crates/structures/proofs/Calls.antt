@@ -8,6 +8,7 @@ use lib.ListN.{length, drop}
 use Rattle.xm.specs.Got.{Got, got, refused}
 use Rattle.xm.specs.Format.{Kind, Region, header, patternHeader, patternData, instrument, sampleHeader, sampleData, All}
 use Rattle.xm.specs.Answer.{Answer, gives, refuses}
+use Rattle.xm.specs.Header.{kindAt}
 use Rattle.xm.specs.PatternInFile.{leastPattern}
 use Rattle.xm.specs.Instrument.{InstrumentFound, readInstrument}
 use Rattle.xm.specs.Module.{fileMost}
@@ -17,7 +18,7 @@ use Rattle.xm.proofs.Got.{no-true}
 use Rattle.structures.specs.declared.Standing.{Standing}
 use Rattle.structures.specs.declared.Reached.{Reached}
 use Rattle.structures.specs.declared.Handed.{Handed}
-use Rattle.structures.specs.Handing.{kindAt, standingOf, standingNumbers, readingNumbers, reachedOf, reachedIn, handing}
+use Rattle.structures.specs.Handing.{standingAt, standingOf, standingNumbers, readingNumbers, reachedOf, reachedIn, handing}
 
 -- How far has been read, there and back
 pub reached-back : (x : Answer structure.Ahead) → reachedIn (reachedOf x) ≡ x
@@ -66,10 +67,10 @@ module _ (file : List ℕ) (a : structure.Ahead) where
       (either (ltb 0 (a .heads)) _ _ (either (leb (a .head + a .headSize) (length file)) (handHead a) (endsAt a) refl tt)
       (either (ltb 0 (a .patterns)) _ _ (either (leb (a .place + leastPattern) (length file)) (handPattern (drop (a .place) file) a) (endsAt a) refl tt)
       (either (ltb 0 (a .instruments)) _ (endsAt a)
-      (either (leb (a .place) (length file)) (handInstrument (readInstrument (a .place) (drop (a .place) file)) a) (endsAt a) (of-instrument (readInstrument (a .place) (drop (a .place) file))) tt) tt)))
+      (either (leb (a .place) (length file)) (handInstrument (readInstrument (kindAt file) (a .place) (drop (a .place) file)) a) (endsAt a) (of-instrument (readInstrument (kindAt file) (a .place) (drop (a .place) file))) tt) tt)))
       tt
 
-kind-told : (kind : Kind) (place : ℕ) → IsStructure kind → standingNumbers (kindAt kind place) ≡ 0 ∷ 0 ∷ kindNumber kind ∷ place ∷ []
+kind-told : (kind : Kind) (place : ℕ) → IsStructure kind → standingNumbers (standingAt kind place) ≡ 0 ∷ 0 ∷ kindNumber kind ∷ place ∷ []
 kind-told header place h = absurd (no-true h)
 kind-told patternHeader place h = refl
 kind-told patternData place h = absurd (no-true h)

@@ -8,7 +8,8 @@ use lib.ListN.{length, drop, replicate, length-replicate}
 use Rattle.xm.specs.Number.{Bytes}
 use Rattle.xm.specs.Got.{got}
 use Rattle.xm.specs.Format.{Region, sampleHeader, sampleData, joined}
-use Rattle.xm.specs.Header.{channelsAt, patternsAt, instrumentsAt, headerEnd}
+use Rattle.xm.specs.ModuleKind.{ModuleKind}
+use Rattle.xm.specs.Header.{channelsAt, patternsAt, instrumentsAt, headerEnd, kindAt}
 use Rattle.xm.specs.PatternInFile.{PatternFound, patternFormat}
 use Rattle.xm.specs.Sample.{Stretch, stretchRegion}
 use Rattle.xm.specs.Instrument.{InstrumentFound, instrumentFormat}
@@ -43,21 +44,21 @@ patterns-count : (ps : List PatternFound) → count (joined (patternFormat .regi
 patterns-count [] = refl
 patterns-count (p ∷ ps) = ap suc (patterns-count ps)
 
-instrument-count : (i : InstrumentFound) → count (instrumentFormat .regions i) ≡ 1 + length (i .samples .0)
-instrument-count i =
+instrument-count : (kind : ModuleKind) (i : InstrumentFound) → count (instrumentFormat kind .regions i) ≡ 1 + length (i .samples .0)
+instrument-count kind i =
     omega (arith, count-append (joined (stretchRegion sampleHeader) (i .samples .0)) (joined (stretchRegion sampleData) (i .samples .1)), heads-count (i .samples .0), data-count (i .samples .1))
 
-instruments-few : (file : List ℕ) → length file ≤ fileMost → Bytes file → (n place end : ℕ) (is : List InstrumentFound) → ReadsFrom instrumentFormat tt file n place is end
-    → count (joined (instrumentFormat .regions) is) ≤ 17 * n
-instruments-few file small bytes zero place end is w = omega (arith, ap (λ (l : List InstrumentFound). count (joined (instrumentFormat .regions) l)) (reads-none instrumentFormat tt file w .0))
+instruments-few : (file : List ℕ) → length file ≤ fileMost → Bytes file → (n place end : ℕ) (is : List InstrumentFound) → ReadsFrom (instrumentFormat (kindAt file)) tt file n place is end
+    → count (joined (instrumentFormat (kindAt file) .regions) is) ≤ 17 * n
+instruments-few file small bytes zero place end is w = omega (arith, ap (λ (l : List InstrumentFound). count (joined (instrumentFormat (kindAt file) .regions) l)) (reads-none (instrumentFormat (kindAt file)) tt file w .0))
 instruments-few file small bytes (suc n) place end is w =
     instruments-next file small bytes w (omega arith) λ i m more ei s ep rest.
     let z : suc n - 1 ≡ n = omega arith in
     omega (
       arith,
-      ap (λ (l : List InstrumentFound). count (joined (instrumentFormat .regions) l)) ep,
-      count-append (instrumentFormat .regions i) (joined (instrumentFormat .regions) more),
-      instrument-count i,
+      ap (λ (l : List InstrumentFound). count (joined (instrumentFormat (kindAt file) .regions) l)) ep,
+      count-append (instrumentFormat (kindAt file) .regions i) (joined (instrumentFormat (kindAt file) .regions) more),
+      instrument-count (kindAt file) i,
       s .counted,
       s .stands .few,
       instruments-few file small bytes n (place + m) end more (rw z at rest),
@@ -74,7 +75,7 @@ structures-few file found end bytes e =
       many,
       length-replicate (patternsAt file) (channelsAt file),
       patterns-count (found .1 .0),
-      count-append (joined (patternFormat .regions) (found .1 .0)) (joined (instrumentFormat .regions) (found .1 .1)),
+      count-append (joined (patternFormat .regions) (found .1 .0)) (joined (instrumentFormat (kindAt file) .regions) (found .1 .1)),
       w .tests .1 .1 .1 .1 .1 .0 .1,
       w .tests .1 .1 .1 .1 .1 .1 .1 .0,
     )

@@ -6,9 +6,10 @@ use mathlib.Core.Path.{_≡_, refl, sym, ap, _∙_}
 use native.Mathlib.Omega.{arith}
 use lib.Dec.{leb}
 use borrow.Author.Tests.{le-leb, lt-leb, lt-ltb, le-ltb}
-use lib.ListN.{length, drop, length-drop}
+use lib.ListN.{length, drop}
 use Rattle.xm.specs.Number.{Bytes}
 use Rattle.xm.specs.Got.{Got, got, refused, accepted}
+use Rattle.xm.specs.Header.{kindAt}
 use Rattle.xm.specs.PatternInFile.{leastPattern}
 use Rattle.xm.specs.Instrument.{InstrumentFound, readInstrument}
 use Rattle.xm.specs.Module.{Found, fileMost, readFile}
@@ -17,17 +18,15 @@ use Rattle.xm.specs.Structure as structure
 use Rattle.xm.specs.Structure.{endsAt, handHead, handPattern, handInstrument, handOver, aheadAtFirst, started}
 use Rattle.xm.proofs.Number.{bytes-drop, word-small, long-small}
 use Rattle.xm.proofs.Answer.{answer-gives, answer-refuses}
-use Rattle.xm.proofs.Instrument.{instrument-keeps}
-use Rattle.xm.proofs.Structure.{instrument-told}
 use Rattle.refusal.specs.declared.Fault.{Fault}
-use Rattle.steps.specs.Step.{instrumentStep}
+use Rattle.steps.specs.Step.{headerPart, patternHead, instrumentStep, InstrumentIs}
 use Rattle.steps.specs.declared.instrument.InstrumentPart.{InstrumentPart}
 use Rattle.steps.specs.declared.instrument.InstrumentStep.{InstrumentStep}
 use Rattle.steps.specs.declared.instrument.InstrumentStep.the-variants as step
+use Rattle.steps.proofs.InstrumentLaws.{as-read, part-lies}
 use Rattle.walk.specs.File.{verdictOf}
 use Rattle.walk.specs.declared.Module.{Module}
 use Rattle.walk.specs.declared.Verdict.the-variants as verdict
-use Rattle.steps.specs.Step.{headerPart, patternHead}
 use Rattle.steps.specs.declared.header.HeaderPart.{HeaderPart}
 use Rattle.steps.specs.declared.pattern.PatternHead.{PatternHead}
 use Rattle.tables.proofs.VerdictLaws.{verdict-got, verdict-refused}
@@ -108,14 +107,8 @@ module _ (ahead : Ahead) where
   instrument-not (got i n) e told = read-never (sym e ∙ told)
   instrument-not (refused r) e told = refl
 
-pub part-fits : (file : List ℕ) (place : ℕ) → Bytes file → {part : InstrumentPart} → step.Read part ≡ instrumentStep place (readInstrument place (drop place file)) → place + part .size ≤ length file
-part-fits file place bytes {part} e = go (readInstrument place (drop place file)) refl e
-  where
-    go : (g : Got InstrumentFound) → readInstrument place (drop place file) ≡ g → step.Read part ≡ instrumentStep place g → place + part .size ≤ length file
-    go (got i n) q e =
-        let t = instrument-told place (drop place file) i n q in
-        omega (arith, ap InstrumentPart.size (ap (partIn part) e), t .fits, t .some, length-drop place file, instrument-keeps .keeps place (drop place file) i n (bytes-drop place bytes) q .inside)
-    go (refused r) q e = read-never e
+pub part-fits : (file : List ℕ) (place : ℕ) {part : InstrumentPart} → InstrumentIs file place part → place + part .size ≤ length file
+part-fits file place e = part-lies file (kindAt file) place (as-read file (kindAt file) place e) .there
 
 -- One call, by the tests in their order
 module _ (file : List ℕ) (ahead : Ahead) where
@@ -137,7 +130,7 @@ module _ (file : List ℕ) (ahead : Ahead) where
 
       module _ (no-patterns : ahead .patterns ≤ 0) where
         pub over-instrument : 0 < ahead .instruments → {h : Handed}
-            → h ≡ handedOf (cond (leb (ahead .place) (length file)) (handInstrument (readInstrument (ahead .place) (drop (ahead .place) file)) (aheadIn ahead)) (endsAt (aheadIn ahead))) → h ≡ handedOf (handOver file (aheadIn ahead))
+            → h ≡ handedOf (cond (leb (ahead .place) (length file)) (handInstrument (readInstrument (kindAt file) (ahead .place) (drop (ahead .place) file)) (aheadIn ahead)) (endsAt (aheadIn ahead))) → h ≡ handedOf (handOver file (aheadIn ahead))
         unfolding handOver
         over-instrument l e = rw (le-leb (length file) fileMost small, le-ltb 0 (ahead .heads) no-heads, le-ltb 0 (ahead .patterns) no-patterns, lt-ltb 0 (ahead .instruments) l) e
 

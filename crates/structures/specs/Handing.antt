@@ -14,16 +14,16 @@ use Rattle.structures.specs.declared.Reached.the-variants as reached
 use Rattle.structures.specs.declared.Handed.{Handed}
 
 -- Of the regions only these three kinds are structures.
-abbrev pub kindAt : Kind → (place : ℕ) → Standing
-kindAt header place = standing.End
-kindAt patternHeader place = standing.Pattern place
-kindAt patternData place = standing.End
-kindAt instrument place = standing.Instrument place
-kindAt sampleHeader place = standing.SampleHeader place
-kindAt sampleData place = standing.End
+abbrev pub standingAt : Kind → (place : ℕ) → Standing
+standingAt header place = standing.End
+standingAt patternHeader place = standing.Pattern place
+standingAt patternData place = standing.End
+standingAt instrument place = standing.Instrument place
+standingAt sampleHeader place = standing.SampleHeader place
+standingAt sampleData place = standing.End
 
 abbrev pub standingIn : structure.Standing → Standing
-standingIn (structure.stands kind place) = kindAt kind place
+standingIn (structure.stands kind place) = standingAt kind place
 standingIn structure.ended = standing.End
 
 abbrev pub standingOf : Answer structure.Standing → Standing

@@ -12,6 +12,7 @@ ghost use mathlib.Core.Bool.{cond};
 ghost use Prim.Native.Nat.{_+_, _≤_, _<_};
 ghost use lib.Dec.{leb};
 ghost use lib.ListN.{length, drop};
+ghost use Rattle.xm.specs.Header.{kindAt};
 ghost use Rattle.xm.specs.PatternInFile.{leastPattern};
 ghost use Rattle.xm.specs.Instrument.{readInstrument};
 ghost use Rattle.xm.specs.Module.{fileMost};
@@ -110,11 +111,12 @@ fn hand_pattern(file: &[u8], ahead: Ahead) -> Handed
     with_ahead(Standing::Pattern(place), next)
 }
 
-// An instrument, by the step that the check makes: its fields, and its sample headers, of which there are at most 16.
+// An instrument, by the step that the check makes: its fields, and its sample headers, of which there are at most 16. With H = 0 they stand at
+// one place, and are counted.
 fn hand_instrument(file: &[u8], ahead: Ahead) -> Handed
     requires { ⌜ length (now file) ≤ fileMost ⌝ }
     requires { ⌜ 0 < ahead .instruments ⌝ }
-    ensures { λ r. ⌜ r ≡ handedOf (cond (leb (ahead .place) (length (now (file .entry)))) (handInstrument (readInstrument (ahead .place) (drop (ahead .place) (now (file .entry)))) (aheadIn ahead)) (endsAt (aheadIn ahead))) ⌝ }
+    ensures { λ r. ⌜ r ≡ handedOf (cond (leb (ahead .place) (length (now (file .entry)))) (handInstrument (readInstrument (kindAt (now (file .entry))) (ahead .place) (drop (ahead .place) (now (file .entry)))) (aheadIn ahead)) (endsAt (aheadIn ahead))) ⌝ }
 {
     let place = ahead.place;
     if file.len() < place {

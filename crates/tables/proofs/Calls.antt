@@ -5,17 +5,21 @@ use mathlib.Core.Path.{_≡_, refl, sym, ap, _∙_}
 use native.Mathlib.Omega.{arith}
 use lib.IntN.{ℤ}
 use lib.ListN.{length, getD, drop}
-use Rattle.xm.specs.Number.{Bytes, byteAt, longAt, part}
-use Rattle.xm.specs.Format.{joined}
+use Rattle.xm.specs.Number.{Bytes, byteAt, part}
+use Rattle.xm.specs.ModuleKind.{normal}
+use Rattle.xm.specs.Format.{sampleHeader, joined}
 use Rattle.xm.specs.Answer.{Answer, gives, refuses}
 use Rattle.xm.specs.Stored.{Pattern, emptyRows}
 use Rattle.xm.specs.Packing.{cellBytes, unpacking}
 use Rattle.xm.specs.Adpcm.{decodingBy, valuesOf}
+use Rattle.xm.specs.Sample.{leastHead, headBytes, lengthOf, kindOf}
+use Rattle.xm.specs.Module.{regionsOf}
 use Rattle.xm.specs.Press.{contentOf}
 use Rattle.xm.specs.Table.{PatternRow, patternRows, sampleRows, Checked, checkIntoNumbers, checkingInto, patternStride, sampleStride, patternNumbers, sampleNumbers, Tables, Room, roomOf, tablesAfter}
 use Rattle.xm.specs.Asking.{stretchOf, askingFlat, noRow}
+use Rattle.xm.specs.Region.{ofKind}
 use Rattle.xm.specs.Demands.{headsIn, bytesIn, RowUnpacks, RowsUnpack, LoopReads, AcceptedFile, liesAt}
-use Rattle.xm.proofs.Accepted.{accepted-files, number-at, loop-at, decodes-at}
+use Rattle.xm.proofs.Accepted.{accepted-files, number-at, nowhere, loop-at, decodes-at, normal-byte}
 use Rattle.refusal.specs.declared.Fault.{Fault}
 use Rattle.walk.specs.declared.Verdict.{Verdict}
 use Rattle.walk.specs.declared.Verdict.the-variants.{Refused}
@@ -52,9 +56,12 @@ unpacks-at file channels (r ∷ rs) [] row p number low u = absurd u
 unpacks-at file channels (r ∷ rs) (q ∷ qs) row p zero low u = u .0
 unpacks-at file channels (r ∷ rs) (q ∷ qs) row p (suc number) low u = unpacks-at file channels rs qs row p number (omega arith) (u .1)
 
--- The content's header of a sample, and its values
+-- The content's header of a sample, H, and its values
 abbrev pub headAt : Checked → (number : ℕ) → List ℕ
 headAt c number = getD (headsIn (contentOf (c .found))) number []
+
+abbrev pub headSizeAt : Checked → (number : ℕ) → ℕ
+headSizeAt c number = getD (ofKind sampleHeader (regionsOf (c .found))) number nowhere .size
 
 abbrev pub valuesAt : Checked → (number : ℕ) → List ℤ
 valuesAt c number = valuesOf (headAt c number) (getD (bytesIn (contentOf (c .found))) number [])
@@ -72,7 +79,8 @@ module _ (file : List ℕ) (plain : Bytes file) (lent : Tables) (c : Checked) (a
   unfolding tablesAfter
   filled-asked number low = rw accepted (found .asked .flat (drop (length (joined sampleNumbers (sampleRows (c .found)))) (lent .samples)) number low)
 
-  -- which decodes to the content's values, at the row's width, by the kind and the length that stand at the row's header place,
+  -- which decodes to the content's values, at the row's width, by the kind and the length of the header that is read at the row's header place, as
+  -- far as its region goes
   abbrev pub sampleNumber : (number k : ℕ) → ℕ
   sampleNumber number k = getD (filled .samples) (sampleStride * number + k) 0
 
@@ -83,14 +91,22 @@ module _ (file : List ℕ) (plain : Bytes file) (lent : Tables) (c : Checked) (a
       let rows = sampleRows (c .found) in
       rw accepted (number-at sampleStride sampleNumbers (λ row. refl) rows noRow (drop (length (joined sampleNumbers rows)) (lent .samples)) number k low l)
 
+  abbrev pub headRead : (number : ℕ) → List ℕ
+  headRead number = headBytes (headSizeAt c number) (drop (sampleNumber number 0) file)
+
   pub filled-decodes : (number : ℕ) → number < length (sampleRows (c .found))
-      → decodingBy (byteAt (sampleNumber number 0 + 17) file) (longAt (sampleNumber number 0) file) (sampleNumber number 3) (stretchOf file (askingFlat file (filled .samples) number)) (length (valuesAt c number))
+      → decodingBy (kindOf (headRead number)) (lengthOf (headRead number)) (sampleNumber number 3) (stretchOf file (askingFlat file (filled .samples) number)) (length (valuesAt c number))
       ≡ gives (valuesAt c number)
   filled-decodes number low =
       rw (filled-asked number low, sample-number number 0 low (omega arith), sample-number number 3 low (omega arith))
       (decodes-at file (c .found) (c .end) found number low (length (valuesAt c number)) (omega arith))
 
-  -- whose row has its header's loop, in samples, within these values,
+  -- and whole in a normal module;
+  pub filled-whole : c .found .0 .kind ≡ normal → (number : ℕ) → number < length (sampleRows (c .found)) → (k : ℕ) → k < leastHead
+      → byteAt k (headRead number) ≡ byteAt (sampleNumber number 0 + k) file
+  filled-whole q number low k l = rw (sample-number number 0 low (omega arith)) (normal-byte file (c .found) (c .end) found number low q k l)
+
+  -- its row has its header's loop, in samples, within these values;
   pub filled-loops : (number : ℕ) → number < length (sampleRows (c .found))
       → LoopReads (headAt c number) (sampleNumber number 3) (sampleNumber number 4) (sampleNumber number 5) (sampleNumber number 6)
       × (sampleNumber number 5 + sampleNumber number 6 ≤ length (valuesAt c number))

@@ -13,7 +13,7 @@ use Rattle.xm.specs.Got.{Got, got, refused, AllHold, listIn, accepted}
 use Rattle.xm.specs.Format.{joined}
 use Rattle.xm.specs.Answer.{inFront}
 use Rattle.xm.specs.Lay.{lay}
-use Rattle.xm.specs.Header.{instrumentsAt, patternsAt, headerEnd}
+use Rattle.xm.specs.Header.{instrumentsAt, patternsAt, headerEnd, kindAt}
 use Rattle.xm.specs.PatternInFile.{PatternFound}
 use Rattle.xm.specs.Instrument.{samplesMost, instrumentTests, InstrumentFound, instrumentFormat}
 use Rattle.xm.specs.Module.{Found, fileMost, readFile}
@@ -21,12 +21,12 @@ use Rattle.xm.specs.Table.{SampleRow, patternRow, patternRows, sampleCount, ins
 use Rattle.xm.specs.Asking.{noRow}
 use Rattle.xm.proofs.Lay.{Laid, laid-none, laid-more, laid-done}
 use Rattle.tables.specs.Accepted.{ReadsFrom, InstrumentsFrom}
-use Rattle.steps.specs.Step.{patternHead, instrumentHead}
+use Rattle.steps.specs.Step.{patternHead}
 use Rattle.tables.specs.Place.{dataEnd, Stands}
 use Rattle.steps.specs.declared.pattern.PatternHead.{PatternHead}
 use Rattle.steps.specs.declared.instrument.InstrumentHead.{InstrumentHead}
 use Rattle.tables.proofs.Reading.{accepted-small, accepted-header, reads-none}
-use Rattle.tables.proofs.InstrumentLaws.{InstrumentStands, instruments-next}
+use Rattle.tables.proofs.InstrumentLaws.{instrumentAt, InstrumentStands, instruments-next}
 use Rattle.tables.proofs.PlaceLoops.{Skipping, PatternFits, skipping-start, skipping-on, skipping-end}
 
 -- A piece is laid, where the writer stands
@@ -92,7 +92,7 @@ pub record FillingInstruments (file lent out : List ℕ) (left place first to : 
   pub small : length file ≤ fileMost
   pub parts : List InstrumentFound
   pub end : ℕ
-  pub reads : ReadsFrom instrumentFormat tt file left place parts end
+  pub reads : ReadsFrom (instrumentFormat (kindAt file)) tt file left place parts end
   pub few : first + samplesMost * left ≤ samplesMost * 128
   pub laid : Laid lent (instrumentGoal file) out to (joined instrumentNumbers (instrumentRowsFrom first parts))
 
@@ -111,16 +111,16 @@ module _ (file lent : List ℕ) where
   module _ {out : List ℕ} {left place first to : ℕ} (w : FillingInstruments file lent out left place first to) where
     pub instruments-done : left ≡ 0 → out ≡ inFront (instrumentGoal file) lent
     instruments-done z =
-        laid-done (w .laid) (ap (λ (l : List InstrumentFound). joined instrumentNumbers (instrumentRowsFrom first l)) (reads-none instrumentFormat tt file (rw z at (w .reads)) .0))
+        laid-done (w .laid) (ap (λ (l : List InstrumentFound). joined instrumentNumbers (instrumentRowsFrom first l)) (reads-none (instrumentFormat (kindAt file)) tt file (rw z at (w .reads)) .0))
 
     module _ (bytes : Bytes file) (l : 0 < left) where
-      pub instruments-tests : AllHold (instrumentTests place (drop place file))
+      pub instruments-tests : AllHold (instrumentTests (kindAt file) place (drop place file))
       instruments-tests = instruments-next file (w .small) bytes (w .reads) l λ i n more ei s ep rest. s .tests
 
       pub instruments-place : place ≤ length file
       instruments-place = instruments-next file (w .small) bytes (w .reads) l λ i n more ei s ep rest. omega (arith, s .inside)
 
-      module _ {x : InstrumentHead} (e : x ≡ instrumentHead place (drop place file)) where
+      module _ {x : InstrumentHead} (e : x ≡ instrumentAt file place) where
         pub instruments-stands : Stands file x
         instruments-stands = instruments-next file (w .small) bytes (w .reads) l λ i n more ei s ep rest. rw e (s .stands)
 

@@ -6,20 +6,25 @@ use native.Mathlib.Nat.{zero-mul}
 use native.Mathlib.Omega.{arith}
 use lib.ListN.{length, drop, replicate, length-drop, length-replicate}
 use lib.Seq.{drop-drop}
-use borrow.Author.Tests.{lt-ltb}
-use Rattle.xm.specs.Number.{Bytes, byteAt, part}
+use Rattle.xm.specs.Number.{Bytes}
+use Rattle.xm.specs.ModuleKind.{ModuleKind}
 use Rattle.xm.specs.Got.{got, AllHold}
 use Rattle.xm.specs.Format.{each}
+use Rattle.xm.specs.Header.{kindAt}
 use Rattle.xm.specs.Sample.{headBytes, dataSize, Stretch, readHead, readData, headFormat, dataFormat, SamplesFound}
-use Rattle.xm.specs.Instrument.{instrumentSizeAt, countAt, headerSizeAt, instrumentTests, InstrumentFound, voiceOf, readInstrument, instrumentFormat}
+use Rattle.xm.specs.Instrument.{instrumentSizeAt, countAt, headerSizeAt, fieldsOf, instrumentTests, InstrumentFound, readInstrument, instrumentFormat}
 use Rattle.xm.specs.Module.{fileMost}
 use Rattle.xm.specs.Table.{sampleCount, sampleRowAt, sampleRow, sampleRowsOf, sampleRowsIn}
 use Rattle.xm.proofs.Number.{bytes-drop}
 use Rattle.xm.proofs.Got.{passed, bind-got, got-value, got-used, got-carry}
 use Rattle.xm.proofs.Format.{cons-path, read-length}
-use Rattle.xm.proofs.Instrument.{heads-used, instrument-keeps}
+use Rattle.xm.proofs.Instrument.{heads-used}
+use Rattle.xm.proofs.Stripped.{instrument-keeps}
+use Rattle.xm.proofs.Structure.{some-size}
 use Rattle.tables.specs.Accepted.{ReadsFrom}
 use Rattle.steps.specs.Step.{headSizeOf, instrumentHead}
+use Rattle.steps.specs.declared.instrument.InstrumentHead.{InstrumentHead}
+use Rattle.steps.proofs.InstrumentLaws.{fields-pass, found}
 use Rattle.tables.specs.Place.{dataBefore, dataStart, dataEnd, Stands, rowsFrom}
 use Rattle.tables.proofs.Reading.{reads-next}
 
@@ -71,15 +76,7 @@ samples-read (suc k) H place bytesPlace s t heads bytes n m eh ed =
     got-carry (λ (ds : List Stretch) (u : ℕ). SamplesRead (suc k) H place bytesPlace s (h ∷ hs) ds u) e₄
     (samples-more k H place bytesPlace s t h d hs ds a c f ea ec (samples-read k H (place + a) (bytesPlace + c) (drop a s) (drop c t) hs ds b f eb ef))) ed
 
--- H of an instrument that has samples; of one that has none it does not matter
-pub size-none : (k : ℕ) (s : List ℕ) → k ≡ 0 → headSizeOf k s ≡ 0
-size-none zero s h = refl
-size-none (suc k) s h = absurd (omega arith)
-
-pub size-some : (k : ℕ) (s : List ℕ) → 0 < k → headSizeOf k s ≡ headerSizeAt s
-size-some zero s h = absurd (omega arith)
-size-some (suc k) s h = refl
-
+-- Of an instrument without samples no H matters
 size-times : (k : ℕ) (s : List ℕ) → k * headSizeOf k s ≡ k * headerSizeAt s
 size-times zero s = zero-mul 0 ∙ sym (zero-mul (headerSizeAt s))
 size-times (suc k) s = refl
@@ -94,48 +91,55 @@ unfolding rowsFrom
 size-rows zero s place bytesPlace t = refl
 size-rows (suc k) s place bytesPlace t = refl
 
+-- What the fields at a place tell, in a file of its own kind
+abbrev pub instrumentAt : (file : List ℕ) (place : ℕ) → InstrumentHead
+instrumentAt file place = instrumentHead (kindAt file) place (drop place file)
+
 -- An instrument's fields stand in the file, its rows are those of its sample headers, and the next structure starts behind their data
 pub record InstrumentStands (file : List ℕ) (place : ℕ) (i : InstrumentFound) (n : ℕ) : Type 0 where
-  pub tests : AllHold (instrumentTests place (drop place file))
-  pub stands : Stands file (instrumentHead place (drop place file))
+  pub tests : AllHold (instrumentTests (kindAt file) place (drop place file))
+  pub stands : Stands file (instrumentAt file place)
   pub starts : i .place ≡ place
-  pub counted : sampleCount i ≡ countAt (drop place file)
-  pub rows : let x = instrumentHead place (drop place file) in sampleRowsIn i ≡ rowsFrom (x .samples) (x .«head_size») (x .heads) (dataStart x) (drop (x .heads) file)
-  pub next : place + n ≡ dataEnd file (instrumentHead place (drop place file))
-  pub some : 1 ≤ n
+  pub counted : sampleCount i ≡ instrumentAt file place .samples
+  pub rows : let x = instrumentAt file place in sampleRowsIn i ≡ rowsFrom (x .samples) (x .«head_size») (x .heads) (dataStart x) (drop (x .heads) file)
+  pub next : place + n ≡ dataEnd file (instrumentAt file place)
+  pub behind : place < instrumentAt file place .heads
   pub inside : place + n ≤ length file
 
 module _ (file : List ℕ) (place : ℕ) where
   abbrev from : List ℕ
   from = drop place file
 
+  abbrev kind : ModuleKind
+  kind = kindAt file
+
+  abbrev fields : List ℕ
+  fields = fieldsOf kind from
+
   abbrev I : ℕ
   I = instrumentSizeAt from
 
   abbrev k : ℕ
-  k = countAt from
+  k = countAt fields
 
   abbrev H : ℕ
-  H = headerSizeAt from
-
-  abbrev made : SamplesFound → InstrumentFound
-  made v = record { place = place; size = I; name = part 4 22 from; type = byteAt 26 from; voice = voiceOf k from; samples = v }
+  H = headerSizeAt fields
 
   stands-rows : {hs ds : List Stretch} {b : ℕ} → SamplesRead k H (place + I) (place + I + k * H) (drop I from) hs ds b
-      → sampleRowsOf hs ds ≡ rowsFrom k (headSizeOf k from) (place + I) (place + I + k * headSizeOf k from) (drop (place + I) file)
+      → sampleRowsOf hs ds ≡ rowsFrom k (headSizeOf k fields) (place + I) (place + I + k * headSizeOf k fields) (drop (place + I) file)
   stands-rows w =
       w .rows
-      ∙ rows-path k H refl (ap (λ (n : ℕ). place + I + n) (sym (size-times k from))) (drop-drop I place file)
-      ∙ sym (size-rows k from (place + I) (place + I + k * headSizeOf k from) (drop (place + I) file))
+      ∙ rows-path k H refl (ap (λ (n : ℕ). place + I + n) (sym (size-times k fields))) (drop-drop I place file)
+      ∙ sym (size-rows k fields (place + I) (place + I + k * headSizeOf k fields) (drop (place + I) file))
 
   stands-next : {hs ds : List Stretch} {b : ℕ} → SamplesRead k H (place + I) (place + I + k * H) (drop I from) hs ds b
-      → place + (I + (k * H + b)) ≡ dataEnd file (instrumentHead place from)
+      → place + (I + (k * H + b)) ≡ dataEnd file (instrumentAt file place)
   stands-next w =
-      let last : dataBefore k (headSizeOf k from) (drop (place + I) file) ≡ dataBefore k H (drop I from) =
-      size-before k from (drop (place + I) file) ∙ ap (dataBefore k H) (sym (drop-drop I place file)) in
-      omega (arith, w .long, last, size-times k from)
+      let last : dataBefore k (headSizeOf k fields) (drop (place + I) file) ≡ dataBefore k H (drop I from) =
+      size-before k fields (drop (place + I) file) ∙ ap (dataBefore k H) (sym (drop-drop I place file)) in
+      omega (arith, w .long, last, size-times k fields)
 
-  pub instrument-stands : length file ≤ fileMost → Bytes file → (i : InstrumentFound) (n : ℕ) → readInstrument place from ≡ got i n → InstrumentStands file place i n
+  pub instrument-stands : length file ≤ fileMost → Bytes file → (i : InstrumentFound) (n : ℕ) → readInstrument kind place from ≡ got i n → InstrumentStands file place i n
   unfolding readInstrument
   instrument-stands small bytes i n e =
       passed _ _ e λ h e₁. bind-got _ _ e₁ λ v m ev e₂. bind-got _ _ ev λ hs a eh e₃. bind-got _ _ e₃ λ ds b ed e₄.
@@ -143,30 +147,27 @@ module _ (file : List ℕ) (place : ℕ) where
       let read = samples-read k H (place + I) (place + I + a) (drop I from) (drop a (drop I from)) hs ds a b eh ed in
       let w : SamplesRead k H (place + I) (place + I + k * H) (drop I from) hs ds b = rw used at read in
       let next = stands-next w in
+      let pass = fields-pass kind place from h in
+      let some = some-size kind place from h in
       let inside : place + (I + (k * H + b)) ≤ length file =
-      omega (arith, h .1 .0, used, got-used e₂, got-used e₄, length-drop place file, instrument-keeps .keeps place from i n (bytes-drop place bytes) e .inside) in
+      omega (arith, some, used, got-used e₂, got-used e₄, length-drop place file, instrument-keeps kind .keeps place from i n (bytes-drop place bytes) e .inside) in
       got-carry (λ (r : InstrumentFound) (t : ℕ). InstrumentStands file place r t) e₂
-      (got-carry (λ (v : SamplesFound) (t : ℕ). InstrumentStands file place (made v) (I + t)) e₄
+      (got-carry (λ (v : SamplesFound) (t : ℕ). InstrumentStands file place (found file kind place v) (I + t)) e₄
       (record {
         tests = h;
-        stands = record {
-          small = small;
-          few = h .1 .1 .0;
-          wide = λ l. rw (size-some k from l) (h .1 .1 .1 .1 .1 .0 (lt-ltb 0 k l));
-          inside = omega (arith, next);
-        };
+        stands = record { small = small; few = pass .few; inside = omega (arith, next) };
         starts = refl;
         counted = read-length headFormat (replicate k H) (place + I) (drop I from) hs a eh ∙ length-replicate k H;
         rows = stands-rows w;
         next = omega (arith, used, next);
-        some = omega (arith, h .1 .0);
+        behind = omega (arith, some);
         inside = omega (arith, used);
       }))
 
 -- The first of the instruments that are left
 pub instruments-next : {R : Type 0} (file : List ℕ) → length file ≤ fileMost → Bytes file → {count place end : ℕ} {parts : List InstrumentFound}
-    → ReadsFrom instrumentFormat tt file count place parts end → 0 < count
-    → ((i : InstrumentFound) (n : ℕ) (more : List InstrumentFound) → readInstrument place (drop place file) ≡ got i n → InstrumentStands file place i n → parts ≡ i ∷ more
-    → ReadsFrom instrumentFormat tt file (count - 1) (place + n) more end → R) → R
-instruments-next file small bytes {place = place} w l k = reads-next instrumentFormat tt file w l λ i n more ei ep rest.
+    → ReadsFrom (instrumentFormat (kindAt file)) tt file count place parts end → 0 < count
+    → ((i : InstrumentFound) (n : ℕ) (more : List InstrumentFound) → readInstrument (kindAt file) place (drop place file) ≡ got i n → InstrumentStands file place i n → parts ≡ i ∷ more
+    → ReadsFrom (instrumentFormat (kindAt file)) tt file (count - 1) (place + n) more end → R) → R
+instruments-next file small bytes {place = place} w l k = reads-next (instrumentFormat (kindAt file)) tt file w l λ i n more ei ep rest.
     k i n more ei (instrument-stands file place small bytes i n ei) ep rest

@@ -10,7 +10,7 @@ use lib.ListN.{length, length-map, length-replicate, replicate, drop}
 use Rattle.xm.specs.Got.{Refusal, got, _at_, listIn, accepted}
 use Rattle.xm.specs.Format.{joined}
 use Rattle.xm.specs.Answer.{Answer, gives, refuses, inFront}
-use Rattle.xm.specs.Header.{Header, channelsAt, patternsAt, instrumentsAt, headerEnd}
+use Rattle.xm.specs.Header.{Header, channelsAt, patternsAt, instrumentsAt, headerEnd, kindAt}
 use Rattle.xm.specs.PatternInFile.{patternFormat}
 use Rattle.xm.specs.Instrument.{InstrumentFound, instrumentFormat}
 use Rattle.xm.specs.Module.{Found, readFile}
@@ -57,7 +57,7 @@ rows-counted file found end e {x} v =
           ∙ sym (ap Module.patterns same ∙ ap Header.patterns (w .header));
       instruments =
           rows-from 0 (found .1 .1)
-          ∙ read-length instrumentFormat (replicate (instrumentsAt file) tt) (w .from) (drop (w .from) file) (found .1 .1) _ (w .instruments .reads)
+          ∙ read-length (instrumentFormat (kindAt file)) (replicate (instrumentsAt file) tt) (w .from) (drop (w .from) file) (found .1 .1) _ (w .instruments .reads)
           ∙ length-replicate (instrumentsAt file) tt
           ∙ sym (ap Module.instruments same ∙ ap Header.instruments (w .header));
       samples = sym (ap Module.samples same);

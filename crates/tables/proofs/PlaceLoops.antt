@@ -75,7 +75,7 @@ times-step (suc left) size l = let z : suc left - 1 ≡ left = omega arith in rw
 
 -- The samples that are left of an instrument: all of them, and those behind the next one
 pub left-start : (file : List ℕ) (x : InstrumentHead) → Stands file x → Left file (x .«head_size») (dataEnd file x) (x .samples) (x .heads) (dataStart x)
-left-start file x w = record { same = refl; fits = omega (arith, w .inside); wide = w .wide; inside = w .inside }
+left-start file x w = record { same = refl; fits = omega (arith, w .inside); inside = w .inside }
 
 module _ (file : List ℕ) (size end : ℕ) {left head place : ℕ} (w : Left file size end left head place) where
   pub left-end : left ≡ 0 → place ≡ end
@@ -90,6 +90,5 @@ module _ (file : List ℕ) (size end : ℕ) {left head place : ℕ} (w : Left fi
     left-on e = record {
       same = omega (arith, w .same, e, before-step left size (drop head file) l, ap (dataBefore (left - 1) size) (drop-drop size head file));
       fits = omega (arith, w .fits, times-step left size l);
-      wide = λ h. w .wide l;
       inside = w .inside;
     }

@@ -9,7 +9,7 @@ use lib.ListN.{length, drop, replicate}
 use lib.Seq.{drop-drop}
 use Rattle.xm.specs.Got.{Got, got, refused, AllHold, listIn, accepted}
 use Rattle.xm.specs.Format.{Format, each, eachRead}
-use Rattle.xm.specs.Header.{headerOf, HeaderFound, headerTests, channelsAt, patternsAt, instrumentsAt, headerEnd, readHeader}
+use Rattle.xm.specs.Header.{headerOf, HeaderFound, headerTests, channelsAt, patternsAt, instrumentsAt, headerEnd, kindAt, readHeader}
 use Rattle.xm.specs.PatternInFile.{PatternFound, patternFormat}
 use Rattle.xm.specs.Instrument.{InstrumentFound, instrumentFormat}
 use Rattle.xm.specs.Module.{Found, patternsFor, instrumentsFor, moduleFormat, fileMost, readFile}
@@ -37,25 +37,25 @@ module _ {H I A : Type 0} (F : Format H I A) (h : H) (file : List ℕ) where
       let z : suc count - 1 ≡ count = omega arith in
       k i n more ei (sym (got-value e)) (record { used = m; reads = rw (z, ← drop-drop n place file) em; ends = omega (arith, got-used e, w .ends) })
 
--- A whole file: its header's tests, its patterns and its instruments
+-- A whole file, of its own kind: its header's tests, its patterns and its instruments
 pub record FileReads (file : List ℕ) (found : Found) : Type 0 where
   pub small : length file ≤ fileMost
-  pub tests : AllHold (headerTests 0 file)
-  pub header : found .0 .content ≡ headerOf file
+  pub tests : AllHold (headerTests (kindAt file) 0 file)
+  pub header : found .0 .content ≡ headerOf (kindAt file) file
   pub from : ℕ
   pub end : ℕ
   pub patterns : ReadsFrom patternFormat (channelsAt file) file (patternsAt file) (headerEnd file) (found .1 .0) from
-  pub instruments : ReadsFrom instrumentFormat tt file (instrumentsAt file) from (found .1 .1) end
+  pub instruments : ReadsFrom (instrumentFormat (kindAt file)) tt file (instrumentsAt file) from (found .1 .1) end
 
 pub file-reads : (file : List ℕ) (found : Found) (end : ℕ) → readFile file ≡ got found end → FileReads file found
 unfolding readHeader
 file-reads file found end e =
-    whole-read moduleFormat file found end e λ small e.
-    bind-got (readHeader 0 file) _ e λ i n eh e₁. bind-got _ _ e₁ λ v m ev e₂.
+    whole-read (moduleFormat (kindAt file)) file found end e λ small e.
+    bind-got (readHeader (kindAt file) 0 file) _ e λ i n eh e₁. bind-got _ _ e₁ λ v m ev e₂.
     bind-got _ _ ev λ ps k ep e₃. bind-got _ _ e₃ λ is j ei e₄.
     passed _ _ eh λ tests eh.
     let patterns = got-carry (λ (i : HeaderFound) (n : ℕ). each patternFormat .read (patternsFor (i .content)) (0 + n) (drop n file) ≡ got ps k) (sym eh) ep in
-    let instruments = got-carry (λ (i : HeaderFound) (n : ℕ). each instrumentFormat .read (instrumentsFor (i .content) []) (0 + n + k) (drop k (drop n file)) ≡ got is j) (sym eh) ei in
+    let instruments = got-carry (λ (i : HeaderFound) (n : ℕ). each (instrumentFormat (kindAt file)) .read (instrumentsFor (i .content) []) (0 + n + k) (drop k (drop n file)) ≡ got is j) (sym eh) ei in
     got-carry (λ (r : Found) (u : ℕ). FileReads file r) e₂
     (got-carry (λ (r : List PatternFound × List InstrumentFound) (u : ℕ). FileReads file (i, r)) e₄
     (record {
@@ -73,5 +73,5 @@ module _ (file : List ℕ) (h : accepted (readFile file) ≡ true) where
   pub accepted-small : length file ≤ fileMost
   accepted-small = accepted-got (readFile file) h λ found end e. file-reads file found end e .small
 
-  pub accepted-header : AllHold (headerTests 0 file)
+  pub accepted-header : AllHold (headerTests (kindAt file) 0 file)
   accepted-header = accepted-got (readFile file) h λ found end e. file-reads file found end e .tests

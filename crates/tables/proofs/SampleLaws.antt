@@ -11,20 +11,20 @@ use lib.Seq.{drop-cons, drop-drop}
 use Rattle.xm.specs.Number.{Bytes}
 use Rattle.xm.specs.Got.{Got, got, refused, AllHold, listIn}
 use Rattle.xm.specs.Format.{joined}
-use Rattle.xm.specs.Sample.{leastHead, headBytes, inSamples, dataSize}
+use Rattle.xm.specs.Header.{kindAt}
+use Rattle.xm.specs.Sample.{headBytes, inSamples, dataSize}
 use Rattle.xm.specs.Instrument.{InstrumentFound, instrumentFormat, instrumentTests}
 use Rattle.xm.specs.Module.{Found, fileMost, readFile}
 use Rattle.xm.specs.Table as row
 use Rattle.xm.specs.Table.{sampleRowAt, sampleRowsIn, sampleRows}
 use Rattle.xm.specs.Asking.{noRow}
 use Rattle.tables.specs.Accepted.{ReadsFrom, InstrumentsFrom}
-use Rattle.steps.specs.Step.{instrumentHead}
 use Rattle.tables.specs.Place.{dataBefore, dataStart, Stands, rowsFrom}
 use Rattle.tables.specs.Sought.{Seeks, soughtFrom}
 use Rattle.steps.specs.declared.instrument.InstrumentHead.{InstrumentHead}
 use Rattle.tables.specs.declared.sample.SampleRow.{SampleRow}
 use Rattle.tables.proofs.Reading.{accepted-small, some-accepted, reads-none}
-use Rattle.tables.proofs.InstrumentLaws.{InstrumentStands, instruments-next}
+use Rattle.tables.proofs.InstrumentLaws.{instrumentAt, InstrumentStands, instruments-next}
 use Rattle.tables.proofs.PlaceLoops.{left-start, left-room, left-on, left-end}
 
 -- The row by its fields
@@ -41,7 +41,6 @@ samples-few false n = omega arith
 -- The next sample that is left of an instrument lies in the file, and so does what is behind it
 pub record SampleFits (file : List ℕ) (head size place : ℕ) : Type 0 where
   pub small : length file ≤ fileMost
-  pub header : head + leastHead ≤ length file
   pub bytes : place ≤ length file
   pub next-head : head + size ≤ length file
   pub next-bytes : place + dataSize (headBytes size (drop head file)) ≤ length file
@@ -59,10 +58,10 @@ rows-in (got found end) = refl
 rows-in (refused r) = refl
 
 -- Where a row is to come, there is an instrument
-some-instrument : {R : Type 0} (file : List ℕ) → length file ≤ fileMost → Bytes file → {count place end : ℕ} {parts : List InstrumentFound} → ReadsFrom instrumentFormat tt file count place parts end
+some-instrument : {R : Type 0} (file : List ℕ) → length file ≤ fileMost → Bytes file → {count place end : ℕ} {parts : List InstrumentFound} → ReadsFrom (instrumentFormat (kindAt file)) tt file count place parts end
     → 0 < length (joined sampleRowsIn parts)
-    → ((i : InstrumentFound) (n : ℕ) (more : List InstrumentFound) → InstrumentStands file place i n → parts ≡ i ∷ more → ReadsFrom instrumentFormat tt file (count - 1) (place + n) more end → R) → R
-some-instrument file small bytes {count = zero} r l k = absurd (omega (arith, l, ap (λ (l : List InstrumentFound). length (joined sampleRowsIn l)) (reads-none instrumentFormat tt file r .0)))
+    → ((i : InstrumentFound) (n : ℕ) (more : List InstrumentFound) → InstrumentStands file place i n → parts ≡ i ∷ more → ReadsFrom (instrumentFormat (kindAt file)) tt file (count - 1) (place + n) more end → R) → R
+some-instrument file small bytes {count = zero} r l k = absurd (omega (arith, l, ap (λ (l : List InstrumentFound). length (joined sampleRowsIn l)) (reads-none (instrumentFormat (kindAt file)) tt file r .0)))
 some-instrument file small bytes {count = suc count} r l k = instruments-next file small bytes r (omega arith) λ i n more ei s ep rest. k i n more s ep rest
 
 module _ (file : List ℕ) (number : ℕ) (some : number < length (listIn sampleRows (readFile file))) (bytes : Bytes file) where
@@ -79,7 +78,7 @@ module _ (file : List ℕ) (number : ℕ) (some : number < length (listIn sample
       some-instrument file seeks-small bytes (from .reads) (omega (arith, some, ap length (rows-in (readFile file)))) λ i n more s ep rest. omega (arith, s .inside) in
       record {
         behind = place;
-        here = record { same = omega arith; fits = omega arith; wide = λ l. absurd (omega arith); inside = inside };
+        here = record { same = omega arith; fits = omega arith; inside = inside };
         count = _;
         parts = _;
         end = from .end;
@@ -106,7 +105,6 @@ module _ (file : List ℕ) (number : ℕ) (some : number < length (listIn sample
           let next = left-on file size (w .behind) (w .here) l refl in
           record {
             small = seeks-small;
-            header = omega (arith, room, w .here .wide l);
             bytes = omega (arith, w .here .same, w .here .inside);
             next-head = room;
             next-bytes = omega (arith, next .same, next .inside);
@@ -134,23 +132,23 @@ module _ (file : List ℕ) (number : ℕ) (some : number < length (listIn sample
       rest-same = rw z at (w .same)
 
       seeks-next : {R : Type 0}
-          → ((i : InstrumentFound) (n : ℕ) (more : List InstrumentFound) → InstrumentStands file place i n → w .parts ≡ i ∷ more → ReadsFrom instrumentFormat tt file (w .count - 1) (place + n) more (w .end) → R)
+          → ((i : InstrumentFound) (n : ℕ) (more : List InstrumentFound) → InstrumentStands file place i n → w .parts ≡ i ∷ more → ReadsFrom (instrumentFormat (kindAt file)) tt file (w .count - 1) (place + n) more (w .end) → R)
           → R
       seeks-next k =
-          let reads : ReadsFrom instrumentFormat tt file (w .count) place (w .parts) (w .end) = rw (left-end file size (w .behind) (w .here) z) (w .reads) in
+          let reads : ReadsFrom (instrumentFormat (kindAt file)) tt file (w .count) place (w .parts) (w .end) = rw (left-end file size (w .behind) (w .here) z) (w .reads) in
           some-instrument file seeks-small bytes reads (omega (arith, some, ap length rest-same, length-drop number all)) k
 
-      pub seeks-tests : AllHold (instrumentTests place (drop place file))
+      pub seeks-tests : AllHold (instrumentTests (kindAt file) place (drop place file))
       seeks-tests = seeks-next λ i n more s ep rest. s .tests
 
-      module _ {x : InstrumentHead} (e : x ≡ instrumentHead place (drop place file)) where
+      module _ {x : InstrumentHead} (e : x ≡ instrumentAt file place) where
         pub seeks-stands : Stands file x
         seeks-stands = seeks-next λ i n more s ep rest. rw e (s .stands)
 
         pub seeks-on : Seeks file (record { number = number; left = x .samples; head = x .heads; «head_size» = x .«head_size»; «data_place» = dataStart x })
         seeks-on = seeks-next λ i n more s ep rest. rw e (record {
           behind = place + n;
-          here = rw (s .next) (left-start file (instrumentHead place (drop place file)) (s .stands));
+          here = rw (s .next) (left-start file (instrumentAt file place) (s .stands));
           count = w .count - 1;
           parts = more;
           end = w .end;
@@ -159,4 +157,4 @@ module _ (file : List ℕ) (number : ℕ) (some : number < length (listIn sample
         })
 
         pub seeks-less : length file - dataStart x < length file - place
-        seeks-less = seeks-next λ i n more s ep rest. omega (arith, ap InstrumentHead.heads e, s .tests .1 .0, seeks-stands .inside)
+        seeks-less = seeks-next λ i n more s ep rest. omega (arith, ap InstrumentHead.heads e, s .behind, seeks-stands .inside)

@@ -5,7 +5,7 @@ use mathlib.Core.Path.{_≡_}
 use lib.ListN.{drop, replicate}
 use Rattle.xm.specs.Got.{got, listIn}
 use Rattle.xm.specs.Format.{Format, each}
-use Rattle.xm.specs.Header.{instrumentsAt}
+use Rattle.xm.specs.Header.{instrumentsAt, kindAt}
 use Rattle.xm.specs.Instrument.{instrumentFormat}
 use Rattle.xm.specs.Module.{Found, readFile}
 
@@ -15,7 +15,7 @@ pub record ReadsFrom {H I A : Type 0} (F : Format H I A) (h : H) (file : List �
   pub reads : each F .read (replicate count h) place (drop place file) ≡ got parts used
   pub ends : place + used ≡ end
 
--- The instruments of a file.
+-- The instruments of a file, of its own kind.
 pub record InstrumentsFrom (file : List ℕ) (place : ℕ) : Type 0 where
   pub end : ℕ
-  pub reads : ReadsFrom instrumentFormat tt file (instrumentsAt file) place (listIn (λ (found : Found). found .1 .1) (readFile file)) end
+  pub reads : ReadsFrom (instrumentFormat (kindAt file)) tt file (instrumentsAt file) place (listIn (λ (found : Found). found .1 .1) (readFile file)) end

@@ -1,9 +1,9 @@
 -- What stands at a place of an accepted file, read off its bytes: no test is made again, and no cell is read.
-use Prim.Native.Nat.{ℕ, zero, suc, _+_, _*_, _≤_, _<_}
+use Prim.Native.Nat.{ℕ, zero, suc, _+_, _*_, _≤_}
 use mathlib.Core.List.{List, [], _∷_}
 use lib.IntN.{ℤ}
 use lib.ListN.{length, drop}
-use Rattle.xm.specs.Sample.{leastHead, headBytes, dataSize}
+use Rattle.xm.specs.Sample.{headBytes, dataSize}
 use Rattle.xm.specs.Instrument.{samplesMost}
 use Rattle.xm.specs.Module.{fileMost}
 use Rattle.xm.specs.Table as row
@@ -26,7 +26,6 @@ dataEnd file x = dataStart x + dataBefore (x .samples) (x .«head_size») (drop 
 pub record Stands (file : List ℕ) (x : InstrumentHead) : Type 0 where
   pub small : length file ≤ fileMost
   pub few : x .samples ≤ samplesMost
-  pub wide : 0 < x .samples → leastHead ≤ x .«head_size»
   pub inside : dataEnd file x ≤ length file
 
 -- The rows of the first samples, whose headers stand in front of `s`, from `head` on, and whose data from `bytesPlace` on.

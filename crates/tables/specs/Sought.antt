@@ -1,11 +1,11 @@
 -- A sample that is sought.
-use Prim.Native.Nat.{ℕ, _+_, _*_, _≤_, _<_}
+use Prim.Native.Nat.{ℕ, _+_, _*_, _≤_}
 use mathlib.Core.List.{List, _++_}
 use mathlib.Core.Path.{_≡_}
 use lib.ListN.{length, drop}
 use Rattle.xm.specs.Got.{listIn}
 use Rattle.xm.specs.Format.{joined}
-use Rattle.xm.specs.Sample.{leastHead}
+use Rattle.xm.specs.Header.{kindAt}
 use Rattle.xm.specs.Instrument.{InstrumentFound, instrumentFormat}
 use Rattle.xm.specs.Module.{readFile}
 use Rattle.xm.specs.Table.{sampleRowsIn, sampleRows}
@@ -17,7 +17,6 @@ use Rattle.tables.specs.declared.sample.Sought.{Sought}
 pub record Left (file : List ℕ) (size end left head place : ℕ) : Type 0 where
   pub same : place + dataBefore left size (drop head file) ≡ end
   pub fits : head + left * size ≤ length file
-  pub wide : 0 < left → leastHead ≤ size
   pub inside : end ≤ length file
 
 -- The rows from its number on are those of the samples that are left of its instrument, and then those of the instruments behind it.
@@ -27,7 +26,7 @@ pub record Seeks (file : List ℕ) (x : Sought) : Type 0 where
   pub count : ℕ
   pub parts : List InstrumentFound
   pub end : ℕ
-  pub reads : ReadsFrom instrumentFormat tt file count behind parts end
+  pub reads : ReadsFrom (instrumentFormat (kindAt file)) tt file count behind parts end
   pub same : drop (x .number) (listIn sampleRows (readFile file))
       ≡ rowsFrom (x .left) (x .«head_size») (x .head) (x .«data_place») (drop (x .head) file) ++ joined sampleRowsIn parts
 

@@ -10,7 +10,7 @@ ghost use Prim.Native.Nat.{_+_, _*_, _<_, _≤_, _^_};
 ghost use mathlib.Core.Bool.{cond};
 ghost use lib.ListN.{length, getD, drop};
 ghost use Rattle.xm.specs.Got.{listIn};
-ghost use Rattle.xm.specs.Sample.{leastHead, headBytes, wideBy, inSamples};
+ghost use Rattle.xm.specs.Sample.{headBytes, wideBy, inSamples};
 ghost use Rattle.xm.specs.Module.{fileMost, readFile};
 ghost use Rattle.xm.specs.Lay.{lay};
 ghost use Rattle.xm.specs.Table.{sampleRowAt, sampleRows, sampleStride, tuneStride};
@@ -59,7 +59,7 @@ fn loop_number(looping: bool, number: u32) -> u32
 // The row of a sample, by its header and where its data begin.
 fn sample_row(file: &[u8], head: usize, size: usize, data_place: usize) -> SampleRow
     requires { ⌜ length (now file) ≤ fileMost ⌝ }
-    requires { ⌜ head + leastHead ≤ length (now file) ⌝ }
+    requires { ⌜ head + size ≤ length (now file) ⌝ }
     requires { ⌜ «data_place» ≤ length (now file) ⌝ }
     ensures { λ r. ⌜ r ≡ sampleRow (sampleRowAt head «data_place» (headBytes size (drop head (now (file .entry))))) ⌝ }
 {

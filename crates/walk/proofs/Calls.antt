@@ -3,6 +3,7 @@ use Prim.Native.Nat.{ℕ}
 use mathlib.Core.List.{List, [], _∷_}
 use mathlib.Core.Path.{_≡_, refl, sym, ap, _∙_, subst}
 use Rattle.xm.specs.Number.{Bytes}
+use Rattle.xm.specs.ModuleKind.{ModuleKind}
 use Rattle.xm.specs.Got.{Refusal, refused}
 use Rattle.xm.specs.Answer.{Answer, gives, refuses, numbers}
 use Rattle.xm.specs.Module.{Content, moduleFormat, readFile}
@@ -22,11 +23,11 @@ module _ (file : List ℕ) {answer : Verdict} (met : answer ≡ verdictOf (check
   reported = ap verdictNumbers met ∙ verdict-numbers (checking file)
 
   -- An acceptable file is accepted, with its end and the counts of its content
-  pub check-accepts : (content : Content) (f : FileOf moduleFormat content file) → verdictNumbers answer ≡ 0 ∷ 0 ∷ f .end ∷ countsOf content
-  check-accepts content f = reported ∙ demand₂ .check .accepted content file f
+  pub check-accepts : (kind : ModuleKind) (content : Content) (f : FileOf (moduleFormat kind) content file) → verdictNumbers answer ≡ 0 ∷ 0 ∷ f .end ∷ countsOf content
+  check-accepts kind content f = reported ∙ demand₂ .check .accepted kind content file f
 
-  -- A file that is accepted is an acceptable file, of some content
-  pub check-acceptable : Bytes file → accepts (verdictNumbers answer) → (content : Content) × FileOf moduleFormat content file
+  -- A file that is accepted is an acceptable file, of some kind and content
+  pub check-acceptable : Bytes file → accepts (verdictNumbers answer) → (kind : ModuleKind) × (content : Content) × FileOf (moduleFormat kind) content file
   check-acceptable b a = demand₂ .check .acceptable file b (subst accepts reported a)
 
   -- and a refusal is the reading's, with all other numbers 0

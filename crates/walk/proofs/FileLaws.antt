@@ -1,25 +1,25 @@
 -- Laws of the walk over a whole file, and of the check. Assumes nothing.
-use Prim.Native.Nat.{ℕ, _+_, _≤_, _<_}
+use Prim.Native.Nat.{ℕ, _+_, _-_, _≤_, _<_}
 use mathlib.Core.List.{List}
 use mathlib.Core.Path.{_≡_, refl, sym, ap, _∙_}
 use native.Mathlib.Nat.{zero-add}
 use native.Mathlib.Omega.{arith}
-use lib.ListN.{length, drop, replicate, length-append, length-drop}
+use lib.ListN.{length, drop, replicate, length-append, length-drop, length-replicate}
 use lib.Seq.{drop-drop}
-use Rattle.xm.specs.Number.{Bytes}
+use Rattle.xm.specs.Number.{Bytes, wordAt}
+use Rattle.xm.specs.ModuleKind.{ModuleKind, normal, stripped}
 use Rattle.xm.specs.Got.{Got, got, refused, Refusal, _>>=_, _>>_, _at_}
 use Rattle.xm.specs.Format.{Format, each, joined}
-use Rattle.xm.specs.Header.{HeaderFound, readHeader, headerFormat}
+use Rattle.xm.specs.Header.{Header, HeaderFound, leastHeader, ordersMost, GoodTracker, GoodHeader, kindAt, readHeader, writeHeader, headerFormat}
 use Rattle.xm.specs.PatternInFile.{PatternFound, patternFormat}
 use Rattle.xm.specs.Instrument.{InstrumentFound, instrumentFormat}
 use Rattle.xm.specs.Module.{patternsFor, instrumentsFor, Found, fileMost, moduleFormat, readWhole, readFile}
 use Rattle.xm.specs.Table.{sampleRowsIn, checking}
 use Rattle.xm.proofs.Number.{bytes-drop}
-use Rattle.xm.proofs.Got.{no-true, test-fails, pass, step as step-on, step-refused, got-carry}
+use Rattle.xm.proofs.Got.{no-true, test-fails, pass, passed, step as step-on, step-refused, got-value, got-carry}
 use Rattle.xm.proofs.Format.{many-keeps}
-use Rattle.xm.proofs.Header.{header-keeps, header-size}
+use Rattle.xm.proofs.Header.{header-keeps}
 use Rattle.xm.proofs.PatternInFile.{pattern-keeps}
-use Rattle.xm.proofs.Instrument.{instrument-keeps}
 use Rattle.xm.proofs.Module.{whole-read}
 use Rattle.refusal.specs.Fault.{refusalIn, placeStep}
 use Rattle.refusal.specs.declared.Fault.{Fault}
@@ -29,37 +29,49 @@ use Rattle.mark.specs.Mark.{Marks}
 use Rattle.steps.specs.Step.{headerStep}
 use Rattle.steps.specs.declared.header.HeaderPart.{HeaderPart}
 use Rattle.steps.specs.declared.header.HeaderStep.the-variants as header
-use Rattle.walk.specs.File.{runStep, patternsStep, instrumentsStep, runFault, walkStep, verdictOf}
+use Rattle.walk.specs.File.{runStep, patternsStep, instrumentsStep, runFault, countStep, countFault, walkStep, verdictOf}
 use Rattle.walk.specs.declared.Run.{Run}
 use Rattle.walk.specs.declared.RunStep.{RunStep}
 use Rattle.walk.specs.declared.RunStep.the-variants as run
+use Rattle.walk.specs.declared.Count.{Count}
+use Rattle.walk.specs.declared.CountStep.{CountStep}
+use Rattle.walk.specs.declared.CountStep.the-variants as counted
 use Rattle.walk.specs.declared.WalkStep.the-variants as walked
 use Rattle.walk.specs.declared.Verdict.the-variants as verdict
 
 -- What a step's answer says of its reading
-run-got : {R H I A : Type 0} (F : Format H I A) (samples : List I → ℕ) (place : ℕ) (g : Got (List I)) {part : Run} → run.Read part ≡ runStep F samples place g
-    → ((is : List I) (n : ℕ) → g ≡ got is n → part .next ≡ place + n → part .samples ≡ samples is → part .pressed ≡ length (each F .write (each F .view is)) → R) → R
-run-got F samples place (got is n) e k = k is n refl (cc) (cc) (cc)
-run-got F samples place (refused r) e k = absurd (no-true (cc))
+run-got : {R H I A : Type 0} (F : Format H I A) (place : ℕ) (g : Got (List I)) {part : Run} → run.Read part ≡ runStep F place g
+    → ((is : List I) (n : ℕ) → g ≡ got is n → part .next ≡ place + n → part .pressed ≡ length (each F .write (each F .view is)) → R) → R
+run-got F place (got is n) e k = k is n refl (cc) (cc)
+run-got F place (refused r) e k = absurd (no-true (cc))
 
-pub run-refused : {H I A : Type 0} (F : Format H I A) (samples : List I → ℕ) (place : ℕ) (g : Got (List I)) {step : RunStep} {f r : Fault} → step ≡ runStep F samples place g
+pub run-refused : {H I A : Type 0} (F : Format H I A) (place : ℕ) (g : Got (List I)) {step : RunStep} {f r : Fault} → step ≡ runStep F place g
     → step ≡ run.Refused f → r ≡ runFault step → g ≡ refused (refusalIn r)
-run-refused F samples place (got is n) e told passed = cc
-run-refused F samples place (refused q) e told passed = cc
+run-refused F place (got is n) e told passed = cc
+run-refused F place (refused q) e told passed = cc
+
+count-got : {R : Type 0} (place : ℕ) (g : Got (List InstrumentFound)) {part : Count} → counted.Read part ≡ countStep place g
+    → ((is : List InstrumentFound) (n : ℕ) → g ≡ got is n → part .next ≡ place + n → part .samples ≡ length (joined sampleRowsIn is) → R) → R
+count-got place (got is n) e k = k is n refl (cc) (cc)
+count-got place (refused r) e k = absurd (no-true (cc))
+
+pub count-refused : (place : ℕ) (g : Got (List InstrumentFound)) {step : CountStep} {f r : Fault} → step ≡ countStep place g → step ≡ counted.Refused f → r ≡ countFault step → g ≡ refused (refusalIn r)
+count-refused place (got is n) e told passed = cc
+count-refused place (refused q) e told passed = cc
 
 -- A refusal is the answer, and leaves nothing to mark
-pub walk-refuses : (file marks : List ℕ) {r : Fault} → readFile file ≡ refused (refusalIn r)
-    → (walked.Refused r ≡ walkStep (readFile file)) × ((found : Found) (end : ℕ) → readFile file ≡ got found end → Marks file 0 (found .1 .0) marks)
-walk-refuses file marks e = (sym (ap walkStep e), λ found end q. absurd (no-true (cc)))
+pub walk-refuses : (to : ModuleKind) (file marks : List ℕ) {r : Fault} → readFile file ≡ refused (refusalIn r)
+    → (walked.Refused r ≡ walkStep to (readFile file)) × ((found : Found) (end : ℕ) → readFile file ≡ got found end → Marks file 0 (found .1 .0) marks)
+walk-refuses to file marks e = (sym (ap (walkStep to) e), λ found end q. absurd (no-true (cc)))
 
 pub check-refuses : (file : List ℕ) {r : Fault} → readFile file ≡ refused (refusalIn r) → verdict.Refused r ≡ verdictOf (checking file)
 unfolding checking
 check-refuses file e = cc
 
 -- Its size is tried first, and then the header
-pub file-large : (file : List ℕ) → fileMost < length file → readWhole headerFormat file ≡ refused (2 at 0)
+pub file-large : {I A : Type 0} (F : Format (Unit {0}) I A) (file : List ℕ) → fileMost < length file → readWhole F file ≡ refused (2 at 0)
 unfolding readWhole
-file-large file h = test-fails _ _ _ (λ q. omega arith)
+file-large F file h = test-fails _ _ _ (λ q. omega arith)
 
 pub file-small : {I A : Type 0} (F : Format (Unit {0}) I A) (file : List ℕ) → length file ≤ fileMost → readWhole F file ≡ F .read tt 0 file
 unfolding readWhole
@@ -71,32 +83,60 @@ refused-first (got u n) (got i m) k e = cc
 refused-first (got u n) (refused q) k e = cc
 refused-first (refused q) g k e = cc
 
+-- A header's length in either kind of module, by the song length: the tracker name takes 20 bytes in both
+tracker-size : (kind : ModuleKind) (name : List ℕ) → GoodTracker kind name → length name ≡ 20
+tracker-size normal name g = g .0
+tracker-size stripped name g = ap length g
+
+pub header-length : (kind to : ModuleKind) (x : Header) → GoodHeader kind x → length (writeHeader to x) ≡ leastHeader to (x .songLength) + 60
+unfolding writeHeader
+header-length kind normal x g =
+    let zeros = length-replicate {A = ℕ} (ordersMost - x .songLength) 0 in
+    simp length-append (omega (arith, g .name-size, tracker-size kind (x .trackerName) (g .tracker-good), g .orders-size, g .counts .0, zeros))
+header-length kind stripped x g = simp length-append (omega (arith, g .name-size, tracker-size kind (x .trackerName) (g .tracker-good), g .orders-size))
+
+pub header-most : (kind : ModuleKind) (songLength : ℕ) → leastHeader kind songLength ≤ 276 + songLength
+header-most normal songLength = omega arith
+header-most stripped songLength = omega arith
+
+header-there : (kind : ModuleKind) (place : ℕ) (s : List ℕ) (i : HeaderFound) (n : ℕ) → readHeader kind place s ≡ got i n → 80 ≤ length s
+unfolding readHeader
+header-there kind place s i n e = passed _ _ e λ h e. h .0
+
+song-length : (kind : ModuleKind) (place : ℕ) (s : List ℕ) (i : HeaderFound) (n : ℕ) → readHeader kind place s ≡ got i n → i .content .songLength ≡ wordAt 64 s
+unfolding readHeader
+song-length kind place s i n e = passed _ _ e λ h e. ap (λ (i : HeaderFound). i .content .songLength) (sym (got-value e))
+
 module _ (file : List ℕ) where
-  pub header-out : {r : Refusal} → readWhole headerFormat file ≡ refused r → readFile file ≡ refused r
+  abbrev kind : ModuleKind
+  kind = kindAt file
+
+  pub header-out : {r : Refusal} → readWhole (headerFormat kind) file ≡ refused r → readFile file ≡ refused r
   unfolding readWhole
   header-out e = refused-first _ _ _ e
 
-  module _ {part : HeaderPart} (e : header.Read part ≡ headerStep (readWhole headerFormat file)) where
+  module _ {part : HeaderPart} (e : header.Read part ≡ headerStep (readWhole (headerFormat kind) file)) where
     record Began : Type 0 where
       head : HeaderFound
       small : length file ≤ fileMost
-      reads : readHeader 0 file ≡ got head (part .start)
+      reads : readHeader kind 0 file ≡ got head (part .start)
       channels : part .channels ≡ head .content .channels
       patterns : part .patterns ≡ head .content .patterns
       instruments : part .instruments ≡ head .content .instruments
 
     began : Began
-    began = go (readWhole headerFormat file) refl e
+    began = go (readWhole (headerFormat kind) file) refl e
       where
-        go : (g : Got HeaderFound) → readWhole headerFormat file ≡ g → header.Read part ≡ headerStep g → Began
-        go (got i n) q e = whole-read headerFormat file i n q λ small r. record { head = i; small = small; reads = cc; channels = cc; patterns = cc; instruments = cc }
+        go : (g : Got HeaderFound) → readWhole (headerFormat kind) file ≡ g → header.Read part ≡ headerStep g → Began
+        go (got i n) q e = whole-read (headerFormat kind) file i n q λ small r. record { head = i; small = small; reads = cc; channels = cc; patterns = cc; instruments = cc }
         go (refused r) q e = absurd (no-true (cc))
 
-    whole : readFile file ≡ moduleFormat .read tt 0 file
-    whole = file-small moduleFormat file (began .small)
+    whole : readFile file ≡ moduleFormat kind .read tt 0 file
+    whole = file-small (moduleFormat kind) file (began .small)
 
     pub record HeaderTold : Type 0 where
       pub small : length file ≤ fileMost
+      pub long : 80 ≤ length file
       pub start : part .start ≤ length file
       pub low : 1 ≤ part .channels
       pub high : part .channels ≤ 64
@@ -106,9 +146,9 @@ module _ (file : List ℕ) where
     pub header-told : Bytes file → HeaderTold
     header-told b =
         let h = began in
-        let w = header-keeps .keeps 0 file (h .head) (part .start) b (h .reads) in
+        let w = header-keeps kind .keeps 0 file (h .head) (part .start) b (h .reads) in
         let counts = w .good .counts in
-        record { small = h .small; start = w .inside; low = omega arith; high = omega arith; many = omega arith; few = omega arith }
+        record { small = h .small; long = header-there kind 0 file (h .head) (part .start) (h .reads); start = w .inside; low = omega arith; high = omega arith; many = omega arith; few = omega arith }
 
     -- The patterns
     abbrev patterns : Got (List PatternFound)
@@ -132,7 +172,7 @@ module _ (file : List ℕ) where
       pub pressed : first .pressed ≡ length (each patternFormat .write (each patternFormat .view (ended .parts)))
 
     pub patterns-read : {first : Run} → run.Read first ≡ patternsStep (part .start) patterns → PatternsRead first
-    patterns-read d = run-got patternFormat (λ is. 0) (part .start) patterns d λ is n q z s l.
+    patterns-read d = run-got patternFormat (part .start) patterns d λ is n q z l.
         record { ended = record { parts = is; used = n; reads = q; ends = z }; pressed = l }
 
     pub patterns-tried : {next : ℕ} → Next next ≡ placeStep (part .start) patterns → PatternsAt next
@@ -152,53 +192,41 @@ module _ (file : List ℕ) where
 
       -- The instruments
       abbrev instruments : Got (List InstrumentFound)
-      instruments = each instrumentFormat .read (replicate (part .instruments) tt) next (drop next file)
+      instruments = each (instrumentFormat kind) .read (replicate (part .instruments) tt) next (drop next file)
 
-      same-instruments : each instrumentFormat .read (instrumentsFor (began .head .content) (each patternFormat .view (ps .parts))) (0 + part .start + ps .used) (drop (ps .used) (drop (part .start) file)) ≡ instruments
+      same-instruments : each (instrumentFormat kind) .read (instrumentsFor (began .head .content) (each patternFormat .view (ps .parts))) (0 + part .start + ps .used) (drop (ps .used) (drop (part .start) file)) ≡ instruments
       same-instruments = let h = began in rw (zero-add, drop-drop, ← (ps .ends), ← (h .instruments))
 
       pub instruments-out : {r : Refusal} → instruments ≡ refused r → readFile file ≡ refused r
       instruments-out q = whole ∙ step-on _ (began .reads) (step-refused _ (step-on _ (same-patterns ∙ ps .reads) (step-refused _ (same-instruments ∙ q))))
 
-      module _ {last : Run} (o : run.Read last ≡ instrumentsStep next instruments) where
-        pub instruments-told : Bytes file → last .pressed ≤ length file
-        instruments-told b = run-got instrumentFormat (λ is. length (joined sampleRowsIn is)) next instruments o λ is m ei q c z.
-            let w = many-keeps instrumentFormat (part .instruments) instrument-keeps .keeps next (drop next file) is m (bytes-drop next b) ei in
-            omega (arith, w .inside, w .short, length-drop next file)
+      -- All of the file is read
+      all-read : (rest : List InstrumentFound) (n last : ℕ) → instruments ≡ got rest n → last ≡ next + n → readFile file ≡ got (began .head, (ps .parts, rest)) last
+      all-read rest n last ei q =
+          let on : last ≡ part .start + (ps .used + n) = omega (arith, ps .ends) in
+          whole ∙ step-on _ (began .reads) (step-on _ (step-on _ (same-patterns ∙ ps .reads) (step-on _ (same-instruments ∙ ei) refl)) (cc on))
 
-        -- All of the file is read
-        record AllRead : Type 0 where
-          rest : List InstrumentFound
-          reads : readFile file ≡ got (began .head, (ps .parts, rest)) (last .next)
-          samples : last .samples ≡ length (joined sampleRowsIn rest)
-          pressed : last .pressed ≡ length (each instrumentFormat .write (each instrumentFormat .view rest))
-
-        all-read : AllRead
-        all-read = run-got instrumentFormat (λ is. length (joined sampleRowsIn is)) next instruments o λ is m ei q s z.
-            let on : last .next ≡ part .start + (ps .used + m) = omega (arith, ps .ends) in
-            record {
-              rest = is;
-              reads = whole ∙ step-on _ (began .reads) (step-on _ (step-on _ (same-patterns ∙ ps .reads) (step-on _ (same-instruments ∙ ei) refl)) (cc on));
-              samples = s;
-              pressed = z;
-            }
-
-        pub walk-accepted : Bytes file → {pressed : ℕ} → pressed ≡ 336 + length (each patternFormat .write (each patternFormat .view (ps .parts))) + last .pressed → walked.Accepted pressed ≡ walkStep (readFile file)
-        walk-accepted b x =
+      -- and measured
+      module _ (to : ModuleKind) {last : Run} (o : run.Read last ≡ instrumentsStep to next instruments) where
+        pub walk-accepted : Bytes file → {size pressed : ℕ} → size ≡ leastHeader to (wordAt 64 file) + 60
+            → pressed ≡ size + length (each patternFormat .write (each patternFormat .view (ps .parts))) + last .pressed → walked.Accepted pressed ≡ walkStep to (readFile file)
+        walk-accepted b q x = run-got (instrumentFormat to) next instruments o λ is m ei z l.
             let h = began in
-            let w = all-read in
-            let front = header-size (h .head .content) (header-keeps .keeps 0 file (h .head) (part .start) b (h .reads) .good) in
-            ap walked.Accepted (sym (simp length-append (omega (arith, front, w .pressed)))) ∙ sym (ap walkStep (w .reads))
+            let good = header-keeps kind .keeps 0 file (h .head) (part .start) b (h .reads) .good in
+            let front = header-length kind to (h .head .content) good ∙ ap (λ (n : ℕ). leastHeader to n + 60) (song-length kind 0 file (h .head) (part .start) (h .reads)) in
+            ap walked.Accepted (sym (simp length-append (omega (arith, front)))) ∙ sym (ap (walkStep to) (all-read is m (last .next) ei z))
 
-        -- and the marks of its patterns are those that their loop left
+        -- with the marks of its patterns that their loop left
         pub walk-marked : (marks : List ℕ) → ((ps : List PatternFound) (n : ℕ) → patterns ≡ got ps n → Marks file 0 ps marks)
             → (found : Found) (end : ℕ) → readFile file ≡ got found end → Marks file 0 (found .1 .0) marks
-        walk-marked marks told found end f =
-            got-carry (λ (r : Found) (u : ℕ). Marks file 0 (r .1 .0) marks) (sym (all-read .reads) ∙ f) (told (ps .parts) (ps .used) (ps .reads))
+        walk-marked marks told found end f = run-got (instrumentFormat to) next instruments o λ is m ei z l.
+            got-carry (λ (r : Found) (u : ℕ). Marks file 0 (r .1 .0) marks) (sym (all-read is m (last .next) ei z) ∙ f) (told (ps .parts) (ps .used) (ps .reads))
 
-        pub check-accepted : {end channels patterns instruments samples : ℕ} → end ≡ last .next → channels ≡ part .channels → patterns ≡ part .patterns → instruments ≡ part .instruments → samples ≡ last .samples
-            → verdict.Accepted (record { end = end; channels = channels; patterns = patterns; instruments = instruments; samples = samples }) ≡ verdictOf (checking file)
-        unfolding checking
-        check-accepted a b c d f =
-            let h = began in
-            let w = all-read in cc
+      -- or counted
+      pub check-accepted : {last : Count} → counted.Read last ≡ countStep next instruments → {end channels patterns instruments samples : ℕ} → end ≡ last .next → channels ≡ part .channels
+          → patterns ≡ part .patterns → instruments ≡ part .instruments → samples ≡ last .samples
+          → verdict.Accepted (record { end = end; channels = channels; patterns = patterns; instruments = instruments; samples = samples }) ≡ verdictOf (checking file)
+      unfolding checking
+      check-accepted {last} o a b c d f = count-got next instruments o λ is m ei z s.
+          let h = began in
+          let w = all-read is m (last .next) ei z in cc

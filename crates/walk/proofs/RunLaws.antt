@@ -5,20 +5,23 @@ use mathlib.Core.Path.{_≡_, refl, sym, ap, _∙_}
 use native.Mathlib.Omega.{arith}
 use lib.ListN.{length, drop, replicate, length-append, length-drop, length-map, length-replicate, getD-replicate}
 use Rattle.xm.specs.Number.{Bytes, part}
-use Rattle.xm.specs.Got.{Got, got, refused}
+use Rattle.xm.specs.ModuleKind.{ModuleKind, normal, stripped}
+use Rattle.xm.specs.Got.{Got, got, refused, Told}
 use Rattle.xm.specs.Format.{Format, each, joined}
 use Rattle.xm.specs.Stored.{writeStored}
+use Rattle.xm.specs.Header.{kindAt}
 use Rattle.xm.specs.PatternInFile.{PatternFound, readPattern, patternFormat}
 use Rattle.xm.specs.Sample.{Stretch}
-use Rattle.xm.specs.Instrument.{InstrumentFound, readInstrument, instrumentView, writeInstrument, instrumentFormat}
+use Rattle.xm.specs.Instrument.{Instrument, InstrumentFound, readInstrument, instrumentView, writeInstrument, instrumentFormat}
 use Rattle.xm.specs.Table.{sampleCount, sampleRowsIn}
 use Rattle.xm.proofs.Number.{bytes-drop}
 use Rattle.xm.proofs.Got.{no-true, got-carry}
 use Rattle.xm.proofs.Format.{joined-append}
 use Rattle.xm.proofs.PatternInFile.{pattern-size, pattern-keeps}
-use Rattle.xm.proofs.Instrument.{instrument-keeps, instrument-tells}
+use Rattle.xm.proofs.Instrument.{instrument-tells}
+use Rattle.xm.proofs.Stripped.{instrument-keeps}
 use Rattle.xm.proofs.Accepted.{rows-length}
-use Rattle.refusal.specs.Fault.{placeStep}
+use Rattle.refusal.specs.Fault.{refusalIn, placeStep}
 use Rattle.refusal.specs.declared.Fault.{Fault}
 use Rattle.refusal.specs.declared.Step.{Step}
 use Rattle.refusal.specs.declared.Step.the-variants.{Next, Refused}
@@ -32,8 +35,11 @@ use Rattle.steps.specs.declared.pattern.PatternStep.the-variants as pattern
 use Rattle.steps.specs.declared.instrument.InstrumentPart.{InstrumentPart}
 use Rattle.steps.specs.declared.instrument.InstrumentStep.{InstrumentStep}
 use Rattle.steps.specs.declared.instrument.InstrumentStep.the-variants as instrument
-use Rattle.walk.specs.File.{patternsStep, instrumentsStep}
+use Rattle.forms.specs.Form.{formBy, FormIs}
+use Rattle.forms.specs.declared.Form.{Form}
+use Rattle.walk.specs.File.{patternsStep, instrumentsStep, countStep}
 use Rattle.walk.specs.declared.RunStep.the-variants as run
+use Rattle.walk.specs.declared.CountStep.the-variants as counted
 use Rattle.steps.proofs.PatternLaws.{pattern-refused}
 use Rattle.steps.proofs.InstrumentLaws.{instrument-refused}
 use Rattle.mark.proofs.MarkLaws.{mark-told, marks-more}
@@ -53,8 +59,8 @@ pattern-got file place (got i n) e k = k i n refl (cc) (cc) (cc)
 pattern-got file place (refused r) e k = absurd (no-true (cc))
 
 instrument-got : {R : Type 0} (place : ℕ) (g : Got InstrumentFound) {part : InstrumentPart} → instrument.Read part ≡ instrumentStep place g
-    → ((i : InstrumentFound) (n : ℕ) → g ≡ got i n → part .next ≡ place + n → part .samples ≡ sampleCount i → part .pressed ≡ length (writeInstrument (instrumentView i)) → R) → R
-instrument-got place (got i n) e k = k i n refl (cc) (cc) (cc)
+    → ((i : InstrumentFound) (n : ℕ) → g ≡ got i n → part .next ≡ place + n → part .samples ≡ sampleCount i → R) → R
+instrument-got place (got i n) e k = k i n refl (cc) (cc)
 instrument-got place (refused r) e k = absurd (no-true (cc))
 
 -- The loop over the patterns: what is told of those read is the length of their pressed forms, and their marks
@@ -79,7 +85,7 @@ module _ (file : List ℕ) (start channels count : ℕ) where
   }
 
   module _ {j place pressed : ℕ} {marks : List ℕ} (w : PatternsRead file start channels count j place pressed marks) where
-    pub patterns-end : count ≤ j → (run.Read (record { next = place; samples = 0; pressed = pressed }) ≡ patternsStep start patterns)
+    pub patterns-end : count ≤ j → (run.Read (record { next = place; pressed = pressed }) ≡ patternsStep start patterns)
         × ((is : List PatternFound) (n : ℕ) → patterns ≡ got is n → Marks file 0 is marks)
     patterns-end h =
         let e = reached-end patternFormat _ file start (w .reached) (rw length-replicate h) in
@@ -141,54 +147,80 @@ module _ (file : List ℕ) (start channels count : ℕ) where
             inside = omega (arith, w .inside, k .inside, length-drop place file);
           }
 
--- The loop over the instruments
-pub record InstrumentsTold (samples pressed : ℕ) (done : List InstrumentFound) : Type 0 where
-  pub counted : samples ≡ length (joined sampleRowsIn done)
-  pub written : pressed ≡ length (each instrumentFormat .write (each instrumentFormat .view done))
-
-pub record InstrumentsRead (file : List ℕ) (start count j place samples pressed : ℕ) : Type 0 where
-  pub reached : Reached instrumentFormat (replicate count tt) file start (InstrumentsTold samples pressed) j place
+-- The loop over instruments that are counted
+pub record InstrumentsTried (file : List ℕ) (start count j place samples : ℕ) : Type 0 where
+  pub reached : Reached (instrumentFormat (kindAt file)) (replicate count tt) file start (λ done. samples ≡ length (joined sampleRowsIn done)) j place
   pub inside : place ≤ length file
-  pub short : start + pressed ≤ place
   pub few : samples ≤ 16 * j
 
-module _ (file : List ℕ) (start count : ℕ) where
-  pub instruments-start : start ≤ length file → InstrumentsRead file start count 0 start 0 0
-  instruments-start l = record {
-    reached = reached-start instrumentFormat _ file start (InstrumentsTold 0 0) (record { counted = refl; written = refl });
-    inside = l;
-    short = omega arith;
-    few = omega arith;
-  }
+-- and over those that are measured: written in a kind of module, they are longer by no more than fields and headers take
+pub record InstrumentsRead (file : List ℕ) (to : ModuleKind) (start count j place pressed : ℕ) : Type 0 where
+  pub reached : Reached (instrumentFormat (kindAt file)) (replicate count tt) file start (λ done. pressed ≡ length (each (instrumentFormat to) .write (each (instrumentFormat to) .view done))) j place
+  pub inside : place ≤ length file
+  pub short : start + pressed ≤ place + 903 * j
 
-  module _ {j place samples pressed : ℕ} (w : InstrumentsRead file start count j place samples pressed) where
-    pub instruments-end : count ≤ j
-        → run.Read (record { next = place; samples = samples; pressed = pressed }) ≡ instrumentsStep start (each instrumentFormat .read (replicate count tt) start (drop start file))
+form-length : (to : ModuleKind) (x : Instrument) → formBy to x .length ≡ length (writeInstrument to x)
+form-length normal x = refl
+form-length stripped x = refl
+
+module _ (file : List ℕ) (start count : ℕ) where
+  abbrev kind : ModuleKind
+  kind = kindAt file
+
+  abbrev instruments : Got (List InstrumentFound)
+  instruments = each (instrumentFormat kind) .read (replicate count tt) start (drop start file)
+
+  pub counted-start : start ≤ length file → InstrumentsTried file start count 0 start 0
+  counted-start l = record { reached = reached-start (instrumentFormat kind) _ file start _ refl; inside = l; few = omega arith }
+
+  pub instruments-start : (to : ModuleKind) → start ≤ length file → InstrumentsRead file to start count 0 start 0
+  instruments-start to l = record { reached = reached-start (instrumentFormat kind) _ file start _ refl; inside = l; short = omega arith }
+
+  module _ {j place : ℕ} {Told : List InstrumentFound → Type 0} (w : Reached (instrumentFormat kind) (replicate count tt) file start Told j place) (h : j < count) where
+    pub instruments-out : {step : InstrumentStep} {f r : Fault} → step ≡ instrumentStep place (readInstrument kind place (drop place file)) → step ≡ instrument.Refused f → r ≡ instrumentFault step
+        → instruments ≡ refused (refusalIn r)
+    instruments-out e told passed = reached-out (instrumentFormat kind) _ file start w tt (rw length-replicate h) (getD-replicate count j tt tt h) (instrument-refused place _ e told passed)
+
+  module _ {j place samples : ℕ} (w : InstrumentsTried file start count j place samples) where
+    pub counted-end : count ≤ j → counted.Read (record { next = place; samples = samples }) ≡ countStep start instruments
+    counted-end h =
+        let on : place ≡ start + (place - start) = omega (arith, w .reached .left .from) in
+        cc (reached-end (instrumentFormat kind) _ file start (w .reached) (rw length-replicate h), w .reached .told)
+
+    pub counted-on : j < count → Bytes file → {part : InstrumentPart} → instrument.Read part ≡ instrumentStep place (readInstrument kind place (drop place file))
+        → InstrumentsTried file start count (j + 1) (part .next) (samples + part .samples)
+    counted-on h b e = instrument-got place _ e λ i n ei q c.
+        let k = instrument-keeps kind .keeps place (drop place file) i n (bytes-drop place b) ei in
+        let heads = length-map (i .samples .0) Stretch.bytes in
+        let rows = rows-length (i .samples .0) (i .samples .1) (instrument-tells kind .tells place file i n b ei .sizes) in
+        record {
+          reached =
+              reached-on (instrumentFormat kind) _ file start (w .reached) tt (rw length-replicate h) (getD-replicate count j tt tt h) _ ei q
+              (λ t. rw (joined-append, length-append, length-append) (omega (arith, t, rows)));
+          inside = omega (arith, w .inside, k .inside, length-drop place file);
+          few = omega (arith, w .few, k .good .few, heads);
+        }
+
+  module _ {to : ModuleKind} {j place pressed : ℕ} (w : InstrumentsRead file to start count j place pressed) where
+    pub instruments-short : pressed ≤ length file + 903 * count
+    instruments-short = omega (arith, w .short, w .inside, w .reached .left .some, length-replicate {A = Unit {0}} count tt)
+
+    pub instruments-end : count ≤ j → run.Read (record { next = place; pressed = pressed }) ≡ instrumentsStep to start instruments
     instruments-end h =
         let on : place ≡ start + (place - start) = omega (arith, w .reached .left .from) in
-        cc (reached-end instrumentFormat _ file start (w .reached) (rw length-replicate h), w .reached .told .counted, w .reached .told .written)
+        cc (reached-end (instrumentFormat kind) _ file start (w .reached) (rw length-replicate h), w .reached .told)
 
-    module _ (h : j < count) where
-      pub instruments-out : {step : InstrumentStep} {f r : Fault} → step ≡ instrumentStep place (readInstrument place (drop place file)) → step ≡ instrument.Refused f → r ≡ instrumentFault step
-          → run.Refused r ≡ instrumentsStep start (each instrumentFormat .read (replicate count tt) start (drop start file))
-      instruments-out e told passed =
-          sym
-          (ap (instrumentsStep start) (reached-out instrumentFormat _ file start (w .reached) tt (rw length-replicate h) (getD-replicate count j tt tt h) (instrument-refused place _ e told passed)))
-
-      pub instruments-on : Bytes file → {part : InstrumentPart} → instrument.Read part ≡ instrumentStep place (readInstrument place (drop place file))
-          → InstrumentsRead file start count (j + 1) (part .next) (samples + part .samples) (pressed + part .pressed)
-      instruments-on b e = instrument-got place _ e λ i n ei q c z.
-          let k = instrument-keeps .keeps place (drop place file) i n (bytes-drop place b) ei in
-          let heads = length-map (i .samples .0) Stretch.bytes in
-          let rows = rows-length (i .samples .0) (i .samples .1) (instrument-tells .tells place file i n b ei .sizes) in
-          record {
-            reached =
-                reached-on instrumentFormat _ file start (w .reached) tt (rw length-replicate h) (getD-replicate count j tt tt h) (InstrumentsTold _ _) ei q
-                (λ t. record {
-                  counted = rw (joined-append, length-append, length-append) (omega (arith, t .counted, rows));
-                  written = omega (arith, t .written, written-more instrumentFormat (w .reached .done) i);
-                });
-            inside = omega (arith, w .inside, k .inside, length-drop place file);
-            short = omega (arith, w .short, k .short);
-            few = omega (arith, w .few, k .good .few, heads);
-          }
+    pub instruments-on : j < count → Bytes file → {part : InstrumentPart} (form : Form) → instrument.Read part ≡ instrumentStep place (readInstrument kind place (drop place file))
+        → Told (λ i. FormIs to place (part .next) (instrumentView i) form) (readInstrument kind place (drop place file))
+        → InstrumentsRead file to start count (j + 1) (part .next) (pressed + form .length)
+    instruments-on h b {part} form e told = instrument-got place _ e λ i n ei q c.
+        let k = instrument-keeps kind .keeps place (drop place file) i n (bytes-drop place b) ei in
+        let f : FormIs to place (part .next) (instrumentView i) form = rw ei at told in
+        let long : form .length ≡ length (writeInstrument to (instrumentView i)) = ap Form.length (f .is) ∙ form-length to (instrumentView i) in
+        record {
+          reached =
+              reached-on (instrumentFormat kind) _ file start (w .reached) tt (rw length-replicate h) (getD-replicate count j tt tt h) _ ei q
+              (λ t. omega (arith, t, written-more (instrumentFormat to) (w .reached .done) i));
+          inside = omega (arith, w .inside, k .inside, length-drop place file);
+          short = omega (arith, w .short, f .most);
+        }

@@ -2,41 +2,58 @@
 use Prim.Native.Nat.{ℕ, _+_}
 use mathlib.Core.List.{List, [], _∷_}
 use lib.ListN.{length}
+use Rattle.xm.specs.ModuleKind.{ModuleKind}
 use Rattle.xm.specs.Got.{Got, got, refused}
 use Rattle.xm.specs.Format.{Format, each, joined}
 use Rattle.xm.specs.Answer.{Answer, gives, refuses}
 use Rattle.xm.specs.PatternInFile.{PatternFound, patternFormat}
 use Rattle.xm.specs.Instrument.{InstrumentFound, instrumentFormat}
-use Rattle.xm.specs.Module.{Found, moduleFormat}
+use Rattle.xm.specs.Module.{Found}
 use Rattle.xm.specs.Table.{sampleRowsIn, sampleRows, Checked}
+use Rattle.xm.specs.Press.{contentOf, pressed}
 use Rattle.refusal.specs.Fault.{faultOf, noFault}
 use Rattle.refusal.specs.declared.Fault.{Fault}
 use Rattle.walk.specs.declared.RunStep.{RunStep}
 use Rattle.walk.specs.declared.RunStep.the-variants as run
+use Rattle.walk.specs.declared.CountStep.{CountStep}
+use Rattle.walk.specs.declared.CountStep.the-variants as count
 use Rattle.walk.specs.declared.WalkStep.{WalkStep}
 use Rattle.walk.specs.declared.WalkStep.the-variants as walked
 use Rattle.walk.specs.declared.Verdict.{Verdict}
 use Rattle.walk.specs.declared.Verdict.the-variants as verdict
 
--- Structures in a row, and how many samples they have.
-abbrev pub runStep : {H I A : Type 0} → Format H I A → (samples : List I → ℕ) (place : ℕ) → Got (List I) → RunStep
-runStep F samples place (got is used) = run.Read (record { next = place + used; samples = samples is; pressed = length (each F .write (each F .view is)) })
-runStep F samples place (refused r) = run.Refused (faultOf r)
+-- Structures in a row, as they are written within a format.
+abbrev pub runStep : {H I A : Type 0} → Format H I A → (place : ℕ) → Got (List I) → RunStep
+runStep F place (got is used) = run.Read (record { next = place + used; pressed = length (each F .write (each F .view is)) })
+runStep F place (refused r) = run.Refused (faultOf r)
 
 abbrev pub patternsStep : (place : ℕ) → Got (List PatternFound) → RunStep
-patternsStep = runStep patternFormat (λ is. 0)
+patternsStep = runStep patternFormat
 
-abbrev pub instrumentsStep : (place : ℕ) → Got (List InstrumentFound) → RunStep
-instrumentsStep = runStep instrumentFormat (λ is. length (joined sampleRowsIn is))
+abbrev pub instrumentsStep : ModuleKind → (place : ℕ) → Got (List InstrumentFound) → RunStep
+instrumentsStep to = runStep (instrumentFormat to)
+
+abbrev pub runPressed : RunStep → ℕ
+runPressed (run.Read part) = part .pressed
+runPressed (run.Refused fault) = 0
 
 abbrev pub runFault : RunStep → Fault
 runFault (run.Read part) = noFault
 runFault (run.Refused fault) = fault
 
--- A whole file: the length of its pressed form.
-abbrev pub walkStep : Got Found → WalkStep
-walkStep (got found end) = walked.Accepted (length (moduleFormat .write (moduleFormat .view found)))
-walkStep (refused r) = walked.Refused (faultOf r)
+-- Instruments in a row, and how many samples they have.
+abbrev pub countStep : (place : ℕ) → Got (List InstrumentFound) → CountStep
+countStep place (got is used) = count.Read (record { next = place + used; samples = length (joined sampleRowsIn is) })
+countStep place (refused r) = count.Refused (faultOf r)
+
+abbrev pub countFault : CountStep → Fault
+countFault (count.Read part) = noFault
+countFault (count.Refused fault) = fault
+
+-- A whole file: the length of its shortest form, in a kind of module.
+abbrev pub walkStep : ModuleKind → Got Found → WalkStep
+walkStep to (got found end) = walked.Accepted (length (pressed to (contentOf found)))
+walkStep to (refused r) = walked.Refused (faultOf r)
 
 abbrev pub walkFault : WalkStep → Fault
 walkFault (walked.Accepted pressed) = noFault

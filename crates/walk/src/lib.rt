@@ -1,27 +1,31 @@
 // The walk over a file: header, patterns and instruments, one step after the other; and the check.
+use forms::form_of;
 use mark::mark_of;
 use mark::put_mark;
 use refusal::Fault;
 use refusal::Step;
 use refusal::fault_of;
 use refusal::no_fault;
+use slices::read::word;
 use steps::header::HeaderStep;
 use steps::header::fault_of_header;
 use steps::header::read_header;
 use steps::instrument::InstrumentStep;
 use steps::instrument::fault_of_instrument;
 use steps::instrument::read_instrument;
+use steps::kind::least_header;
 use steps::pattern::PatternStep;
 use steps::pattern::fault_of_pattern;
 use steps::pattern::read_pattern;
 use steps::pattern::scan_pattern;
 ghost use mathlib.Core.Path.{_≡_};
-ghost use Prim.Native.Nat.{ℕ, _≤_};
+ghost use Prim.Native.Nat.{ℕ, _*_, _≤_};
 ghost use mathlib.Core.List.{List};
 ghost use lib.ListN.{length, drop, replicate};
+ghost use Rattle.xm.specs.ModuleKind.{kindBy};
 ghost use Rattle.xm.specs.Got.{got};
 ghost use Rattle.xm.specs.Format.{each};
-ghost use Rattle.xm.specs.Header.{headerFormat};
+ghost use Rattle.xm.specs.Header.{kindAt, headerFormat};
 ghost use Rattle.xm.specs.PatternInFile.{PatternFound, patternFormat};
 ghost use Rattle.xm.specs.Instrument.{instrumentFormat};
 ghost use Rattle.xm.specs.Module.{Found, fileMost, readWhole, readFile};
@@ -29,20 +33,30 @@ ghost use Rattle.xm.specs.Table.{checking};
 ghost use Rattle.refusal.specs.Fault.{placeStep};
 ghost use Rattle.mark.specs.Mark.{Marks};
 ghost use Rattle.steps.specs.Step.{headerStep};
-ghost use Rattle.walk.specs.File.{patternsStep, instrumentsStep, runFault, walkStep, walkFault, verdictOf};
+ghost use Rattle.walk.specs.File.{patternsStep, instrumentsStep, runFault, runPressed, countStep, countFault, walkStep, walkFault, verdictOf};
 
 // "A file is at most 16,777,216 bytes"
 const FILE_MOST: usize = 16777216;
 
-// Structures in a row: where they end, how many samples they have, and the bytes of their pressed forms.
+// Structures in a row: where they end, and the bytes of their pressed forms.
 struct Run {
     next: usize,
-    samples: usize,
     pressed: usize,
 }
 
 enum RunStep {
     Read(Run),
+    Refused(Fault),
+}
+
+// Instruments in a row: where they end, and how many samples they have.
+struct Count {
+    next: usize,
+    samples: usize,
+}
+
+enum CountStep {
+    Read(Count),
     Refused(Fault),
 }
 
@@ -73,6 +87,15 @@ fn fault_of_run(step: RunStep) -> Fault
     match step {
         RunStep::Read(_) => no_fault(),
         RunStep::Refused(fault) => fault,
+    }
+}
+
+fn fault_of_count(step: CountStep) -> Fault
+    ensures { λ r. ⌜ r ≡ countFault step ⌝ }
+{
+    match step {
+        CountStep::Read(_) => no_fault(),
+        CountStep::Refused(fault) => fault,
     }
 }
 
@@ -117,7 +140,6 @@ fn read_patterns(
     }
     RunStep::Read(Run {
         next: place,
-        samples: 0,
         pressed: pressed,
     })
 }
@@ -142,15 +164,15 @@ fn scan_patterns(file: &[u8], at: usize, channels: usize, count: usize) -> Step
     Step::Next(place)
 }
 
-// `count` instruments, from a place on.
-fn read_instruments(file: &[u8], at: usize, count: usize) -> RunStep
+// `count` instruments, from a place on, as they are written in a stripped module or in a normal one.
+fn read_instruments(file: &[u8], at: usize, to: bool, count: usize) -> RunStep
     requires { ⌜ at ≤ length (now file) ⌝ }
     requires { ⌜ length (now file) ≤ fileMost ⌝ }
     requires { ⌜ count ≤ 128 ⌝ }
-    ensures { λ r. ⌜ r ≡ instrumentsStep at (each instrumentFormat .read (replicate count tt) at (drop at (now (file .entry)))) ⌝ }
+    ensures answer { λ r. ⌜ r ≡ instrumentsStep (kindBy to) at (each (instrumentFormat (kindAt (now (file .entry)))) .read (replicate count tt) at (drop at (now (file .entry)))) ⌝ }
+    ensures small { λ r. ⌜ runPressed r ≤ 2 * fileMost ⌝ }
 {
     let mut place = at;
-    let mut samples: usize = 0;
     let mut pressed: usize = 0;
     let mut done = 0;
     while done < count {
@@ -158,21 +180,45 @@ fn read_instruments(file: &[u8], at: usize, count: usize) -> RunStep
         let InstrumentStep::Read(part) = step else {
             return RunStep::Refused(fault_of_instrument(step));
         };
+        let form = form_of(file, place, part, to);
         place = part.next;
-        samples += part.samples;
-        pressed += part.pressed;
+        pressed += form.length;
         done += 1;
     }
     RunStep::Read(Run {
         next: place,
-        samples: samples,
         pressed: pressed,
+    })
+}
+
+// `count` instruments, from a place on, that are only tried, with their samples.
+fn count_instruments(file: &[u8], at: usize, count: usize) -> CountStep
+    requires { ⌜ at ≤ length (now file) ⌝ }
+    requires { ⌜ length (now file) ≤ fileMost ⌝ }
+    requires { ⌜ count ≤ 128 ⌝ }
+    ensures { λ r. ⌜ r ≡ countStep at (each (instrumentFormat (kindAt (now (file .entry)))) .read (replicate count tt) at (drop at (now (file .entry)))) ⌝ }
+{
+    let mut place = at;
+    let mut samples: usize = 0;
+    let mut done = 0;
+    while done < count {
+        let step = read_instrument(file, place);
+        let InstrumentStep::Read(part) = step else {
+            return CountStep::Refused(fault_of_instrument(step));
+        };
+        place = part.next;
+        samples += part.samples;
+        done += 1;
+    }
+    CountStep::Read(Count {
+        next: place,
+        samples: samples,
     })
 }
 
 // The size of the file, and then its header.
 fn begin(file: &[u8]) -> HeaderStep
-    ensures { λ r. ⌜ r ≡ headerStep (readWhole headerFormat (now (file .entry))) ⌝ }
+    ensures { λ r. ⌜ r ≡ headerStep (readWhole (headerFormat (kindAt (now (file .entry)))) (now (file .entry))) ⌝ }
 {
     if FILE_MOST < file.len() {
         return HeaderStep::Refused(Fault {
@@ -183,10 +229,11 @@ fn begin(file: &[u8]) -> HeaderStep
     read_header(file)
 }
 
-// The whole file, in one pass: its first fault, or the length of its pressed form, and then with a mark for each pattern.
-pub fn walk(file: &[u8], marks: &mut [u64; 8]) -> WalkStep
+// The whole file, in one pass: its first fault, or the length of its shortest form as a stripped module or a normal one, and then with a
+// mark for each pattern.
+pub fn walk(file: &[u8], to: bool, marks: &mut [u64; 8]) -> WalkStep
     requires { ⌜ length (now marks) ≡ 8 ⌝ }
-    ensures answer { λ r. ⌜ r ≡ walkStep (readFile (now (file .entry))) ⌝ }
+    ensures answer { λ r. ⌜ r ≡ walkStep (kindBy to) (readFile (now (file .entry))) ⌝ }
     ensures marked { λ _. ⌜ ((found : Found) (end : ℕ) → readFile (now (file .entry)) ≡ got found end → Marks (now (file .entry)) 0 (found .1 .0) (now (marks .exit))) ⌝ }
 {
     let step = begin(file);
@@ -197,11 +244,12 @@ pub fn walk(file: &[u8], marks: &mut [u64; 8]) -> WalkStep
     let RunStep::Read(patterns) = first else {
         return WalkStep::Refused(fault_of_run(first));
     };
-    let last = read_instruments(file, patterns.next, header.instruments);
+    let last = read_instruments(file, patterns.next, to, header.instruments);
     let RunStep::Read(instruments) = last else {
         return WalkStep::Refused(fault_of_run(last));
     };
-    WalkStep::Accepted(336 + patterns.pressed + instruments.pressed)
+    let size = least_header(to, word(file, 0, 64)) + 60;
+    WalkStep::Accepted(size + patterns.pressed + instruments.pressed)
 }
 
 // The check of a file, in one pass: its first fault, or its end and counts. What only the press wants is not measured.
@@ -216,9 +264,9 @@ pub fn check(file: &[u8]) -> Verdict
     let Step::Next(next) = first else {
         return Verdict::Refused(fault_of(first));
     };
-    let last = read_instruments(file, next, head.instruments);
-    let RunStep::Read(run) = last else {
-        return Verdict::Refused(fault_of_run(last));
+    let last = count_instruments(file, next, head.instruments);
+    let CountStep::Read(run) = last else {
+        return Verdict::Refused(fault_of_count(last));
     };
     Verdict::Accepted(Module {
         end: run.next,

@@ -1,5 +1,4 @@
 pub mod Writing
 pub mod Kept
 pub mod HeaderLaws
-pub mod InstrumentLaws
 pub mod PatternLaws

@@ -1,16 +1,23 @@
--- A header that is written: with a number of patterns and orders of the caller's, and else the content of a file's header.
-use Prim.Native.Nat.{ℕ, _-_}
+-- A header that is written: with a tracker name, a number of patterns and orders of the caller's, and else the content of a file's header.
+use Prim.Native.Nat.{ℕ}
+use mathlib.Core.Bool.{Bool, true, false}
 use mathlib.Core.List.{List, [], _∷_}
 use lib.ListN.{length, replicate}
 use Rattle.xm.specs.Number.{wordAt, part, byte, word, long}
+use Rattle.xm.specs.ModuleKind.{ModuleKind}
 use Rattle.xm.specs.Format.{flat}
-use Rattle.xm.specs.Header.{Header, idText, mark, version, leastHeader, ordersMost, channelsAt, instrumentsAt, restartOf}
+use Rattle.xm.specs.Header.{Header, idText, mark, version, leastHeader, padding, channelsAt, instrumentsAt, restartOf, noTracker}
+
+-- The tracker name as it stands, or nulls.
+abbrev pub trackerBy : (kept : Bool) (file : List ℕ) → List ℕ
+trackerBy true file = part 38 20 file
+trackerBy false file = noTracker
 
 -- As many orders as the song length says.
-abbrev pub headerWith : (patterns : ℕ) (orders file : List ℕ) → Header
-headerWith patterns orders file = record {
+abbrev pub headerWith : (tracker : List ℕ) (patterns : ℕ) (orders file : List ℕ) → Header
+headerWith tracker patterns orders file = record {
   moduleName = part 17 20 file;
-  trackerName = part 38 20 file;
+  trackerName = tracker;
   songLength = length orders;
   restart = restartOf (length orders) (wordAt 66 file);
   channels = channelsAt file;
@@ -23,12 +30,12 @@ headerWith patterns orders file = record {
 }
 
 -- Its three parts: up to the version, the numbers, and the order table.
-abbrev pub namesOf : (file : List ℕ) → List ℕ
-namesOf file = flat (idText ∷ part 17 20 file ∷ byte mark ∷ part 38 20 file ∷ word version ∷ [])
+abbrev pub namesOf : ModuleKind → (tracker file : List ℕ) → List ℕ
+namesOf kind tracker file = flat (idText kind ∷ part 17 20 file ∷ byte (mark kind) ∷ tracker ∷ word (version kind) ∷ [])
 
-abbrev pub numbersOf : (songLength patterns : ℕ) (file : List ℕ) → List ℕ
-numbersOf songLength patterns file = flat (
-    long (leastHeader songLength)
+abbrev pub numbersOf : ModuleKind → (songLength patterns : ℕ) (file : List ℕ) → List ℕ
+numbersOf kind songLength patterns file = flat (
+    long (leastHeader kind songLength)
     ∷ word songLength
     ∷ word (restartOf songLength (wordAt 66 file))
     ∷ word (channelsAt file)
@@ -39,5 +46,5 @@ numbersOf songLength patterns file = flat (
     ∷ word (wordAt 78 file)
     ∷ [])
 
-abbrev pub ordersOf : (orders : List ℕ) → List ℕ
-ordersOf orders = flat (orders ∷ replicate (ordersMost - length orders) 0 ∷ [])
+abbrev pub ordersOf : ModuleKind → (orders : List ℕ) → List ℕ
+ordersOf kind orders = flat (orders ∷ replicate (padding kind (length orders)) 0 ∷ [])

@@ -1,4 +1,3 @@
 pub mod Header
 pub mod Found
-pub mod Instrument
 pub mod Pattern

@@ -1,4 +1,3 @@
-// The parts of a pressed file, each written at the front of what remains of the output: its header, a pattern, an instrument.
+// The parts of a file that is written, each at the front of what remains of the output: its header, a pattern.
 pub mod header;
-pub mod instrument;
 pub mod pattern;

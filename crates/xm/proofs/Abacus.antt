@@ -6,24 +6,28 @@ use mathlib.Core.Path.{_≡_, refl}
 use lib.Count.{ones, onesIn}
 use lib.IntN.{pos, negsuc}
 use lib.ListN.{length, drop, replicate}
-use Rattle.xm.specs.Number.{wordAt, longAt, signed}
+use Rattle.xm.specs.Number.{byteAt, wordAt, longAt, long, signed}
+use Rattle.xm.specs.ModuleKind.{ModuleKind, normal, stripped, padded, before, trimmed}
 use Rattle.xm.specs.Got.{Got, got, refused, _>>=_, _>>_, ensure, checked}
 use Rattle.xm.specs.Format.{Region, Kind, header, patternHeader, patternData, instrument, sampleHeader, sampleData}
 use Rattle.xm.specs.Answer.{loaderNumber}
 use Rattle.xm.specs.Cell.{lengthBy, fieldsBy, cellAt, readCell, kept, marks, kepts, marked, plainBy, standsPlain, plainShorter, goesPlain, writeCell}
 use Rattle.xm.specs.Stored.{readCells, readStored, allZero, needsNoData, writeStored, cellsOf}
-use Rattle.xm.specs.Header.{restartInside, restartOf, readHeader, writeHeader}
+use Rattle.xm.specs.Header.{kindAt, restartInside, restartOf, trackerAt, readHeader, writeHeader}
 use Rattle.xm.specs.PatternInFile.{PatternFound, readPattern, writePattern}
-use Rattle.xm.specs.Sample.{Stretch, loopKind, loopFrom, loopCount, adpcm, dataSize, readHead, readData}
-use Rattle.xm.specs.Instrument.{InstrumentFound, readInstrument, writeVoice, writeInstrument, instrumentFormat}
+use Rattle.xm.specs.Sample.{Stretch, headBytes, lengthOf, loopKind, loopFrom, loopCount, adpcm, dataSize, readHead, readData, smallestHead}
+use Rattle.xm.specs.Instrument.{InstrumentFound, countAt, fieldsOf, readInstrument, writeVoice, writeFields, writeInstrument, instrumentFormat}
 use Rattle.xm.specs.Module.{readWhole, plays}
 use Rattle.xm.specs.Packing.{unpacking, unpackNumbers, unpackAfter, packing, packNumbers, packLoader}
 use Rattle.xm.specs.Delta.{pairs, storedNumbers, sums, decoded, decoding, decodeNumbers}
 use Rattle.xm.specs.Adpcm.{halves, chosen, adpcmDecoded}
 use Rattle.xm.specs.Table.{patternRow, sampleRowAt, InstrumentRow, instrumentRowsFrom, checking, checkNumbers, checkingInto, checkIntoLoader, patternNumbers, sampleNumbers}
 use Rattle.xm.specs.Asking.{asking, askNumbers, askingFlat}
-use Rattle.xm.specs.Structure.{kindNumber, structuresOf, handHead}
+use Rattle.xm.specs.Structure.{kindNumber, structuresOf, Standing, stands, ended, handHead, handOver}
 use Rattle.xm.specs.Press.{pressed}
+use Rattle.xm.specs.Convert.{convertTests, converting}
+use Rattle.xm.specs.Bench.{listIn}
+use Rattle.xm.specs.Worked.{headed, small, nothing, counted, five, sampled, noted}
 use Rattle.xm.specs.Wrong.{song}
 
 -- A note of 200 is read whole; a full cell with a note of 128 is written marked, in six bytes, and with one of 127 plain
@@ -64,7 +68,7 @@ unfolding adpcmDecoded chosen halves decoded storedNumbers pairs sums signed
 adpcm-values = refl
 
 pub adpcm-heads : map (λ (type : ℕ). numbersIn Stretch.bytes (readHead 40 0 (adpcmHead 0 type))) (0 ∷ 16 ∷ []) ≡ (40 ∷ adpcmHead 0 0) ∷ [] ∷ []
-unfolding readHead _>>_ ensure checked longAt
+unfolding readHead padded _>>_ ensure checked longAt
 adpcm-heads = refl
 
 -- A row's bytes, width and loop. In samples: forward at 16 bits, from byte 2 for 4 bytes; both ways at 8 bits; in five values of kind AD. All 0:
@@ -82,7 +86,7 @@ numberOf (refused r) = r .number
 
 pub odd-loops : map (λ (head : List ℕ). numberOf (readHead 40 0 head)) (sampleHead 8 1 2 17 0 ∷ sampleHead 8 2 3 18 0 ∷ sampleHead 8 1 3 17 adpcm ∷ sampleHead 8 1 3 1 0 ∷ sampleHead 8 1 3 16 0 ∷ sampleHead 8 1 0 17 0 ∷ sampleHead 8 2 4 3 0 ∷ [])
     ≡ 13 ∷ 13 ∷ 12 ∷ 0 ∷ 0 ∷ 0 ∷ 13 ∷ []
-unfolding readHead _>>_ ensure checked longAt
+unfolding readHead padded _>>_ ensure checked longAt
 odd-loops = refl
 
 -- A step of 1 from 127 wraps; two values are two
@@ -112,7 +116,7 @@ three-unpacked = (refl, refl, refl)
 abbrev pub bare : InstrumentFound
 bare = record { place = 0; size = 29; name = []; type = 0; voice = []; samples = ([], []) }
 
-pub no-samples : (map Region.size (instrumentFormat .regions bare) ≡ 29 ∷ []) × (map InstrumentRow.first (instrumentRowsFrom 0 (bare ∷ bare ∷ [])) ≡ 0 ∷ 0 ∷ [])
+pub no-samples : (map Region.size (instrumentFormat normal .regions bare) ≡ 29 ∷ []) × (map InstrumentRow.first (instrumentRowsFrom 0 (bare ∷ bare ∷ [])) ≡ 0 ∷ 0 ∷ [])
 no-samples = (refl, refl)
 
 -- One byte at 2 is asked for by the numbers of its row
@@ -148,6 +152,55 @@ unfolding plays
 two-channels = refl
 
 -- No bytes are refused; the song's file is read to its end, with and without tables
-pub song-checked : (checkNumbers [] ≡ 1 ∷ 0 ∷ 0 ∷ 0 ∷ 0 ∷ 0 ∷ 0 ∷ []) × (checkNumbers (pressed song) ≡ 0 ∷ 0 ∷ 662 ∷ 1 ∷ 2 ∷ 1 ∷ 1 ∷ []) × (checkIntoLoader (record { patterns = 2; instruments = 1; samples = 1 }) (pressed song) ≡ 662)
-unfolding checking checkingInto loaderNumber readWhole _>>=_ _>>_ ensure checked restartInside restartOf readHeader writeHeader readPattern writePattern readStored readCells readCell cellAt fieldsBy lengthBy ones onesIn writeStored needsNoData allZero writeCell goesPlain plainBy standsPlain plainShorter marked kepts marks kept readHead readData readInstrument writeVoice writeInstrument wordAt longAt dataSize
+pub song-checked : (checkNumbers [] ≡ 1 ∷ 0 ∷ 0 ∷ 0 ∷ 0 ∷ 0 ∷ 0 ∷ []) × (checkNumbers (pressed normal song) ≡ 0 ∷ 0 ∷ 662 ∷ 1 ∷ 2 ∷ 1 ∷ 1 ∷ []) × (checkIntoLoader (record { patterns = 2; instruments = 1; samples = 1 }) (pressed normal song) ≡ 662)
+unfolding checking checkingInto loaderNumber readWhole _>>=_ _>>_ ensure checked kindAt restartInside restartOf readHeader writeHeader readPattern writePattern readStored readCells readCell cellAt fieldsBy lengthBy ones onesIn writeStored needsNoData allZero writeCell goesPlain plainBy standsPlain plainShorter marked kepts marks kept readHead readData readInstrument writeVoice writeInstrument wordAt longAt padded dataSize
 song-checked = (refl, refl, refl)
+
+-- A stripped header of one order: by its mark, version and header size it is refused with 4, read, refused with 4 as a normal one, and refused with
+-- 3 as neither. No byte of its tracker name is read, and 81 bytes are written
+abbrev headerBy : (mark version size : ℕ) → List ℕ
+headerBy mark version size = headed mark version size 0 (replicate 17 1) (replicate 20 1) (replicate 1 0)
+
+pub header-kinds : (map (λ (s : List ℕ). numberOf (readHeader (kindAt s) 0 s)) (headerBy 0 0 20 ∷ headerBy 0 0 21 ∷ headerBy 0x1A 0x0104 21 ∷ headerBy 0 0x0104 21 ∷ headerBy 0x1A 0 21 ∷ []) ≡ 4 ∷ 0 ∷ 4 ∷ 3 ∷ 3 ∷ [])
+    × (trackerAt stripped (headerBy 0 0 21) ≡ replicate 20 0)
+    × (map (λ (kind : ModuleKind). length (writeHeader kind (song .0))) (normal ∷ stripped ∷ []) ≡ 336 ∷ 81 ∷ [])
+unfolding kindAt readHeader writeHeader _>>_ ensure checked restartInside restartOf wordAt longAt
+header-kinds = (refl, refl, refl)
+
+-- A stripped instrument's k is 5 and 7 in two bytes: with I = 27, 28 and 29 neither of them, the first, and both are there. The same of a sample
+-- header's length by H
+pub cut-off : (map (λ (I : ℕ). countAt (fieldsOf stripped (I ∷ replicate 26 0 ++ 5 ∷ 7 ∷ 9 ∷ []))) (27 ∷ 28 ∷ 29 ∷ []) ≡ 0 ∷ 5 ∷ 1797 ∷ [])
+    × (map (λ (H : ℕ). lengthOf (headBytes H (5 ∷ 7 ∷ 0 ∷ 0 ∷ 9 ∷ []))) (0 ∷ 1 ∷ 2 ∷ 40 ∷ []) ≡ 0 ∷ 5 ∷ 1797 ∷ 1797 ∷ [])
+unfolding padded wordAt longAt
+cut-off = (refl, refl)
+
+-- Stripped instruments: 1 of three bytes, 10 of I = 3, 1 of I = 5 in four bytes, 1 of I = 40 in 28 bytes before the 10 of 17 samples; 16 samples with
+-- no H are read, and so is I = 4; an H of 41 that is not there gets 1
+pub stripped-refused : map (λ (s : List ℕ). numberOf (readInstrument stripped 0 s)) ((4 ∷ 0 ∷ 0 ∷ []) ∷ long 3 ∷ long 5 ∷ counted 40 17 ∷ counted 28 17 ∷ counted 28 16 ∷ nothing ∷ sampled 41 [] [] ∷ [])
+    ≡ 1 ∷ 10 ∷ 1 ∷ 1 ∷ 10 ∷ 0 ∷ 0 ∷ 1 ∷ []
+unfolding readInstrument readHead readData dataSize padded _>>=_ _>>_ ensure checked wordAt longAt
+stripped-refused = refl
+
+-- The smallest H is the one of the longest header: of no bytes, of one and of 18; and an instrument without samples is written in four bytes, one with a sample of
+-- five in 36, with I = 30
+pub smallest : (map smallestHead ((replicate 40 0 ∷ []) ∷ (replicate 40 0 ∷ sampleHead 5 0 0 0 0 ∷ []) ∷ (adpcmHead 1 0 ∷ sampleHead 5 0 0 0 0 ∷ []) ∷ []) ≡ 0 ∷ 1 ∷ 18 ∷ [])
+    × (writeInstrument stripped (record { name = replicate 22 0; type = 0; voice = []; samples = ([], []) }) ≡ nothing)
+    × (writeInstrument stripped (record { name = replicate 22 0; type = 0; voice = replicate 208 0; samples = (sampleHead 5 0 0 0 0 ∷ [], (1 ∷ 2 ∷ 3 ∷ 4 ∷ 5 ∷ []) ∷ []) }) ≡ five)
+unfolding smallestHead writeInstrument writeFields trimmed before
+smallest = (refl, refl, refl)
+
+-- Of a stripped file with two sample headers of no bytes at its end the reader hands both over, and an instrument by the file's kind
+abbrev placeIn : Standing → ℕ
+placeIn (stands kind place) = place
+placeIn ended = 0
+
+pub handed-over : (placeIn (handOver (small stripped 0) (record { patterns = 0; instruments = 0; place = 90; heads = 2; head = 90; headSize = 0 }) .standing) ≡ 90)
+    × (placeIn (handOver (small stripped 0 ++ noted) (record { patterns = 0; instruments = 1; place = 90; heads = 0; head = 0; headSize = 0 }) .standing) ≡ 90)
+unfolding handOver kindAt readInstrument readHead readData dataSize padded _>>=_ _>>_ ensure checked wordAt longAt
+handed-over = (refl, refl)
+
+-- A conversion takes the tracker name away and writes the 81 bytes of a header and nine of a pattern; 2 is tried before 14, and 14 within the limit
+pub converted-small : (listIn (λ (x : List ℕ). length x ∷ byteAt 38 x ∷ []) (converting stripped (headed 0x1A 0x0104 276 0 (replicate 17 1) (replicate 20 1) (replicate 256 0)) 1000) ≡ 90 ∷ 0 ∷ [])
+    × (map (λ (size : ℕ). numberOf (checked (convertTests size 16777215))) (16777217 ∷ 16777216 ∷ 16777215 ∷ []) ≡ 2 ∷ 14 ∷ 0 ∷ [])
+unfolding converting readWhole _>>=_ _>>_ ensure checked kindAt restartInside restartOf readHeader writeHeader readPattern writePattern readStored writeStored needsNoData allZero wordAt longAt
+converted-small = (refl, refl)

@@ -3,16 +3,21 @@ use Prim.Native.Nat.{ℕ, zero, suc, _+_, _*_, _/_, _%_, _≤_, _<_}
 use mathlib.Core.Bool.{Bool, true, false, cond}
 use mathlib.Core.List.{List, [], _∷_, _++_, map, append-assoc}
 use mathlib.Core.Path.{_≡_, refl, sym, ap, ap₂, _∙_, subst}
-use native.Mathlib.Nat.{zero-add, add-zero, mul-zero, mul-suc}
+use native.Mathlib.Nat.{zero-add, mul-zero, mul-suc}
 use native.Mathlib.Omega.{arith}
+use lib.Dec.{ltb}
+use borrow.Author.Tests.{lt-ltb}
 use lib.ListN.{length, getD, take, drop, replicate, length-append, length-take, length-map, length-replicate, List·getD-append, List·getD-map}
-use lib.Seq.{drop-at, take-at, getD-append-add}
-use Rattle.xm.specs.Number.{byteAt, longAt, part}
+use lib.Seq.{drop-at, take-at, getD-append-add, getD-drop}
+use Rattle.xm.specs.Number.{byteAt, longAt, part, Bytes}
 use Rattle.xm.specs.Format.{sampleHeader, sampleData, joined, EachGood, All}
+use Rattle.xm.specs.ModuleKind.{ModuleKind, normal}
+use Rattle.xm.specs.Got.{got}
 use Rattle.xm.specs.PatternInFile.{PatternFound, GoodStored, patternFormat}
-use Rattle.xm.specs.Sample.{leastHead, Stretch, lengthOf, loopStart, loopLength, loopBits, isWide, loops, loopKind, loopFrom, loopCount, dataSize}
+use Rattle.xm.specs.Sample.{leastHead, Stretch, lengthOf, loopStart, loopLength, loopBits, isWide, loops, loopKind, loopFrom, loopCount, headBytes, kindOf, dataSize}
+use Rattle.xm.specs.Header.{kindAt}
 use Rattle.xm.specs.Instrument.{Instrument, InstrumentFound, instrumentView}
-use Rattle.xm.specs.Module.{Found, patternsFor, moduleFormat}
+use Rattle.xm.specs.Module.{Found, patternsFor, moduleFormat, regionsOf}
 use Rattle.xm.specs.Adpcm.{decodingBy, valuesOf}
 use Rattle.xm.specs.Table.{SampleRow, patternRow, sampleCount, instrumentRowsFrom, sampleRow, sampleRowsOf, sampleRowsIn, sampleRows, sampleStride, sampleNumbers}
 use Rattle.xm.specs.Press.{contentOf}
@@ -20,20 +25,26 @@ use Rattle.xm.specs.Answer.{gives}
 use Rattle.xm.specs.Region.{ofKind}
 use Rattle.xm.specs.Asking.{Lies, asking, stretchOf, askingFlat, askingRows, noRow, liesOf}
 use Rattle.xm.specs.Demands.{headsIn, bytesIn, RowUnpacks, RowsUnpack, FindsRows, HeadStands, HeadsStand, EachSample, RowReads, LoopReads, RowLoops, RowDecodes, liesAt, Asked, AsksExactly, LoopInside, AcceptedFile, AcceptedFiles}
-use Rattle.xm.proofs.Number.{byte-part}
+use Rattle.xm.proofs.Cut.{padded-at, byte-cut}
 use Rattle.xm.proofs.Got.{pass}
 use Rattle.xm.proofs.Answer.{answer-gives, answer-refuses, tests-fail}
-use Rattle.xm.proofs.Format.{joined-length, each-length}
+use Rattle.xm.proofs.Format.{joined-length, all-append, each-length}
 use Rattle.xm.proofs.Packing.{unpack-gives}
 use Rattle.xm.proofs.Row.{stored-anywhere}
 use Rattle.xm.proofs.PatternInFile.{PatternTold}
 use Rattle.xm.proofs.Sample.{HeadTold, DataTold, Sized, SamplesTold}
-use Rattle.xm.proofs.Module.{module-keeps, module-adjoins, module-tells, whole-read}
+use Rattle.xm.proofs.Instrument.{normal-wide}
+use Rattle.xm.proofs.Module.{module-keeps, module-adjoins, module-told, module-tells, whole-read}
+use Rattle.xm.proofs.Kind.{kind-found}
 use Rattle.xm.proofs.Region.{Before, adjoin-regions, kind-before}
 use Rattle.xm.proofs.Table.{lies, heads-lie, tables-stand, joined-map}
 use Rattle.xm.proofs.Adpcm.{sample-decodes, values-counted, decoding-roomy}
 
 -- Lists of facts
+all-joined : {A B : Type 0} (P : A → Type 0) (Q : B → Type 0) (f : A → List B) → ((x : A) → P x → All Q (f x)) → (xs : List A) → All P xs → All Q (joined f xs)
+all-joined P Q f h [] p = tt
+all-joined P Q f h (x ∷ xs) p = all-append Q (f x) (joined f xs) (h x (p .0)) (all-joined P Q f h xs (p .1))
+
 all-map : {A B : Type 0} (P : A → Type 0) (Q : B → Type 0) (f : A → B) → ((x : A) → P x → Q (f x)) → (xs : List A) → All P xs → All Q (map f xs)
 all-map P Q f h [] p = tt
 all-map P Q f h (x ∷ xs) p = (h x (p .0), all-map P Q f h xs (p .1))
@@ -51,9 +62,15 @@ all-at P [] k d p h = absurd (omega arith)
 all-at P (x ∷ xs) zero d p h = p .0
 all-at P (x ∷ xs) (suc k) d p h = all-at P xs k d (p .1) (omega arith)
 
--- A sample header is what stands in its region
+-- A sample header is what stands in its region, and 0 beyond
+cut-byte : (file : List ℕ) (size place k : ℕ) → k < leastHead → byteAt k (headBytes size (drop place file)) ≡ cond (ltb k size) (byteAt (place + k) file) 0
+cut-byte file size place k l =
+    padded-at leastHead k (take size (drop place file)) l
+    ∙ byte-cut size k (drop place file)
+    ∙ ap (λ (n : ℕ). cond (ltb k size) n 0) (getD-drop place file k 0)
+
 head-stands : (file : List ℕ) (h : Stretch) → HeadTold file h → HeadStands file (lies h) (h .bytes)
-head-stands file h t k l = ap (byteAt k) (t .bytes) ∙ byte-part (h .place) leastHead k file l
+head-stands file h t k l = ap (byteAt k) (t .bytes) ∙ cut-byte file (h .size) (h .place) k l
 
 some-stand : (file : List ℕ) (heads : List Stretch) (ls : List Lies) (hs : List (List ℕ)) → All (HeadTold file) heads → HeadsStand file ls hs
     → HeadsStand file (map lies heads ++ ls) (map Stretch.bytes heads ++ hs)
@@ -227,28 +244,37 @@ rows-unpack file channels (p ∷ ps) low high t g = (row-unpacks file channels p
 loop-inside : (file : List ℕ) (head : Stretch) → HeadTold file head → LoopInside (head .bytes)
 loop-inside file head t q = omega (arith, t .tests .1 .1 .1 .0 q)
 
+-- In a normal file no sample header's region is too short
+normal-heads : (file : List ℕ) (found : Found) (end : ℕ) → Bytes file → moduleFormat normal .read tt 0 file ≡ got found end
+    → All (λ (l : Lies). leastHead ≤ l .size) (joined (λ (i : InstrumentFound). map lies (i .samples .0)) (found .1 .1))
+normal-heads file found end b e =
+    all-joined (λ (i : InstrumentFound). All (λ (h : Stretch). leastHead ≤ h .size) (i .samples .0)) _ _
+    (λ i w. all-map (λ (h : Stretch). leastHead ≤ h .size) _ lies (λ h l. l) (i .samples .0) w) (found .1 .1) (module-told normal normal-wide file found end b e .1)
+
 pub accepted-files : AcceptedFiles
 accepted-files file found end b e =
-    whole-read moduleFormat file found end e λ size e.
-    let w = module-keeps .keeps 0 file found end b e in
-    let t = module-tells file found end b e in
+    whole-read (moduleFormat (kindAt file)) file found end e λ size e.
+    let kind = kindAt file in
+    let w = module-keeps kind .keeps 0 file found end b e in
+    let t = module-tells kind file found end b e in
     let c = w .good .0 .counts in
-    let adjoin = rw (zero-add end) at (module-adjoins .adjoins 0 file found end e) in
+    let adjoin = rw (zero-add end) at (module-adjoins kind .adjoins 0 file found end e) in
     let n = each-length patternFormat (patternsFor (found .0 .content)) (map PatternFound.content (found .1 .0)) (w .good .1 .0) in
     let stand = tables-stand file found (t .instruments) in
     let before : All (λ (row : SampleRow). row .dataPlace + row .size ≤ end) (sampleRows found) =
-    all-unmap (Before end) _ (sampleRows found) (rw (stand .bytes) at (kind-before sampleData 0 end (moduleFormat .regions found) adjoin)) in
+    all-unmap (Before end) _ (sampleRows found) (rw (stand .bytes) at (kind-before sampleData 0 end (regionsOf found) adjoin)) in
     let decode : EachSample (RowDecodes file) (sampleRows found) (headsIn (contentOf found)) (bytesIn (contentOf found)) =
     content-samples file (RowDecodes file) (row-decodes file) (found .1 .1) (t .instruments) in
     record {
       ends-inside = w .inside;
-      regions = adjoin-regions file (moduleFormat .regions found) end adjoin (w .inside);
+      regions = adjoin-regions file (regionsOf found) end adjoin (w .inside);
       tables = stand;
       rows-unpack =
           rows-unpack file (found .0 .content .channels) (found .1 .0) (c .1 .1 .0 .0) (c .1 .1 .0 .1) (t .patterns)
           (rw (sym (length-map (found .1 .0) PatternFound.content) ∙ n ∙ length-replicate (found .0 .content .patterns) (found .0 .content .channels)) (w .good .1 .0));
       rows-found = finds-rows file [] 0 (found .1 .1) refl (t .instruments);
       heads-stand = rw (heads-lie file found (t .instruments), joined-map _ instrumentView (found .1 .1)) (all-stand file (found .1 .1) (t .instruments));
+      heads-whole = λ q. rw (heads-lie file found (t .instruments)) (normal-heads file found end b (subst (λ (k : ModuleKind). moduleFormat k .read tt 0 file ≡ got found end) (sym (kind-found kind file found end e) ∙ q) e));
       rows-read = content-samples file RowReads (λ h b t d z. row-reads h b) (found .1 .1) (t .instruments);
       rows-loop = content-samples file RowLoops (λ h b t d z. row-loops file h b t) (found .1 .1) (t .instruments);
       rows-decode = decode;
@@ -260,17 +286,19 @@ accepted-files file found end b e =
           (λ i s. all-map (HeadTold file) LoopInside Stretch.bytes (loop-inside file) (i .samples .0) (s .heads)) (found .1 .1) (t .instruments);
     }
 
--- The header of a sample, where its row says that it stands: each byte, and the length that its first four say
-stands-at : (file : List ℕ) (ls : List Lies) (heads : List (List ℕ)) (number k : ℕ) → number < length ls → k < leastHead → HeadsStand file ls heads
-    → byteAt k (getD heads number []) ≡ byteAt (getD (map Lies.place ls) number 0 + k) file
-stands-at file [] heads number k h l e = absurd (omega arith)
-stands-at file (x ∷ ls) [] number k h l e = absurd e
-stands-at file (x ∷ ls) (head ∷ heads) zero k h l e = e .0 k l
-stands-at file (x ∷ ls) (head ∷ heads) (suc number) k h l e = stands-at file ls heads number k (omega arith) l (e .1)
+-- The header of a sample, where its row says that it stands and as far as its region goes: each byte, and the length that its first four say
+abbrev pub nowhere : Lies
+nowhere = record { place = 0; size = 0 }
 
-long-same : (head file : List ℕ) (place : ℕ) → ((k : ℕ) → k < leastHead → byteAt k head ≡ byteAt (place + k) file) → longAt 0 head ≡ longAt place file
+stands-at : (file : List ℕ) (ls : List Lies) (heads : List (List ℕ)) (number : ℕ) → number < length ls → HeadsStand file ls heads → HeadStands file (getD ls number nowhere) (getD heads number [])
+stands-at file [] heads number h e = absurd (omega arith)
+stands-at file (x ∷ ls) [] number h e = absurd e
+stands-at file (x ∷ ls) (head ∷ heads) zero h e = e .0
+stands-at file (x ∷ ls) (head ∷ heads) (suc number) h e = stands-at file ls heads number (omega arith) (e .1)
+
+long-same : (head other : List ℕ) → ((k : ℕ) → k < leastHead → byteAt k head ≡ byteAt k other) → lengthOf head ≡ lengthOf other
 unfolding longAt
-long-same head file place same = rw (same 0 (omega arith), same 1 (omega arith), same 2 (omega arith), same 3 (omega arith), add-zero place)
+long-same head other same = rw (same 0 (omega arith), same 1 (omega arith), same 2 (omega arith), same 3 (omega arith))
 
 module _ (file : List ℕ) (found : Found) (end : ℕ) (accepted : AcceptedFile file found end) (number : ℕ) (low : number < length (sampleRows found)) where
   abbrev row : SampleRow
@@ -282,12 +310,27 @@ module _ (file : List ℕ) (found : Found) (end : ℕ) (accepted : AcceptedFile 
   abbrev pub bytesAt : List ℕ
   bytesAt = getD (bytesIn (contentOf found)) number []
 
-  pub head-byte : (k : ℕ) → k < leastHead → byteAt k headAt ≡ byteAt (row .headerPlace + k) file
+  -- what is read there, H being the size of the header's region
+  abbrev heads : List Lies
+  heads = ofKind sampleHeader (regionsOf found)
+
+  abbrev pub headIn : List ℕ
+  headIn = headBytes (getD heads number nowhere .size) (drop (row .headerPlace) file)
+
+  low-head : number < length heads
+  low-head = omega (arith, ap length (accepted .tables .heads), length-map heads Lies.place, length-map (sampleRows found) SampleRow.headerPlace)
+
+  head-place : getD heads number nowhere .place ≡ row .headerPlace
+  head-place =
+      sym (List·getD-map Lies.place heads number nowhere)
+      ∙ ap (λ (all : List ℕ). getD all number 0) (accepted .tables .heads)
+      ∙ List·getD-map SampleRow.headerPlace (sampleRows found) number noRow
+
+  pub head-byte : (k : ℕ) → k < leastHead → byteAt k headAt ≡ byteAt k headIn
   head-byte k l =
-      let ls = ofKind sampleHeader (moduleFormat .regions found) in
-      let places = accepted .tables .heads in
-      stands-at file ls (headsIn (contentOf found)) number k (omega (arith, ap length places, length-map ls Lies.place, length-map (sampleRows found) SampleRow.headerPlace)) l (accepted .heads-stand)
-      ∙ ap (λ (place : ℕ). byteAt (place + k) file) (ap (λ (all : List ℕ). getD all number 0) places ∙ List·getD-map SampleRow.headerPlace (sampleRows found) number noRow)
+      stands-at file heads (headsIn (contentOf found)) number low-head (accepted .heads-stand) k l
+      ∙ ap (λ (place : ℕ). cond (ltb k (getD heads number nowhere .size)) (byteAt (place + k) file) 0) head-place
+      ∙ sym (cut-byte file (getD heads number nowhere .size) (row .headerPlace) k l)
 
   -- Its row has the header's loop, which lies within its values
   pub loop-at : LoopReads headAt (row .width) (row .loopKind) (row .loopStart) (row .loopLength) × (row .loopStart + row .loopLength ≤ length (valuesOf headAt bytesAt))
@@ -296,10 +339,16 @@ module _ (file : List ℕ) (found : Found) (end : ℕ) (accepted : AcceptedFile 
     sample-at (RowDecodes file) (sampleRows found) (headsIn (contentOf found)) (bytesIn (contentOf found)) number low (accepted .rows-decode) .3,
   )
 
-  -- So its data decode by the kind and length that stand there
+  -- So its data decode by the kind and length that are read there
   pub decodes-at : (room : ℕ) → length (valuesOf headAt bytesAt) ≤ room
-      → decodingBy (byteAt (row .headerPlace + 17) file) (longAt (row .headerPlace) file) (row .width) (part (row .dataPlace) (row .size) file) room ≡ gives (valuesOf headAt bytesAt)
+      → decodingBy (kindOf headIn) (lengthOf headIn) (row .width) (part (row .dataPlace) (row .size) file) room ≡ gives (valuesOf headAt bytesAt)
   decodes-at room enough =
-      rw (← head-byte 17 (omega arith), ← long-same headAt file (row .headerPlace) head-byte)
+      rw (← head-byte 17 (omega arith), ← long-same headAt headIn head-byte)
       (decoding-roomy (byteAt 17 headAt) (longAt 0 headAt) (row .width) (part (row .dataPlace) (row .size) file) (valuesOf headAt bytesAt) room
       (sample-at (RowDecodes file) (sampleRows found) _ _ number low (accepted .rows-decode) .1) enough)
+
+  -- In a normal file nothing of a header is cut off
+  pub normal-byte : found .0 .kind ≡ normal → (k : ℕ) → k < leastHead → byteAt k headIn ≡ byteAt (row .headerPlace + k) file
+  normal-byte q k l =
+      let wide = all-at (λ (l : Lies). leastHead ≤ l .size) heads number nowhere (accepted .heads-whole q) low-head in
+      cut-byte file (getD heads number nowhere .size) (row .headerPlace) k l ∙ rw (lt-ltb k (getD heads number nowhere .size) (omega arith))

@@ -8,7 +8,7 @@ use lib.Dec.{ltb}
 use borrow.Author.Tests.{ltb-true, ltb-false}
 use lib.ListN.{length, getD, take, drop, length-append, length-take, List·getD-eq-default}
 use lib.Seq.{drop-nil, getD-take}
-use Rattle.xm.specs.Number.{Bytes, byteAt}
+use Rattle.xm.specs.Number.{Bytes, byteAt, wordAt, longAt}
 use Rattle.xm.specs.ModuleKind.{padded, before, trimmed}
 use Rattle.xm.proofs.Number.{bytes-nil, bytes-cons, bytes-tail}
 use Rattle.xm.proofs.Format.{cons-path}
@@ -54,6 +54,15 @@ padded-at (suc width) zero [] h = refl
 padded-at (suc width) zero (b ∷ s) h = refl
 padded-at (suc width) (suc i) [] h = padded-at width i [] (omega arith) ∙ none-at i
 padded-at (suc width) (suc i) (b ∷ s) h = padded-at width i s (omega arith)
+
+pub word-padded : (width offset : ℕ) (s : List ℕ) → offset + 2 ≤ width → wordAt offset (padded width s) ≡ wordAt offset s
+unfolding wordAt
+word-padded width offset s h = rw (padded-at width offset s (omega arith), padded-at width (offset + 1) s (omega arith))
+
+pub long-padded : (width offset : ℕ) (s : List ℕ) → offset + 4 ≤ width → longAt offset (padded width s) ≡ longAt offset s
+unfolding longAt
+long-padded width offset s h =
+    rw (padded-at width offset s (omega arith), padded-at width (offset + 1) s (omega arith), padded-at width (offset + 2) s (omega arith), padded-at width (offset + 3) s (omega arith))
 
 -- and from the cut on they are 0
 pub byte-cut : (size offset : ℕ) (s : List ℕ) → byteAt offset (take size s) ≡ cond (ltb offset size) (byteAt offset s) 0

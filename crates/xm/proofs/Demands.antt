@@ -7,37 +7,42 @@ use borrow.Author.Tests.{lt-ltb, le-ltb}
 use lib.IntN.{ℤ}
 use lib.ListN.{length, getD, drop, length-append, length-drop, length-map, List·getD-eq-default}
 use Rattle.xm.specs.Number.{Bytes}
-use Rattle.xm.specs.Got.{Refusal, got, refused, _at_, AllHold}
+use Rattle.xm.specs.ModuleKind.{ModuleKind}
+use Rattle.xm.specs.Got.{Refusal, got, refused, AllHold}
 use Rattle.xm.specs.Format.{joined, All}
 use Rattle.xm.specs.Answer.{Answer, gives, refuses, behind, numbers, inFront, loaderNumber}
-use Rattle.xm.specs.Header.{Header, songLengthAt, restartAt, restartInside, restartOf, headerOf, readHeader}
+use Rattle.xm.specs.Header.{Header, songLengthAt, restartAt, restartInside, restartOf, headerOf, readHeader, kindAt}
 use Rattle.xm.specs.Sample.{Stretch}
 use Rattle.xm.specs.Instrument.{Instrument, InstrumentFound, instrumentView}
 use Rattle.xm.specs.Module.{Found, Content, moduleFormat, fileMost, readFile, plays}
 use Rattle.xm.specs.Delta.{sums, storedNumbers, decoded, decoding, coding, countWritten, deltaMost, limitTest}
 use Rattle.xm.specs.Adpcm.{chosen, adpcmDecoded, adpcmDecoding, adpcmMost}
 use Rattle.xm.specs.Table.{Checked, checkedAs, checkResults, checking, checkNumbers, checkLoader, checkingInto, checkIntoLoader, Tables, Room, roomOf, roomTests, tablesAfter, patternRows, instrumentRows, sampleRowsIn, sampleRows, patternStride, instrumentStride, sampleStride, tuneStride, patternNumbers, instrumentNumbers, sampleNumbers, sampleTunes}
-use Rattle.xm.specs.Press.{pressed, pressingAs, pressing, pressLoader}
-use Rattle.xm.specs.Demands.{KeepsItsWord, TablesKept, Demand₁, Demand₂, Demand₃, CheckTells, countsOf, RunningSums, AdpcmTells, PressesWhole, SameBytes, RoomFor, TablesTell, RestIgnored, RestartsRead, PlaysOrders, LoaderTells, Limited, LoadersTell}
+use Rattle.xm.specs.Press.{pressed, pressingAs, pressing, pressLoader, contentOf, pressedLength}
+use Rattle.xm.specs.Demands.{KeepsItsWord, TablesKept, Demand₁, Demand₂, Demand₃, CheckTells, countsOf, RunningSums, AdpcmTells, PressesWhole, SameBytes, RoomFor, TablesTell, RestIgnored, RestartsRead, PlaysOrders, LoaderTells, Limited, LoadersTell, FileOf}
 use Rattle.xm.proofs.Got.{refused-tests, refused-bind, got-never, pass, passed, step, step-refused, bind-got}
 use Rattle.xm.proofs.Answer.{answer-gives, answer-refuses, gives-got, gives-passed, gives-bound, gives-same, gives-refuses, refuses-refused, tests-fail, behind-holds, behind-fails, behind-gave, behind-refused, SoundRefusal, read-sound, word-kept, loader-tells, accepted-gives, reported-written}
 use Rattle.xm.proofs.Format.{joined-length}
+use Rattle.xm.specs.Convert.{converted, converting, convertLoader}
+use Rattle.xm.proofs.Number.{Agree}
 use Rattle.xm.proofs.Packing.{unpack-word, pack-word, unpacks-to-cells, pack-shortest, unpack-tells, pack-tells, pack-apart}
 use Rattle.xm.proofs.Delta.{valuesFrom, values-none, values-step, decoded-most, coded-most, decoding-gave, coding-gave, coding-decoding, decoding-coding}
 use Rattle.xm.proofs.Adpcm.{chosen-at, adpcm-length, adpcm-unfit, adpcm-room, adpcm-given, adpcm-gave}
 use Rattle.xm.proofs.Fault.{FileFault, module-faults, whole-faults}
 use Rattle.xm.proofs.Sample.{SamplesTold}
 use Rattle.xm.proofs.Module.{module-back, module-keeps, module-firm, module-tells, whole-read, whole-firm}
+use Rattle.xm.proofs.Kind.{kind-fits, kind-reads, kinds-told}
 use Rattle.xm.proofs.Accepted.{rows-length}
+use Rattle.xm.proofs.Convert.{converts-shortest}
 use Rattle.xm.proofs.Press.{pressed-exactly, pressed-shortest, pressed-reads, pressed-ends, pressed-back, same-bytes}
 
 -- Check: its refusals, where it ends, and what it counts
 file-fault : (file : List ℕ) (r : Refusal) → Bytes file → checking file ≡ refuses r → FileFault file r
 unfolding checking
-file-fault file r b e = whole-faults moduleFormat module-faults file r b (refuses-refused _ _ e)
+file-fault file r b e = whole-faults (moduleFormat (kindAt file)) (module-faults (kindAt file)) file r b (refuses-refused _ _ e)
 
 end-inside : (file : List ℕ) (found : Found) (end : ℕ) → Bytes file → readFile file ≡ got found end → (end ≤ length file) × (length file ≤ fileMost)
-end-inside file found end b e = whole-read moduleFormat file found end e λ size e. (module-keeps .keeps 0 file found end b e .inside, size)
+end-inside file found end b e = whole-read (moduleFormat (kindAt file)) file found end e λ size e. (module-keeps (kindAt file) .keeps 0 file found end b e .inside, size)
 
 samples-counted : (file : List ℕ) (is : List InstrumentFound) → All (λ (i : InstrumentFound). SamplesTold file (i .samples)) is
     → length (joined sampleRowsIn is) ≡ length (joined (λ (x : Instrument). x .samples .0) (map instrumentView is))
@@ -47,21 +52,23 @@ samples-counted file (i ∷ is) t =
     ∙ ap₂ _+_ (rows-length (i .samples .0) (i .samples .1) (t .0 .sizes) ∙ sym (length-map (i .samples .0) Stretch.bytes)) (samples-counted file is (t .1))
     ∙ sym (length-append (map Stretch.bytes (i .samples .0)) (joined (λ (x : Instrument). x .samples .0) (map instrumentView is)))
 
-found-counts : (file : List ℕ) (found : Found) (end : ℕ) → Bytes file → readFile file ≡ got found end → checkNumbers file ≡ 0 ∷ 0 ∷ end ∷ countsOf (moduleFormat .view found)
+found-counts : (file : List ℕ) (found : Found) (end : ℕ) → Bytes file → readFile file ≡ got found end → checkNumbers file ≡ 0 ∷ 0 ∷ end ∷ countsOf (contentOf found)
 unfolding checking
 found-counts file found end b e =
-    whole-read moduleFormat file found end e λ size q.
+    whole-read (moduleFormat (kindAt file)) file found end e λ size q.
     rw e (ap {B = List ℕ} (λ (n : ℕ). 0 ∷ 0 ∷ end ∷ found .0 .content .channels ∷ found .0 .content .patterns ∷ found .0 .content .instruments ∷ n ∷ [])
-    (samples-counted file (found .1 .1) (module-tells file found end b q .instruments)))
+    (samples-counted file (found .1 .1) (module-tells (kindAt file) file found end b q .instruments)))
 
 check-tells : CheckTells
 unfolding checking
 check-tells = record {
-  accepted = λ content file f. found-counts file (f .found) (f .end) (f .plain) (f .reads) ∙ ap {B = List ℕ} (λ (c : Content). 0 ∷ 0 ∷ f .end ∷ countsOf c) (f .same);
+  accepted = λ kind content file f.
+      found-counts file (f .found) (f .end) (f .plain) (kinds-told kind content file f .reads ∙ f .reads)
+      ∙ ap {B = List ℕ} (λ (c : Content). 0 ∷ 0 ∷ f .end ∷ countsOf c) (f .same);
   refused-so = λ file r e. ap (numbers checkResults) (answer-refuses checkedAs e);
   acceptable = λ file b n.
       accepted-gives (checking file) (λ r e. file-fault file r b e .numbered .0) n λ c e.
-      gives-got _ (readFile file) e λ found end q d. (moduleFormat .view found, record { plain = b; found = found; end = end; reads = q; same = refl });
+      gives-got _ (readFile file) e λ found end q d. (kindAt file, contentOf found, record { plain = b; found = found; end = end; reads = q; same = refl });
 }
 
 check-loads : (file : List ℕ) → Bytes file → LoaderTells Checked.end (checking file) (checkLoader file)
@@ -78,7 +85,7 @@ record OwnFault (r : Refusal) : Type 0 where
 
 own-sound : (file : List ℕ) (r : Refusal) → Bytes file → readFile file ≡ refused r → OwnFault r
 own-sound file r b e =
-    let f = whole-faults moduleFormat module-faults file r b e in
+    let f = whole-faults (moduleFormat (kindAt file)) (module-faults (kindAt file)) file r b e in
     record { sound = read-sound (f .numbered); small = f .small }
 
 -- The tables: what is filled is no longer than what was lent
@@ -220,7 +227,7 @@ adpcm-tells count bytes room = record {
   sums = running-sums 8 0 (chosen count bytes);
 }
 
--- Pressing
+-- Pressing, of any file, and conversion
 press-fault : (file : List ℕ) (room : ℕ) (r : Refusal) → Bytes file → pressing file room ≡ refuses r → OwnFault r
 unfolding pressingAs
 press-fault file room r b e =
@@ -231,8 +238,9 @@ press-file : (file : List ℕ) (room : ℕ) (bytes : List ℕ) → Bytes file �
 unfolding pressingAs
 press-file file room bytes b e =
     gives-bound _ (readFile file) _ e λ found end er e. gives-passed _ _ _ e λ hs e.
+    let kind = kindAt file in
     let h = end-inside file found end b er in
-    let s = pressed-shortest moduleFormat module-back module-keeps (record { plain = b; found = found; end = end; reads = er; same = refl }) in
+    let s = pressed-shortest (moduleFormat kind) (module-back kind) (module-keeps kind) (record { plain = b; found = found; end = end; reads = er; same = refl }) in
     let q = ap length (gives-same e) in
     (omega (arith, hs .0), omega arith)
 
@@ -243,6 +251,26 @@ press-loads : (file : List ℕ) (room : ℕ) → Bytes file → LoaderTells leng
 press-loads file room b =
     loader-tells length (pressing file room) (pressLoader file room) refl (λ bytes e. omega (arith, press-file file room bytes b e .1))
     (λ r e. let f = press-fault file room r b e in (f .sound .numbered .0, omega (arith, f .small)))
+
+convert-fault : (to : ModuleKind) (file : List ℕ) (room : ℕ) (r : Refusal) → Bytes file → converting to file room ≡ refuses r → OwnFault r
+unfolding converting
+convert-fault to file room r b e =
+    refused-bind (readFile file) _ (refuses-refused _ _ e) (own-sound file r b)
+    λ found end er e. refused-tests OwnFault _ _ e (omega arith) λ hs e. absurd (got-never e)
+
+convert-file : (to : ModuleKind) (file : List ℕ) (room : ℕ) (bytes : List ℕ) → converting to file room ≡ gives bytes → (length bytes ≤ room) × (length bytes ≤ fileMost)
+unfolding converting
+convert-file to file room bytes e =
+    gives-bound _ (readFile file) _ e λ found end er e. gives-passed _ _ _ e λ hs e.
+    let q = ap length (gives-same e) in (omega (arith, hs .1 .0), omega (arith, hs .0))
+
+convert-word : (to : ModuleKind) (file : List ℕ) → Bytes file → KeepsItsWord (λ (bytes : List ℕ). bytes) (converting to file)
+convert-word to file b = word-kept _ (converting to file) (λ room r e. convert-fault to file room r b e .sound) (λ room bytes e. convert-file to file room bytes e .0)
+
+convert-loads : (to : ModuleKind) (file : List ℕ) (room : ℕ) → Bytes file → LoaderTells length (converting to file room) (convertLoader to file room)
+convert-loads to file room b =
+    loader-tells length (converting to file room) (convertLoader to file room) refl (λ bytes e. omega (arith, convert-file to file room bytes e .1))
+    (λ r e. let f = convert-fault to file room r b e in (f .sound .numbered .0, omega (arith, f .small)))
 
 -- The demands
 pub demand₁ : Demand₁
@@ -258,15 +286,27 @@ demand₁ = record {
   adpcm = adpcm-word;
   adpcm-limited = λ count bytes. limited-word adpcmMost (omega arith) count (adpcmDecoding count bytes) (adpcm-fault count bytes) (adpcm-fits count bytes);
   press = press-word;
+  convert = convert-word;
 }
 
 pub demand₃ : Demand₃
-demand₃ = record { patterns = pack-shortest; modules = pressed-exactly moduleFormat module-back module-keeps }
+demand₃ = record {
+  patterns = pack-shortest;
+  modules = λ kind. pressed-exactly (moduleFormat kind) (module-back kind) (module-keeps kind);
+  conversions = converts-shortest;
+}
 
 pub demand₂ : Demand₂
 demand₂ = record {
   check = check-tells;
-  press = pressed-back moduleFormat module-back module-keeps;
+  press = λ kind. pressed-back (moduleFormat kind) (module-back kind) (module-keeps kind);
+  convert = λ kind to content file out f n.
+      let answer = converting to file (length out) in
+      accepted-gives answer (λ r e. convert-fault to file (length out) r (f .plain) e .sound .numbered .0) n λ bytes e.
+      let d = demand₃ .conversions kind to content file (length out) f in
+      let same = gives-same (sym (d .given-else (λ q. gives-refuses e q) (λ q. gives-refuses e q)) ∙ e) in
+      let stands = reported-written pressedLength (λ bytes. bytes) answer out bytes e (omega arith) in
+      subst (FileOf (moduleFormat to) (converted content)) (same ∙ sym stands) (d .written (λ q. gives-refuses e q));
   unpack = unpacks-to-cells;
   decode = λ width values out room f n l.
       accepted-gives (coding width values (length out)) (λ r e. code-word width values .numbered (length out) r e .0) n λ bytes e.
@@ -281,17 +321,21 @@ demand₂ = record {
 }
 
 -- The further claims: `fifteen` stands in Packing, `twelve-exactly` in Adpcm, `thirteen-exactly` in Sample, `accepted-files` and `asks-exactly` in
--- Accepted, `readers-tell` in Structure
+-- Accepted, `readers-tell` in Structure, `kinds-told` in Kind, `kinds-refused` in Never, `smallest-sizes` in Stripped, `own-refusal-first`,
+-- `kept-else` and `converts-back` in Convert
 pub presses-whole : PressesWhole
-presses-whole content file f = record {
-  no-longer = pressed-shortest moduleFormat module-back module-keeps f;
-  ends =
-      check-tells .accepted content (pressed content) (pressed-reads moduleFormat module-back module-keeps f)
-      ∙ ap {B = List ℕ} (λ (n : ℕ). 0 ∷ 0 ∷ n ∷ countsOf content) (pressed-ends moduleFormat module-back module-keeps f);
-}
+presses-whole kind content file f =
+    let back = module-back kind in
+    let keeps = module-keeps kind in
+    record {
+      no-longer = pressed-shortest (moduleFormat kind) back keeps f;
+      ends =
+          check-tells .accepted kind content (pressed kind content) (pressed-reads (moduleFormat kind) back keeps f)
+          ∙ ap {B = List ℕ} (λ (n : ℕ). 0 ∷ 0 ∷ n ∷ countsOf content) (pressed-ends (moduleFormat kind) back keeps f);
+    }
 
-pub module-bytes : SameBytes moduleFormat
-module-bytes = same-bytes moduleFormat module-back module-keeps
+pub module-bytes : (kind : ModuleKind) → SameBytes (moduleFormat kind)
+module-bytes kind = same-bytes (moduleFormat kind) (module-back kind) (module-keeps kind)
 
 pub tables-tell : (file : List ℕ) (room : Room) → TablesTell file room
 unfolding checkingInto
@@ -308,7 +352,11 @@ tables-tell file room = record {
     filled found end e h = answer-gives _ (step _ e (pass (roomTests room found) (h .0, (h .1, (h .2, tt))) refl))
 
 pub rest-ignored : RestIgnored
-rest-ignored file other found end e size l same = whole-firm moduleFormat module-firm file other found end e (record { long = l; same = same }) size
+rest-ignored file other found end e size l same =
+    let kind = kindAt file in
+    let agree : Agree end file other = record { long = l; same = same } in
+    let r = whole-firm (moduleFormat kind) (module-firm kind) file other found end e agree size in
+    kind-reads kind other (kind-fits kind other found end r) ∙ r
 
 default-free : {A : Type 0} (xs : List A) (k : ℕ) (a b : A) → k < length xs → getD xs k a ≡ getD xs k b
 default-free [] k a b h = absurd (omega arith)
@@ -318,9 +366,9 @@ default-free (x ∷ xs) (suc k) a b h = default-free xs k a b (omega arith)
 pub restarts-read : RestartsRead
 unfolding readHeader restartOf restartInside
 restarts-read file found end e =
-    whole-read moduleFormat file found end e λ h e. bind-got _ _ e λ header n eh e. bind-got _ _ e λ body m eb e.
+    whole-read (moduleFormat (kindAt file)) file found end e λ h e. bind-got _ _ e λ header n eh e. bind-got _ _ e λ body m eb e.
     passed _ _ eh λ hs eh.
-    let same : found .0 .content ≡ headerOf file = cc in
+    let same : found .0 .content ≡ headerOf (kindAt file) file = cc in
     record {
       beyond = λ l. ap Header.restart same ∙ rw (le-ltb (restartAt file) (songLengthAt file) l);
       inside = λ l. ap Header.restart same ∙ rw (lt-ltb (restartAt file) (songLengthAt file) l);
@@ -340,6 +388,7 @@ loaders-tell = record {
   pack = pack-tells;
   pack-apart = pack-apart;
   press = press-loads;
+  convert = convert-loads;
   tables = into-loads;
   decode = λ width bytes. limited-loads deltaMost (omega arith) (length bytes) (decoding width bytes) (decode-fault width bytes) (decode-fits width bytes);
   decode-limited = λ width bytes room. limited deltaMost (length bytes) (decoding width bytes room);

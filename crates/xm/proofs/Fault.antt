@@ -1,22 +1,20 @@
 -- Every refusal has one of the paper's numbers, and a place inside what was read or at its end. Assumes nothing.
-use Prim.Native.Nat.{ℕ, zero, suc, _+_, _*_, _≤_}
-use mathlib.Core.Bool.{true}
+use Prim.Native.Nat.{ℕ, _+_, _*_, _≤_}
 use mathlib.Core.List.{List, [], _∷_}
-use mathlib.Core.Path.{_≡_}
+use mathlib.Core.Path.{_≡_, _∙_}
 use native.Mathlib.Omega.{arith}
-use lib.Dec.{ltb}
-use borrow.Author.Tests.{lt-ltb}
 use lib.ListN.{length, drop, replicate, length-drop}
 use lib.Seq.{length-take-le}
 use Rattle.xm.specs.Number.{Bytes, wordAt, longAt, part}
+use Rattle.xm.specs.ModuleKind.{ModuleKind, normal, stripped}
 use Rattle.xm.specs.Got.{Refusal, refused}
 use Rattle.xm.specs.Format.{Format, over, then, each, eachRead, All}
 use Rattle.xm.specs.Cell.{cellFormat, readCell}
 use Rattle.xm.specs.Stored.{readCells, readStored}
 use Rattle.xm.specs.Header.{Header, GoodHeader, headerFormat, readHeader}
 use Rattle.xm.specs.PatternInFile.{patternFormat, readPattern}
-use Rattle.xm.specs.Sample.{leastHead, headFormat, readHead, dataFormat, readData, samplesFormat}
-use Rattle.xm.specs.Instrument.{instrumentFormat, readInstrument}
+use Rattle.xm.specs.Sample.{readHead, dataFormat, readData, samplesFormat, cutHeadFormat, cutSamplesFormat}
+use Rattle.xm.specs.Instrument.{fieldsOf, instrumentFormat, readInstrument}
 use Rattle.xm.specs.Module.{patternsFor, instrumentsFor, bodyFormat, moduleFormat, fileMost, readWhole}
 use Rattle.xm.specs.Demands.{Numbered}
 use Rattle.xm.proofs.Number.{bytes-drop, bytes-take}
@@ -25,8 +23,8 @@ use Rattle.xm.proofs.Format.{Keeps, over-keeps, many-keeps, all, all-re
 use Rattle.xm.proofs.Cell.{cell-keeps}
 use Rattle.xm.proofs.Header.{header-keeps}
 use Rattle.xm.proofs.PatternInFile.{pattern-keeps}
-use Rattle.xm.proofs.Sample.{head-keeps, data-keeps}
-use Rattle.xm.proofs.Instrument.{instrument-keeps}
+use Rattle.xm.proofs.Sample.{cut-keeps, data-keeps, samples-alike}
+use Rattle.xm.proofs.Stripped.{instrument-keeps}
 
 -- What a refusal may be, of bytes that begin at a place
 pub record Fault (place : ℕ) (s : List ℕ) (r : Refusal) : Type 0 where
@@ -88,9 +86,9 @@ stored-faults channels rows place (b ∷ d) r p e =
     let w = many-keeps cellFormat (rows * channels) cell-keeps .keeps place (b ∷ d) xs n p ex in
     refused-tests (Fault place (b ∷ d)) _ _ e₁ (omega (arith, w .inside)) λ hs e₂. absurd (got-never e₂)
 
-header-faults : Faults headerFormat tt
+header-faults : (kind : ModuleKind) → Faults (headerFormat kind) tt
 unfolding readHeader
-header-faults = record { faults = λ place s r p e. refused-tests (Fault place s) _ _ e (omega arith) λ hs e₁. absurd (got-never e₁) }
+header-faults kind = record { faults = λ place s r p e. refused-tests (Fault place s) _ _ e (omega arith) λ hs e₁. absurd (got-never e₁) }
 
 pattern-faults : (channels : ℕ) → Faults patternFormat channels
 unfolding readPattern
@@ -105,7 +103,7 @@ pattern-faults channels = record {
       (λ q m eq e₂. absurd (got-never e₂));
 }
 
-head-faults : (size : ℕ) → Faults headFormat size
+head-faults : (size : ℕ) → Faults (cutHeadFormat size) size
 unfolding readHead
 head-faults size = record { faults = λ place s r p e. refused-tests (Fault place s) _ _ e (omega arith) λ hs e₁. absurd (got-never e₁) }
 
@@ -113,38 +111,45 @@ data-faults : (head : List ℕ) → Faults dataFormat head
 unfolding readData
 data-faults head = record { faults = λ place s r p e. refused-tests (Fault place s) _ _ e (omega arith) λ hs e₁. absurd (got-never e₁) }
 
-samples-faults : (k size : ℕ) → leastHead ≤ size → Faults samplesFormat (replicate k size)
-samples-faults k size l =
-    then-faults (λ sizes heads. heads) (many-keeps headFormat k (head-keeps size l)) (many-faults headFormat k (head-keeps size l) (head-faults size))
+cut-faults : (k size : ℕ) → Faults (cutSamplesFormat size) (replicate k size)
+cut-faults k size =
+    then-faults (λ sizes heads. heads) (many-keeps (cutHeadFormat size) k (cut-keeps size)) (many-faults (cutHeadFormat size) k (cut-keeps size) (head-faults size))
     (λ heads g. each-faults dataFormat heads (all (λ head. (data-keeps head, data-faults head)) heads))
 
--- H is only tried if there are samples
-samples-fault : (k size : ℕ) → (ltb 0 k ≡ true → leastHead ≤ size) → Faults samplesFormat (replicate k size)
-samples-fault zero size h = samples-faults 0 leastHead (omega arith)
-samples-fault (suc k) size h = samples-faults (suc k) size (h (lt-ltb 0 (suc k) (omega arith)))
+samples-faults : (k size : ℕ) → Faults samplesFormat (replicate k size)
+samples-faults k size = record { faults = λ place s r p e. cut-faults k size .faults place s r p (samples-alike size place (replicate k size) s ∙ e) }
 
-instrument-faults : Faults instrumentFormat tt
+instrument-faults : (kind : ModuleKind) → Faults (instrumentFormat kind) tt
 unfolding readInstrument
-instrument-faults = record {
+instrument-faults normal = record {
   faults = λ place s r p e.
       refused-tests (Fault place s) _ _ e (omega arith) λ hs e₁.
       refused-bind _ _ e₁
       (λ ev.
       fault-later place (longAt 0 s) s r (hs .1 .1 .1 .1 .0)
-      (samples-fault (wordAt 27 s) (longAt 29 s) (hs .1 .1 .1 .1 .1 .0) .faults (place + longAt 0 s) (drop (longAt 0 s) s) r (bytes-drop (longAt 0 s) p) ev))
+      (samples-faults (wordAt 27 s) (longAt 29 s) .faults (place + longAt 0 s) (drop (longAt 0 s) s) r (bytes-drop (longAt 0 s) p) ev))
+      (λ v m ev e₂. absurd (got-never e₂));
+}
+instrument-faults stripped = record {
+  faults = λ place s r p e.
+      refused-tests (Fault place s) _ _ e (omega arith) λ hs e₁.
+      refused-bind _ _ e₁
+      (λ ev.
+      fault-later place (longAt 0 s) s r (hs .1 .1 .0)
+      (samples-faults (wordAt 27 (fieldsOf stripped s)) (longAt 29 (fieldsOf stripped s)) .faults (place + longAt 0 s) (drop (longAt 0 s) s) r (bytes-drop (longAt 0 s) p) ev))
       (λ v m ev e₂. absurd (got-never e₂));
 }
 
-body-faults : (x : Header) → GoodHeader x → Faults bodyFormat x
-body-faults x g =
+body-faults : (kind : ModuleKind) (x : Header) → GoodHeader kind x → Faults (bodyFormat kind) x
+body-faults kind x g =
     let c = g .counts .1 .1 .0 .0 in
     then-faults instrumentsFor
     (over-keeps patternsFor x (many-keeps patternFormat (x .patterns) (pattern-keeps (x .channels) c)))
     (over-faults patternsFor x (many-faults patternFormat (x .patterns) (pattern-keeps (x .channels) c) (pattern-faults (x .channels))))
-    (λ patterns g′. many-faults instrumentFormat (x .instruments) instrument-keeps instrument-faults)
+    (λ patterns g′. many-faults (instrumentFormat kind) (x .instruments) (instrument-keeps kind) (instrument-faults kind))
 
-pub module-faults : Faults moduleFormat tt
-module-faults = then-faults (λ u x. x) header-keeps header-faults body-faults
+pub module-faults : (kind : ModuleKind) → Faults (moduleFormat kind) tt
+module-faults kind = then-faults (λ u x. x) (header-keeps kind) (header-faults kind) (body-faults kind)
 
 -- Of a whole file
 pub record FileFault (file : List ℕ) (r : Refusal) : Type 0 where

@@ -1,16 +1,16 @@
 -- Laws of the header. Assumes nothing.
-use Prim.Native.Nat.{ℕ, _+_, _-_, _≤_, _<_}
+use Prim.Native.Nat.{ℕ, _+_, _≤_, _<_}
 use mathlib.Core.Bool.{Bool, true, false, cond}
 use mathlib.Core.List.{List, [], _∷_, _++_}
 use mathlib.Core.Path.{_≡_, refl, sym, ap, ap₂, _∙_, subst}
 use native.Mathlib.Omega.{arith}
-use lib.Dec.{ltb}
 use borrow.Author.Tests.{lt-ltb, ltb-true}
 use lib.ListN.{length, take, drop, replicate, length-append, length-drop, length-replicate}
 use lib.Seq.{length-take-le}
 use Rattle.xm.specs.Number.{Bytes, byteAt, wordAt, longAt, part}
+use Rattle.xm.specs.ModuleKind.{ModuleKind, normal, stripped}
 use Rattle.xm.specs.Got.{got, AllHold, present, atLeast, exactly, _at_}
-use Rattle.xm.specs.Header.{mark, version, sizeFrom, leastHeader, ordersMost, headerEnd, countTests, headerTests, Header, HeaderFound, GoodHeader, restartInside, restartOf, headerOf, readHeader, idText, writeHeader, headerFormat}
+use Rattle.xm.specs.Header.{mark, version, sizeFrom, leastHeader, ordersMost, headerEnd, countTests, headerTests, Header, HeaderFound, GoodHeader, restartInside, restartOf, headerOf, readHeader, idText, writeHeader, headerFormat, padding, noTracker, trackerAt, GoodTracker}
 use Rattle.xm.specs.Region.{Adjoin}
 use Rattle.xm.proofs.Number.{bytes-drop, bytes-take, bytes-by, bytes-zeros, word-small, Agree}
 use Rattle.xm.proofs.Got.{pass, passed, got-both, got-carry}
@@ -34,6 +34,59 @@ restart-below songLength restart h = go (restartInside songLength restart) refl
     go true e = inside-below songLength restart e
     go false e = h
 
+-- What depends on the kind
+mark-byte : (kind : ModuleKind) → mark kind < 256
+mark-byte normal = omega arith
+mark-byte stripped = omega arith
+
+version-word : (kind : ModuleKind) → version kind < 65536
+version-word normal = omega arith
+version-word stripped = omega arith
+
+id-size : (kind : ModuleKind) → length (idText kind) ≡ 17
+id-size normal = refl
+id-size stripped = refl
+
+id-plain : (kind : ModuleKind) → Bytes (idText kind)
+id-plain normal = bytes-by (idText normal) refl
+id-plain stripped = bytes-zeros 17
+
+pub least-low : (kind : ModuleKind) (songLength : ℕ) → songLength ≤ ordersMost → 20 + songLength ≤ leastHeader kind songLength
+least-low normal songLength h = omega arith
+least-low stripped songLength h = omega arith
+
+least-high : (kind : ModuleKind) (songLength : ℕ) → songLength ≤ ordersMost → leastHeader kind songLength ≤ 276
+least-high normal songLength h = omega arith
+least-high stripped songLength h = omega arith
+
+-- the least header is full: 20 bytes, the orders and the padding
+least-full : (kind : ModuleKind) (songLength : ℕ) → songLength ≤ ordersMost → 20 + songLength + padding kind songLength ≡ leastHeader kind songLength
+least-full normal songLength h = omega arith
+least-full stripped songLength h = omega arith
+
+tracker-fits : (kind : ModuleKind) (name : List ℕ) → GoodTracker kind name → (length name ≡ 20) × Bytes name
+tracker-fits normal name g = g
+tracker-fits stripped name g = rw g (refl, bytes-zeros 20)
+
+tracker-good : (kind : ModuleKind) (s : List ℕ) → Bytes s → 80 ≤ length s → GoodTracker kind (trackerAt kind s)
+tracker-good normal s b h = (length-take-le 20 (drop 38 s) (omega (arith, length-drop 38 s)), bytes-take 20 (bytes-drop 38 b))
+tracker-good stripped s b h = refl
+
+-- what is content of a tracker name is read off the 20 bytes there
+trackerIn : ModuleKind → (name : List ℕ) → List ℕ
+trackerIn normal name = name
+trackerIn stripped name = noTracker
+
+tracker-in : (kind : ModuleKind) (s : List ℕ) → trackerIn kind (part 38 20 s) ≡ trackerAt kind s
+unfolding trackerIn
+tracker-in normal s = refl
+tracker-in stripped s = refl
+
+tracker-kept : (kind : ModuleKind) (name : List ℕ) → GoodTracker kind name → trackerIn kind name ≡ name
+unfolding trackerIn
+tracker-kept normal name g = refl
+tracker-kept stripped name g = sym g
+
 -- The header's fields in their order, with so many orders
 abbrev Row : Type 0
 Row =
@@ -53,8 +106,8 @@ Row =
     × (ℕ
     × (List ℕ × (List ℕ × Unit {0})))))))))))))))
 
-abbrev layout : ℕ → Field Row
-layout n =
+abbrev layout : (orders padding : ℕ) → Field Row
+layout n m =
     textField 17
     ⊗ textField 20
     ⊗ byteField
@@ -70,13 +123,13 @@ layout n =
     ⊗ wordField
     ⊗ wordField
     ⊗ textField n
-    ⊗ textField (ordersMost - n)
+    ⊗ textField m
     ⊗ noField
 
 -- stand at the paper's offsets
-abbrev offsets : ℕ → List ℕ → Row
-offsets n s =
-    (take 17 s, (part 17 20 s, (byteAt 37 s, (part 38 20 s, (wordAt 58 s, (longAt 60 s, (wordAt 64 s, (wordAt 66 s, (wordAt 68 s, (wordAt 70 s, (wordAt 72 s, (wordAt 74 s, (wordAt 76 s, (wordAt 78 s, (part 80 n s, (part (80 + n) (ordersMost - n) s, tt))))))))))))))))
+abbrev offsets : (orders padding : ℕ) → List ℕ → Row
+offsets n m s =
+    (take 17 s, (part 17 20 s, (byteAt 37 s, (part 38 20 s, (wordAt 58 s, (longAt 60 s, (wordAt 64 s, (wordAt 66 s, (wordAt 68 s, (wordAt 70 s, (wordAt 72 s, (wordAt 74 s, (wordAt 76 s, (wordAt 78 s, (part 80 n s, (part (80 + n) m s, tt))))))))))))))))
 
 -- What the tests and the content are of such fields
 abbrev sizeIn : Row → ℕ
@@ -85,10 +138,10 @@ sizeIn r = r .1 .1 .1 .1 .1 .0
 abbrev songIn : Row → ℕ
 songIn r = r .1 .1 .1 .1 .1 .1 .0
 
-abbrev contentWith : ℕ → Row → Header
-contentWith restart r = record {
+abbrev contentWith : (restart : ℕ) (tracker : List ℕ) → Row → Header
+contentWith restart tracker r = record {
   moduleName = r .1 .0;
-  trackerName = r .1 .1 .1 .0;
+  trackerName = tracker;
   songLength = songIn r;
   restart = restart;
   channels = r .1 .1 .1 .1 .1 .1 .1 .1 .0;
@@ -100,135 +153,144 @@ contentWith restart r = record {
   orders = r .1 .1 .1 .1 .1 .1 .1 .1 .1 .1 .1 .1 .1 .1 .0;
 }
 
-abbrev contentIn : Row → Header
-contentIn r = contentWith (restartOf (songIn r) (r .1 .1 .1 .1 .1 .1 .1 .0)) r
+abbrev contentIn : ModuleKind → Row → Header
+contentIn kind r = contentWith (restartOf (songIn r) (r .1 .1 .1 .1 .1 .1 .1 .0)) (trackerIn kind (r .1 .1 .1 .0)) r
 
-abbrev TestsIn : Row → ℕ → Type 0
-TestsIn r n =
-    let c = contentIn r in
+abbrev TestsIn : ModuleKind → Row → ℕ → Type 0
+TestsIn kind r n =
+    let c = contentIn kind r in
     AllHold (
     present 80 n (1 at 0)
-    ∷ exactly mark (r .1 .1 .0) (3 at 0)
-    ∷ exactly version (r .1 .1 .1 .1 .0) (3 at 0)
-    ∷ atLeast (leastHeader (songIn r)) (sizeIn r) (4 at 0)
+    ∷ exactly (mark kind) (r .1 .1 .0) (3 at 0)
+    ∷ exactly (version kind) (r .1 .1 .1 .1 .0) (3 at 0)
+    ∷ atLeast (leastHeader kind (songIn r)) (sizeIn r) (4 at 0)
     ∷ countTests (c .songLength) (c .patterns) (c .channels) (c .instruments) 0
     ++ (present (sizeIn r + sizeFrom) n (1 at 0) ∷ []))
 
-written : Header → Row
-written x =
-    (idText, (x .moduleName, (mark, (x .trackerName, (version, (leastHeader (x .songLength), (x .songLength, (x .restart, (x .channels, (x .patterns, (x .instruments, (x .flags, (x .tempo, (x .bpm, (x .orders, (replicate (ordersMost - x .songLength) 0, tt))))))))))))))))
+written : ModuleKind → Header → Row
+written kind x =
+    (idText kind, (x .moduleName, (mark kind, (x .trackerName, (version kind, (leastHeader kind (x .songLength), (x .songLength, (x .restart, (x .channels, (x .patterns, (x .instruments, (x .flags, (x .tempo, (x .bpm, (x .orders, (replicate (padding kind (x .songLength)) 0, tt))))))))))))))))
 
-id-plain : Bytes idText
-id-plain = bytes-by idText refl
+content-of : (kind : ModuleKind) (n m : ℕ) (s : List ℕ) → n ≡ wordAt 64 s → contentIn kind (offsets n m s) ≡ headerOf kind s
+content-of kind n m s e =
+    ap₂ (λ (t : List ℕ) (k : ℕ). contentWith (restartOf (wordAt 64 s) (wordAt 66 s)) t (offsets k m s)) (tracker-in kind s) e
 
-module _ (x : Header) (g : GoodHeader x) where
-  written-fits : layout (x .songLength) .Fits (written x)
+module _ (kind : ModuleKind) (x : Header) (g : GoodHeader kind x) where
+  written-fits : layout (x .songLength) (padding kind (x .songLength)) .Fits (written kind x)
   unfolding written
   written-fits =
       let c = g .counts in
-      ((refl, id-plain), ((g .name-size, g .name-plain), (omega arith, ((g .tracker-size, g .tracker-plain), (omega arith, (omega arith, (omega arith, (omega (arith, g .restart-low), (omega arith, (omega arith, (omega arith, (g .flags-high, (g .tempo-high, (g .bpm-high, ((g .orders-size, g .orders-plain), ((length-replicate (ordersMost - x .songLength) 0, bytes-zeros (ordersMost - x .songLength)), tt))))))))))))))))
+      ((id-size kind, id-plain kind), ((g .name-size, g .name-plain), (mark-byte kind, (tracker-fits kind (x .trackerName) (g .tracker-good), (version-word kind, (omega (arith, least-high kind (x .songLength) (c .0 .1)), (omega arith, (omega (arith, g .restart-low), (omega arith, (omega arith, (omega arith, (g .flags-high, (g .tempo-high, (g .bpm-high, ((g .orders-size, g .orders-plain), ((length-replicate (padding kind (x .songLength)) 0, bytes-zeros (padding kind (x .songLength))), tt))))))))))))))))
 
-  written-reads : (rest : List ℕ) → offsets (x .songLength) (writeHeader x ++ rest) ≡ written x
+  written-reads : (rest : List ℕ) → offsets (x .songLength) (padding kind (x .songLength)) (writeHeader kind x ++ rest) ≡ written kind x
   unfolding writeHeader written
-  written-reads rest = layout (x .songLength) .back [] (written x) rest written-fits
+  written-reads rest = layout (x .songLength) (padding kind (x .songLength)) .back [] (written kind x) rest written-fits
 
-  pub header-size : length (writeHeader x) ≡ 336
+  pub header-size : length (writeHeader kind x) ≡ leastHeader kind (x .songLength) + 60
   unfolding writeHeader written
-  header-size = layout (x .songLength) .size (written x) written-fits ∙ omega (arith, g .counts .0)
+  header-size =
+      layout (x .songLength) (padding kind (x .songLength)) .size (written kind x) written-fits
+      ∙ omega (arith, g .counts .0, least-full kind (x .songLength) (g .counts .0 .1))
 
   -- so the tests hold of what is written, and it reads as the content
   module _ (place : ℕ) (rest : List ℕ) where
     abbrev file : List ℕ
-    file = writeHeader x ++ rest
+    file = writeHeader kind x ++ rest
 
     song : wordAt 64 file ≡ x .songLength
     unfolding written
     song = ap songIn (written-reads rest)
 
-    reads-content : headerOf file ≡ x
+    reads-content : headerOf kind file ≡ x
     unfolding written
     reads-content =
-        ap (λ (n : ℕ). contentIn (offsets n file)) song
-        ∙ ap contentIn (written-reads rest)
-        ∙ ap (λ (r : ℕ). contentWith r (written x)) (restart-keeps (x .songLength) (x .restart) (g .restart-low))
+        sym (content-of kind (x .songLength) (padding kind (x .songLength)) file (sym song))
+        ∙ ap (contentIn kind) (written-reads rest)
+        ∙ ap₂ (λ (r : ℕ) (t : List ℕ). contentWith r t (written kind x)) (restart-keeps (x .songLength) (x .restart) (g .restart-low)) (tracker-kept kind (x .trackerName) (g .tracker-good))
 
-    reads-tests : AllHold (headerTests place file)
+    reads-tests : AllHold (headerTests kind place file)
     unfolding written
     reads-tests =
         let c = g .counts in
-        let l : 336 ≤ length file = omega (arith, length-append (writeHeader x) rest, header-size) in
-        subst (λ (r : Row). TestsIn r (length file)) (sym (written-reads rest)) (omega arith, (refl, (refl, (omega arith, (c .0, (c .1 .0, (c .1 .1 .0, (c .1 .1 .1 .0, (l, tt)))))))))
+        let l : leastHeader kind (x .songLength) + 60 ≤ length file = omega (arith, length-append (writeHeader kind x) rest, header-size) in
+        subst (λ (r : Row). TestsIn kind r (length file)) (sym (written-reads rest))
+        (omega (arith, least-low kind (x .songLength) (c .0 .1)), (refl, (refl, (omega arith, (c .0, (c .1 .0, (c .1 .1 .0, (c .1 .1 .1 .0, (l, tt)))))))))
 
-    reads-end : headerEnd file ≡ 336
+    reads-end : headerEnd file ≡ leastHeader kind (x .songLength) + 60
     unfolding written
     reads-end = ap (λ (r : Row). sizeIn r + 60) (written-reads rest)
 
-    reads-all : readHeader place file ≡ got (record { place = place; size = 336; content = x }) (length (writeHeader x))
-    unfolding readHeader
+    header-found : HeaderFound
+    header-found = record { kind = kind; place = place; size = leastHeader kind (x .songLength) + 60; content = x }
+
+    reads-all : readHeader kind place file ≡ got header-found (length (writeHeader kind x))
+    unfolding readHeader header-found
     reads-all =
-        pass (headerTests place file) reads-tests
-        (got-both (ap₂ (λ (n : ℕ) (h : Header). record { place = place; size = n; content = h }) reads-end reads-content) (reads-end ∙ sym header-size))
+        pass (headerTests kind place file) reads-tests
+        (got-both (ap₂ (λ (n : ℕ) (h : Header). record { kind = kind; place = place; size = n; content = h }) reads-end reads-content) (reads-end ∙ sym header-size))
 
-header-plain : (x : Header) → GoodHeader x → Bytes (writeHeader x)
+header-plain : (kind : ModuleKind) (x : Header) → GoodHeader kind x → Bytes (writeHeader kind x)
 unfolding writeHeader written
-header-plain x g = layout (x .songLength) .plain (written x) (written-fits x g)
+header-plain kind x g = layout (x .songLength) (padding kind (x .songLength)) .plain (written kind x) (written-fits kind x g)
 
-pub header-back : Back headerFormat tt
-header-back = record {
-  back = λ place x rest g. record { found = record { place = place; size = 336; content = x }; reads = reads-all x g place rest; same = refl };
-  plain = header-plain;
+pub header-back : (kind : ModuleKind) → Back (headerFormat kind) tt
+unfolding header-found
+header-back kind = record {
+  back = λ place x rest g. record { found = header-found kind x g place rest; reads = reads-all kind x g place rest; same = refl };
+  plain = header-plain kind;
 }
 
 -- What is read is good content
-good-content : (s : List ℕ) → Bytes s → AllHold (headerTests 0 s) → GoodHeader (headerOf s)
-good-content s b h =
+good-content : (kind : ModuleKind) (s : List ℕ) → Bytes s → AllHold (headerTests kind 0 s) → GoodHeader kind (headerOf kind s)
+good-content kind s b h =
     let c = h .1 .1 .1 .1 in
     record {
       name-size = length-take-le 20 (drop 17 s) (omega (arith, length-drop 17 s, h .0));
       name-plain = bytes-take 20 (bytes-drop 17 b);
-      tracker-size = length-take-le 20 (drop 38 s) (omega (arith, length-drop 38 s, h .0));
-      tracker-plain = bytes-take 20 (bytes-drop 38 b);
+      tracker-good = tracker-good kind s b (h .0);
       counts = (c .0, (c .1 .0, (c .1 .1 .0, (c .1 .1 .1 .0, tt))));
       restart-low = restart-below (wordAt 64 s) (wordAt 66 s) (c .0 .0);
       flags-high = word-small 74 b;
       tempo-high = word-small 76 b;
       bpm-high = word-small 78 b;
-      orders-size = length-take-le (wordAt 64 s) (drop 80 s) (omega (arith, length-drop 80 s, c .0 .1, h .1 .1 .1 .0, c .1 .1 .1 .1 .0));
+      orders-size = length-take-le (wordAt 64 s) (drop 80 s) (omega (arith, length-drop 80 s, least-low kind (wordAt 64 s) (c .0 .1), h .1 .1 .1 .0, c .1 .1 .1 .1 .0));
       orders-plain = bytes-take (wordAt 64 s) (bytes-drop 80 b);
     }
 
-pub header-keeps : Keeps headerFormat tt
+pub header-keeps : (kind : ModuleKind) → Keeps (headerFormat kind) tt
 unfolding readHeader
-header-keeps = record {
+header-keeps kind = record {
   keeps = λ place s i n b e.
       passed _ _ e λ h e.
-      let g = good-content s b h in
-      got-carry (λ (r : HeaderFound) (t : ℕ). Held headerFormat tt place s r t) e
-      (record { inside = h .1 .1 .1 .1 .1 .1 .1 .1 .0; good = g; short = omega (arith, header-size (headerOf s) g, h .1 .1 .1 .0) });
+      let g = good-content kind s b h in
+      got-carry (λ (r : HeaderFound) (t : ℕ). Held (headerFormat kind) tt place s r t) e
+      (record { inside = h .1 .1 .1 .1 .1 .1 .1 .1 .0; good = g; short = omega (arith, header-size kind (headerOf kind s) g, h .1 .1 .1 .0) });
 }
 
-same-tests : (s t : List ℕ) (n : ℕ) → AllHold (headerTests 0 s) → headerEnd s ≤ n → Agree n s t → (offsets (wordAt 64 s) s ≡ offsets (wordAt 64 s) t) → AllHold (headerTests 0 t)
-same-tests s t n h l a z =
-    subst (λ (r : Row). TestsIn r (length t)) z
-    (omega (arith, a .long, h .1 .1 .1 .0), (h .1 .0, (h .1 .1 .0, (h .1 .1 .1 .0, (h .1 .1 .1 .1 .0, (h .1 .1 .1 .1 .1 .0, (h .1 .1 .1 .1 .1 .1 .0, (h .1 .1 .1 .1 .1 .1 .1 .0, (omega (arith, a .long), tt)))))))))
+same-tests : (kind : ModuleKind) (s t : List ℕ) (n : ℕ) → AllHold (headerTests kind 0 s) → headerEnd s ≤ n → Agree n s t → (offsets (wordAt 64 s) 0 s ≡ offsets (wordAt 64 s) 0 t)
+    → AllHold (headerTests kind 0 t)
+same-tests kind s t n h l a z =
+    subst (λ (r : Row). TestsIn kind r (length t)) z
+    (omega (arith, a .long, h .1 .1 .1 .0, least-low kind (wordAt 64 s) (h .1 .1 .1 .1 .0 .1)), (h .1 .0, (h .1 .1 .0, (h .1 .1 .1 .0, (h .1 .1 .1 .1 .0, (h .1 .1 .1 .1 .1 .0, (h .1 .1 .1 .1 .1 .1 .0, (h .1 .1 .1 .1 .1 .1 .1 .0, (omega (arith, a .long), tt)))))))))
 
-pub header-firm : Firm headerFormat tt
+pub header-firm : (kind : ModuleKind) → Firm (headerFormat kind) tt
 unfolding readHeader
-header-firm = record {
+header-firm kind = record {
   firm = λ place s t i n e a.
       passed _ _ e λ h e.
-      got-carry (λ (r : HeaderFound) (u : ℕ). u ≡ n → readHeader place t ≡ got r u) e
+      got-carry (λ (r : HeaderFound) (u : ℕ). u ≡ n → readHeader kind place t ≡ got r u) e
       (λ q.
-      let z : offsets (wordAt 64 s) s ≡ offsets (wordAt 64 s) t =
-      layout (wordAt 64 s) .firm 0 n s t a (omega (arith, h .1 .1 .1 .0, h .1 .1 .1 .1 .0)) in
-      let same : headerOf t ≡ headerOf s = sym (ap contentIn z ∙ ap (λ (k : ℕ). contentIn (offsets k t)) (ap songIn z)) in
+      let z : offsets (wordAt 64 s) 0 s ≡ offsets (wordAt 64 s) 0 t =
+      layout (wordAt 64 s) 0 .firm 0 n s t a (omega (arith, h .1 .1 .1 .0, least-low kind (wordAt 64 s) (h .1 .1 .1 .1 .0 .1))) in
+      let same : headerOf kind t ≡ headerOf kind s =
+      sym (content-of kind (wordAt 64 s) 0 t (ap songIn z)) ∙ sym (ap (contentIn kind) z) ∙ content-of kind (wordAt 64 s) 0 s refl in
       let size : headerEnd t ≡ headerEnd s = sym (ap (λ (r : Row). sizeIn r + sizeFrom) z) in
-      pass (headerTests place t) (same-tests s t n h (omega arith) a z)
-      (got-both (ap₂ (λ (k : ℕ) (c : Header). record { place = place; size = k; content = c }) size same) size)) refl;
+      pass (headerTests kind place t) (same-tests kind s t n h (omega arith) a z)
+      (got-both (ap₂ (λ (k : ℕ) (c : Header). record { kind = kind; place = place; size = k; content = c }) size same) size)) refl;
 }
 
-pub header-adjoins : Adjoins headerFormat tt
+pub header-adjoins : (kind : ModuleKind) → Adjoins (headerFormat kind) tt
 unfolding readHeader
-header-adjoins = record {
-  adjoins = λ place s i n e. passed _ _ e λ h e. got-carry (λ (r : HeaderFound) (t : ℕ). Adjoin place (headerFormat .regions r) (place + t)) e (refl, refl);
+header-adjoins kind = record {
+  adjoins = λ place s i n e. passed _ _ e λ h e. got-carry (λ (r : HeaderFound) (t : ℕ). Adjoin place (headerFormat kind .regions r) (place + t)) e (refl, refl);
 }

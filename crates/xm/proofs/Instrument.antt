@@ -1,4 +1,4 @@
--- Laws of instruments. Assumes nothing.
+-- Laws of instruments of a normal module; those of a stripped one, and of both, are in Stripped. Assumes nothing.
 use Prim.Native.Nat.{ℕ, zero, suc, _+_, _*_, _≤_, _<_}
 use mathlib.Core.Bool.{true}
 use mathlib.Core.List.{List, [], _∷_, _++_, append-assoc, append-nil}
@@ -11,13 +11,14 @@ use lib.ListN.{length, drop, replicate, length-append, length-drop, length-repli
 use lib.Seq.{drop-at, drop-drop, length-take-le}
 use Rattle.xm.specs.Number.{Bytes, byteAt, wordAt, longAt, part, byte, word, long}
 use Rattle.xm.specs.Got.{got, AllHold, present, atLeast, atMost, when, _at_}
-use Rattle.xm.specs.Format.{each, joined, flat, EachGood}
+use Rattle.xm.specs.Format.{each, joined, flat, EachGood, All}
 use Rattle.xm.specs.Sample.{leastHead, Samples, SamplesFound, samplesFormat, Stretch, readHead, headFormat}
-use Rattle.xm.specs.Instrument.{leastInstrument, samplesMost, instrumentTests, Instrument, InstrumentFound, voiceSize, voiceOf, readInstrument, writeVoice, countOf, writeInstrument, GoodVoice, GoodInstrument, instrumentView, instrumentFormat}
+use Rattle.xm.specs.Instrument.{leastInstrument, samplesMost, instrumentTests, Instrument, InstrumentFound, voiceSize, voiceOf, readInstrument, writeVoice, countOf, writeInstrument, GoodVoice, GoodInstrument, instrumentView, instrumentFormat, fieldsOf}
 use Rattle.xm.specs.Region.{Adjoin}
 use Rattle.xm.proofs.Number.{bytes-drop, bytes-take, bytes-append, bytes-nil, bytes-cons, bytes-zeros, Agree, agree-byte, agree-word, agree-long, agree-part, agree-drop}
-use Rattle.xm.proofs.Got.{no-true, pass, step, passed, bind-got, got-used, got-both, got-carry}
-use Rattle.xm.proofs.Format.{Back, ReadsBack, Keeps, Held, Adjoins, Firm, Tells, each-length, flat-append}
+use Rattle.xm.proofs.Got.{no-true, pass, step, passed, bind-got, got-used, got-both, got-carry, got-value}
+use Rattle.xm.proofs.Format.{Back, ReadsBack, Keeps, Held, Adjoins, Firm, Tells, each-length, flat-append, read-length}
+use Rattle.xm.specs.ModuleKind.{ModuleKind, normal}
 use Rattle.xm.proofs.Field.{Field, byteField, wordField, longField, textField, noField, _⊗_, word-plain, long-plain}
 use Rattle.xm.proofs.Sample.{samples-back, samples-keeps, samples-adjoin, samples-firm, samples-tell, SamplesTold}
 
@@ -25,10 +26,6 @@ use Rattle.xm.proofs.Sample.{samples-back, samples-keeps, samples-adjoi
 samples-kept : (k H : ℕ) → (ltb 0 k ≡ true → leastHead ≤ H) → Keeps samplesFormat (replicate k H)
 samples-kept zero H h = samples-keeps 0 leastHead (omega arith)
 samples-kept (suc k) H h = samples-keeps (suc k) H (h (lt-ltb 0 (suc k) (omega arith)))
-
-samples-held : (k H : ℕ) → (ltb 0 k ≡ true → leastHead ≤ H) → Firm samplesFormat (replicate k H)
-samples-held zero H h = samples-firm 0 leastHead (omega arith)
-samples-held (suc k) H h = samples-firm (suc k) H (h (lt-ltb 0 (suc k) (omega arith)))
 
 -- The tests are of four numbers: I, k, H and the bytes there are
 abbrev TestsOf : (I k H n : ℕ) → Type 0
@@ -74,7 +71,7 @@ front-size : (x : Instrument) → length (x .name) ≡ 22 → GoodVoice (countOf
 unfolding front
 front-size x n g = simp (length-append, n) (omega (arith, voice-size (countOf x) (x .voice) g))
 
-write-front : (x : Instrument) → writeInstrument x ≡ front x ++ samplesFormat .write (x .samples)
+write-front : (x : Instrument) → writeInstrument normal x ≡ front x ++ samplesFormat .write (x .samples)
 unfolding writeInstrument front
 write-front x =
     flat-append (long (leastInstrument (countOf x)) ∷ x .name ∷ byte (x .type) ∷ word (countOf x) ∷ writeVoice (countOf x) (x .voice) ∷ []) (samplesFormat .write (x .samples) ∷ [])
@@ -138,14 +135,14 @@ module _ (name : List ℕ) (type : ℕ) (voice samples rest : List ℕ) (named :
         voiced = ap (λ (r : Row VoiceRow). r .1 .1 .1 .1 .0 .1 .0) w;
       }
 
-found-path : {place size size′ type type′ : ℕ} {name name′ voice voice′ : List ℕ} {samples : SamplesFound} → size ≡ size′ → name ≡ name′ → type ≡ type′ → voice ≡ voice′
+pub found-path : {place size size′ type type′ : ℕ} {name name′ voice voice′ : List ℕ} {samples : SamplesFound} → size ≡ size′ → name ≡ name′ → type ≡ type′ → voice ≡ voice′
     → _≡_ {A = InstrumentFound} (record { place = place; size = size; name = name; type = type; voice = voice; samples = samples })
     (record { place = place; size = size′; name = name′; type = type′; voice = voice′; samples = samples })
 found-path p q r t = cc
 
 module _ (x : Instrument) (g : GoodInstrument x) (place : ℕ) (rest : List ℕ) where
   abbrev file : List ℕ
-  file = writeInstrument x ++ rest
+  file = writeInstrument normal x ++ rest
 
   abbrev count : ℕ
   count = length (x .samples .0)
@@ -157,7 +154,7 @@ module _ (x : Instrument) (g : GoodInstrument x) (place : ℕ) (rest : List ℕ)
   unfolding writeInstrument
   fields = front-reads (x .name) (x .type) (x .voice) (samplesFormat .write (x .samples)) rest (g .name-size, g .name-plain) (g .type-byte) samples-plain count (g .few) (g .voice-good)
 
-  pub instrument-size : length (writeInstrument x) ≡ leastInstrument count + length (samplesFormat .write (x .samples))
+  pub instrument-size : length (writeInstrument normal x) ≡ leastInstrument count + length (samplesFormat .write (x .samples))
   instrument-size =
       ap length (write-front x) ∙ length-append (front x) (samplesFormat .write (x .samples))
       ∙ ap (λ (n : ℕ). n + length (samplesFormat .write (x .samples))) (front-size x (g .name-size) (g .voice-good))
@@ -168,11 +165,11 @@ module _ (x : Instrument) (g : GoodInstrument x) (place : ℕ) (rest : List ℕ)
       ∙ ap (drop (leastInstrument count)) (append-assoc (front x) (samplesFormat .write (x .samples)) rest)
       ∙ drop-at (front x) (samplesFormat .write (x .samples) ++ rest) (leastInstrument count) (front-size x (g .name-size) (g .voice-good))
 
-  reads-tests : AllHold (instrumentTests place file)
+  reads-tests : AllHold (instrumentTests normal place file)
   reads-tests =
       let f = fields in
       let l : leastInstrument count + count * leastHead ≤ length file =
-      omega (arith, length-append (writeInstrument x) rest, instrument-size, length-append (joined (λ (h : List ℕ). h) (x .samples .0)) (joined (λ (h : List ℕ). h) (x .samples .1)), heads-size count (x .samples .0) (g .samples-good .0)) in
+      omega (arith, length-append (writeInstrument normal x) rest, instrument-size, length-append (joined (λ (h : List ℕ). h) (x .samples .0)) (joined (λ (h : List ℕ). h) (x .samples .1)), heads-size count (x .samples .0) (g .samples-good .0)) in
       subst (λ (I : ℕ). TestsOf I (wordAt 27 file) (longAt 29 file) (length file)) (sym (f .size))
       (subst (λ (k : ℕ). TestsOf (leastInstrument count) k (longAt 29 file) (length file)) (sym (f .count))
       (written-tests count (longAt 29 file) (length file) (g .few) (f .head) l))
@@ -187,7 +184,7 @@ module _ (x : Instrument) (g : GoodInstrument x) (place : ℕ) (rest : List ℕ)
   instrument-found : InstrumentFound
   instrument-found = record { place = place; size = leastInstrument count; name = x .name; type = x .type; voice = x .voice; samples = reads-samples .found }
 
-  reads-all : readInstrument place file ≡ got instrument-found (length (writeInstrument x))
+  reads-all : readInstrument normal place file ≡ got instrument-found (length (writeInstrument normal x))
   unfolding readInstrument instrument-found
   reads-all =
       let f = fields in
@@ -195,10 +192,10 @@ module _ (x : Instrument) (g : GoodInstrument x) (place : ℕ) (rest : List ℕ)
       ap₂ (λ (k I : ℕ). samplesFormat .read (replicate k (longAt 29 file)) (place + I) (drop I file)) (f .count) (f .size)
       ∙ ap₂ (λ (hs : List ℕ) (s : List ℕ). samplesFormat .read hs (place + leastInstrument count) s) (same-sizes count (f .head)) samples-at
       ∙ reads-samples .reads in
-      pass (instrumentTests place file) reads-tests
+      pass (instrumentTests normal place file) reads-tests
       (step _ r (got-both (found-path (f .size) (f .named) (f .typed) (ap (λ (k : ℕ). voiceOf k file) (f .count) ∙ f .voiced)) (ap (λ (n : ℕ). n + length (samplesFormat .write (x .samples))) (f .size) ∙ sym instrument-size)))
 
-instrument-plain : (x : Instrument) → GoodInstrument x → Bytes (writeInstrument x)
+instrument-plain : (x : Instrument) → GoodInstrument x → Bytes (writeInstrument normal x)
 unfolding writeInstrument
 instrument-plain x g =
     bytes-append (long-plain (leastInstrument (countOf x)) (omega (arith, least-most (countOf x))))
@@ -207,9 +204,9 @@ instrument-plain x g =
     (bytes-append (word-plain (countOf x) (omega (arith, g .few)))
     (bytes-append (voice-plain (countOf x) (x .voice) (g .voice-good)) (bytes-append (samples-plain x g 0 []) bytes-nil)))))
 
-pub instrument-back : Back instrumentFormat tt
+pub normal-back : Back (instrumentFormat normal) tt
 unfolding instrument-found
-instrument-back = record {
+normal-back = record {
   back = λ place x rest g. record {
     found = instrument-found x g place rest;
     reads = reads-all x g place rest;
@@ -231,9 +228,9 @@ good-voice I (suc k) H s b h =
     let l = least-size I (suc k) H (length s) h in
     (length-take-le voiceSize (drop 33 s) (omega (arith, l, h .1 .1 .1 .1 .0, length-drop 33 s)), bytes-take voiceSize (bytes-drop 33 b))
 
-pub instrument-keeps : Keeps instrumentFormat tt
+pub normal-keeps : Keeps (instrumentFormat normal) tt
 unfolding readInstrument
-instrument-keeps = record {
+normal-keeps = record {
   keeps = λ place s i n b e.
       passed _ _ e λ h e. bind-got _ _ e λ v m ev e.
       let I = longAt 0 s in
@@ -250,7 +247,7 @@ instrument-keeps = record {
         samples-good = (same-heads k (longAt 29 s) (samplesFormat .view v .0) (w .good .0), w .good .1);
       } in
       let l : leastInstrument (length (samplesFormat .view v .0)) ≤ I = rw z (least-size I k (longAt 29 s) (length s) h) in
-      got-carry (λ (r : InstrumentFound) (t : ℕ). Held instrumentFormat tt place s r t) e
+      got-carry (λ (r : InstrumentFound) (t : ℕ). Held (instrumentFormat normal) tt place s r t) e
       (record {
         inside = omega (arith, w .inside, length-drop I s, h .1 .1 .1 .1 .0);
         good = g;
@@ -258,13 +255,17 @@ instrument-keeps = record {
       });
 }
 
-pub instrument-adjoins : Adjoins instrumentFormat tt
+-- Of either kind: the regions adjoin
+pub instrument-adjoins : (kind : ModuleKind) → Adjoins (instrumentFormat kind) tt
 unfolding readInstrument
-instrument-adjoins = record {
+instrument-adjoins kind = record {
   adjoins = λ place s i n e.
       passed _ _ e λ h e. bind-got _ _ e λ v m ev e.
-      got-carry (λ (r : InstrumentFound) (t : ℕ). Adjoin place (instrumentFormat .regions r) (place + t)) e
-      (refl, rw (← add-assoc place (longAt 0 s) m) (samples-adjoin (wordAt 27 s) (longAt 29 s) .adjoins (place + longAt 0 s) (drop (longAt 0 s) s) v m ev));
+      got-carry (λ (r : InstrumentFound) (t : ℕ). Adjoin place (instrumentFormat kind .regions r) (place + t)) e (
+        refl,
+        rw (← add-assoc place (longAt 0 s) m)
+            (samples-adjoin (wordAt 27 (fieldsOf kind s)) (longAt 29 (fieldsOf kind s)) .adjoins (place + longAt 0 s) (drop (longAt 0 s) s) v m ev),
+      );
 }
 
 -- What follows does not matter
@@ -284,7 +285,7 @@ heads-used (suc k) H place s is n e =
     passed _ _ ei λ h ei.
     got-carry (λ (r : List Stretch) (u : ℕ). u ≡ suc k * H) e₂ (omega (arith, got-used ei, heads-used k H (place + m) (drop m s) js j ej, suc-mul k H))
 
-samples-used : (k H place : ℕ) (s : List ℕ) (v : SamplesFound) (n : ℕ) → samplesFormat .read (replicate k H) place s ≡ got v n → k * H ≤ n
+pub samples-used : (k H place : ℕ) (s : List ℕ) (v : SamplesFound) (n : ℕ) → samplesFormat .read (replicate k H) place s ≡ got v n → k * H ≤ n
 samples-used k H place s v n e =
     bind-got _ _ e λ i m ei e₁. bind-got _ _ e₁ λ j u ej e₂. got-carry (λ (r : SamplesFound) (t : ℕ). k * H ≤ t) e₂ (omega (arith, heads-used k H place s i m ei))
 
@@ -297,12 +298,12 @@ same-tests I (suc k) s t n m h u l a =
     let d : I + suc k * longAt 29 t ≤ length t = rw e (omega (arith, a .long)) in
     (omega (arith, a .long, h .1 .0), (h .1 .0, (h .1 .1 .0, (h .1 .1 .1 .0, (omega (arith, a .long), ((λ q. rw e (h .1 .1 .1 .1 .1 .0 q)), ((λ q. d), tt)))))))
 
-pub instrument-firm : Firm instrumentFormat tt
+pub normal-firm : Firm (instrumentFormat normal) tt
 unfolding readInstrument
-instrument-firm = record {
+normal-firm = record {
   firm = λ place s t i n e a.
       passed _ _ e λ h e. bind-got _ _ e λ v m ev e.
-      got-carry (λ (r : InstrumentFound) (u : ℕ). u ≡ n → readInstrument place t ≡ got r u) e
+      got-carry (λ (r : InstrumentFound) (u : ℕ). u ≡ n → readInstrument normal place t ≡ got r u) e
       (λ q.
       let I = longAt 0 s in
       let k = wordAt 27 s in
@@ -311,8 +312,8 @@ instrument-firm = record {
       let r : samplesFormat .read (replicate (wordAt 27 t) (longAt 29 t)) (place + longAt 0 t) (drop (longAt 0 t) t) ≡ got v m =
       ap₂ (λ (k I : ℕ). samplesFormat .read (replicate k (longAt 29 t)) (place + I) (drop I t)) count size
       ∙ ap (λ (hs : List ℕ). samplesFormat .read hs (place + I) (drop I t)) (same-head I k (longAt 29 s) s t n h (omega arith) a)
-      ∙ samples-held k (longAt 29 s) (h .1 .1 .1 .1 .1 .0) .firm (place + I) (drop I s) (drop I t) v m ev (agree-drop a I m (omega arith)) in
-      pass (instrumentTests place t)
+      ∙ samples-firm k (longAt 29 s) .firm (place + I) (drop I s) (drop I t) v m ev (agree-drop a I m (omega arith)) in
+      pass (instrumentTests normal place t)
       (subst (λ (I : ℕ). TestsOf I (wordAt 27 t) (longAt 29 t) (length t)) (sym size)
       (subst (λ (k : ℕ). TestsOf I k (longAt 29 t) (length t)) (sym count)
       (same-tests I k s t n m h (samples-used k (longAt 29 s) (place + I) (drop I s) v m ev) (omega arith) a)))
@@ -323,13 +324,50 @@ instrument-firm = record {
       (ap (λ (I : ℕ). I + m) size)))) refl;
 }
 
--- What is found says of the file
-pub instrument-tells : Tells instrumentFormat tt (λ file i. SamplesTold file (i .samples))
+-- What is found says of the file, of either kind
+pub instrument-tells : (kind : ModuleKind) → Tells (instrumentFormat kind) tt (λ file i. SamplesTold file (i .samples))
 unfolding readInstrument
-instrument-tells = record {
+instrument-tells kind = record {
   tells = λ place file i n b e.
       passed _ _ e λ h e. bind-got _ _ e λ v m ev e.
+      let f = fieldsOf kind (drop place file) in
       got-carry (λ (r : InstrumentFound) (u : ℕ). SamplesTold file (r .samples)) e
-      (samples-tell (wordAt 27 (drop place file)) (longAt 29 (drop place file)) .tells (place + longAt 0 (drop place file)) file v m b
+      (samples-tell (wordAt 27 f) (longAt 29 f) .tells (place + longAt 0 (drop place file)) file v m b
       (rw (drop-drop (longAt 0 (drop place file)) place file) at ev));
+}
+
+-- The sample headers found are of H bytes each
+heads-sized : (k H place : ℕ) (s : List ℕ) (is : List Stretch) (n : ℕ) → each headFormat .read (replicate k H) place s ≡ got is n → All (λ (h : Stretch). h .size ≡ H) is
+unfolding readHead
+heads-sized zero H place s is n e = got-carry (λ (r : List Stretch) (u : ℕ). All (λ (h : Stretch). h .size ≡ H) r) e tt
+heads-sized (suc k) H place s is n e =
+    bind-got _ _ e λ i m ei e₁. bind-got _ _ e₁ λ js j ej e₂.
+    passed _ _ ei λ h ei.
+    got-carry (λ (r : List Stretch) (u : ℕ). All (λ (h : Stretch). h .size ≡ H) r) e₂ (ap Stretch.size (sym (got-value ei)), heads-sized k H (place + m) (drop m s) js j ej)
+
+pub samples-sizes : (k H place : ℕ) (s : List ℕ) (v : SamplesFound) (n : ℕ) → samplesFormat .read (replicate k H) place s ≡ got v n → All (λ (h : Stretch). h .size ≡ H) (v .0)
+samples-sizes k H place s v n e =
+    bind-got _ _ e λ i m ei e₁. bind-got _ _ e₁ λ j u ej e₂. got-carry (λ (r : SamplesFound) (t : ℕ). All (λ (h : Stretch). h .size ≡ H) (r .0)) e₂ (heads-sized k H place s i m ei)
+
+pub all-low : (low H : ℕ) (is : List Stretch) → low ≤ H → All (λ (h : Stretch). h .size ≡ H) is → All (λ (h : Stretch). low ≤ h .size) is
+all-low low H [] l a = tt
+all-low low H (i ∷ is) l a = (omega (arith, a .0), all-low low H is l (a .1))
+
+-- so in a normal file of 40 or more
+samples-wide : (k H : ℕ) (v : SamplesFound) → (ltb 0 k ≡ true → leastHead ≤ H) → length (v .0) ≡ k → All (λ (h : Stretch). h .size ≡ H) (v .0) → All (λ (h : Stretch). leastHead ≤ h .size) (v .0)
+samples-wide k H ([], ds) l c a = tt
+samples-wide k H (i ∷ is, ds) l c a = all-low leastHead H (i ∷ is) (l (lt-ltb 0 k (omega (arith, c)))) a
+
+pub normal-wide : Tells (instrumentFormat normal) tt (λ file i. All (λ (h : Stretch). leastHead ≤ h .size) (i .samples .0))
+unfolding readInstrument
+normal-wide = record {
+  tells = λ place file i n b e.
+      passed _ _ e λ h e. bind-got _ _ e λ v m ev e.
+      let s = drop place file in
+      let k = wordAt 27 s in
+      let H = longAt 29 s in
+      let c : length (v .0) ≡ k = bind-got _ _ ev λ i u ei e₁. bind-got _ _ e₁ λ j t ej e₂.
+      got-carry (λ (r : SamplesFound) (q : ℕ). length (r .0) ≡ k) e₂ (read-length headFormat (replicate k H) (place + longAt 0 s) (drop (longAt 0 s) s) i u ei ∙ length-replicate k H) in
+      got-carry (λ (r : InstrumentFound) (u : ℕ). All (λ (h : Stretch). leastHead ≤ h .size) (r .samples .0)) e
+      (samples-wide k H v (h .1 .1 .1 .1 .1 .0) c (samples-sizes k H (place + longAt 0 s) (drop (longAt 0 s) s) v m ev));
 }

@@ -5,6 +5,7 @@ use mathlib.Core.Path.{_≡_}
 use native.Mathlib.Nat.{zero-add}
 use lib.ListN.{length}
 use Rattle.xm.specs.Number.{Bytes}
+use Rattle.xm.specs.ModuleKind.{ModuleKind}
 use Rattle.xm.specs.Got.{got}
 use Rattle.xm.specs.Format.{Format, All}
 use Rattle.xm.specs.Header.{Header, GoodHeader}
@@ -17,57 +18,64 @@ use Rattle.xm.proofs.Format.{Back, Keeps, Adjoins, Firm, Tells, over-ba
 use Rattle.xm.proofs.Header.{header-back, header-keeps, header-adjoins, header-firm}
 use Rattle.xm.proofs.PatternInFile.{PatternTold, pattern-back, pattern-keeps, pattern-adjoins, pattern-firm, pattern-tells}
 use Rattle.xm.proofs.Sample.{SamplesTold}
-use Rattle.xm.proofs.Instrument.{instrument-back, instrument-keeps, instrument-adjoins, instrument-firm, instrument-tells}
+use Rattle.xm.proofs.Instrument.{instrument-adjoins, instrument-tells}
+use Rattle.xm.proofs.Stripped.{instrument-back, instrument-keeps, instrument-firm}
 
 -- The patterns and the instruments, after a header
-body-back : (x : Header) → Back bodyFormat x
-body-back x =
+body-back : (kind : ModuleKind) (x : Header) → Back (bodyFormat kind) x
+body-back kind x =
     then-back instrumentsFor (over-back patternsFor x (many-back patternFormat (x .patterns) (pattern-back (x .channels))))
-    (λ patterns g. many-back instrumentFormat (x .instruments) instrument-back)
+    (λ patterns g. many-back (instrumentFormat kind) (x .instruments) (instrument-back kind))
 
-body-keeps : (x : Header) → GoodHeader x → Keeps bodyFormat x
-body-keeps x g =
+body-keeps : (kind : ModuleKind) (x : Header) → GoodHeader kind x → Keeps (bodyFormat kind) x
+body-keeps kind x g =
     then-keeps instrumentsFor (over-keeps patternsFor x (many-keeps patternFormat (x .patterns) (pattern-keeps (x .channels) (g .counts .1 .1 .0 .0))))
-    (λ patterns g′. many-keeps instrumentFormat (x .instruments) instrument-keeps)
+    (λ patterns g′. many-keeps (instrumentFormat kind) (x .instruments) (instrument-keeps kind))
 
-body-adjoins : (x : Header) → Adjoins bodyFormat x
-body-adjoins x =
+body-adjoins : (kind : ModuleKind) (x : Header) → Adjoins (bodyFormat kind) x
+body-adjoins kind x =
     then-adjoins instrumentsFor (over-adjoins patternsFor x (many-adjoins patternFormat (x .patterns) (pattern-adjoins (x .channels))))
-    (λ patterns. many-adjoins instrumentFormat (x .instruments) instrument-adjoins)
+    (λ patterns. many-adjoins (instrumentFormat kind) (x .instruments) (instrument-adjoins kind))
 
-body-firm : (x : Header) → Firm bodyFormat x
-body-firm x =
+body-firm : (kind : ModuleKind) (x : Header) → Firm (bodyFormat kind) x
+body-firm kind x =
     then-firm instrumentsFor (over-firm patternsFor x (many-firm patternFormat (x .patterns) (pattern-firm (x .channels))))
-    (λ patterns. many-firm instrumentFormat (x .instruments) instrument-firm)
+    (λ patterns. many-firm (instrumentFormat kind) (x .instruments) (instrument-firm kind))
 
 -- A module
-pub module-back : Back moduleFormat tt
-module-back = then-back (λ u x. x) header-back (λ x g. body-back x)
+pub module-back : (kind : ModuleKind) → Back (moduleFormat kind) tt
+module-back kind = then-back (λ u x. x) (header-back kind) (λ x g. body-back kind x)
 
-pub module-keeps : Keeps moduleFormat tt
-module-keeps = then-keeps (λ u x. x) header-keeps body-keeps
+pub module-keeps : (kind : ModuleKind) → Keeps (moduleFormat kind) tt
+module-keeps kind = then-keeps (λ u x. x) (header-keeps kind) (body-keeps kind)
 
-pub module-adjoins : Adjoins moduleFormat tt
-module-adjoins = then-adjoins (λ u x. x) header-adjoins body-adjoins
+pub module-adjoins : (kind : ModuleKind) → Adjoins (moduleFormat kind) tt
+module-adjoins kind = then-adjoins (λ u x. x) (header-adjoins kind) (body-adjoins kind)
 
-pub module-firm : Firm moduleFormat tt
-module-firm = then-firm (λ u x. x) header-firm body-firm
+pub module-firm : (kind : ModuleKind) → Firm (moduleFormat kind) tt
+module-firm kind = then-firm (λ u x. x) (header-firm kind) (body-firm kind)
 
 -- What the patterns and samples found say of the file
 pub record ModuleTold (file : List ℕ) (found : Found) : Type 0 where
   pub patterns : All (PatternTold (found .0 .content .channels) file) (found .1 .0)
   pub instruments : All (λ (i : InstrumentFound). SamplesTold file (i .samples)) (found .1 .1)
 
-body-tells : (x : Header) → Tells bodyFormat x (λ file v. All (PatternTold (x .channels) file) (v .0) × All (λ (i : InstrumentFound). SamplesTold file (i .samples)) (v .1))
-body-tells x =
-    then-tells instrumentsFor (over-tells patternsFor x (many-tells patternFormat (x .patterns) (pattern-tells (x .channels))))
-    (λ patterns. many-tells instrumentFormat (x .instruments) instrument-tells)
+module _ (kind : ModuleKind) {P : List ℕ → InstrumentFound → Type 0} (told : Tells (instrumentFormat kind) tt P) where
+  body-tells : (x : Header) → Tells (bodyFormat kind) x (λ file v. All (PatternTold (x .channels) file) (v .0) × All (P file) (v .1))
+  body-tells x =
+      then-tells instrumentsFor (over-tells patternsFor x (many-tells patternFormat (x .patterns) (pattern-tells (x .channels))))
+      (λ patterns. many-tells (instrumentFormat kind) (x .instruments) told)
 
-pub module-tells : (file : List ℕ) (found : Found) (end : ℕ) → Bytes file → moduleFormat .read tt 0 file ≡ got found end → ModuleTold file found
-module-tells file found end b e =
-    bind-got _ _ e λ i k ei e₁. bind-got _ _ e₁ λ v m ev e₂.
-    let t = body-tells (i .content) .tells k file v m b (rw (zero-add k) at ev) in
-    got-carry (λ (r : Found) (u : ℕ). ModuleTold file r) e₂ (record { patterns = t .0; instruments = t .1 })
+  pub module-told : (file : List ℕ) (found : Found) (end : ℕ) → Bytes file → moduleFormat kind .read tt 0 file ≡ got found end
+      → All (PatternTold (found .0 .content .channels) file) (found .1 .0) × All (P file) (found .1 .1)
+  module-told file found end b e =
+      bind-got _ _ e λ i k ei e₁. bind-got _ _ e₁ λ v m ev e₂.
+      got-carry (λ (r : Found) (u : ℕ). All (PatternTold (r .0 .content .channels) file) (r .1 .0) × All (P file) (r .1 .1)) e₂
+      (body-tells (i .content) .tells k file v m b (rw (zero-add k) at ev))
+
+pub module-tells : (kind : ModuleKind) (file : List ℕ) (found : Found) (end : ℕ) → Bytes file → moduleFormat kind .read tt 0 file ≡ got found end → ModuleTold file found
+module-tells kind file found end b e =
+    let t = module-told kind (instrument-tells kind) file found end b e in record { patterns = t .0; instruments = t .1 }
 
 -- A file of a format
 module _ {I A : Type 0} (F : Format (Unit {0}) I A) where

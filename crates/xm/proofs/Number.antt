@@ -71,10 +71,6 @@ long-drop place offset s = simp getD-drop (rw (add-assoc place offset 1, add-ass
 pub part-drop : (place offset size : ℕ) (s : List ℕ) → part offset size (drop place s) ≡ part (place + offset) size s
 part-drop place offset size s = rw drop-drop
 
--- and of some bytes of a place, if it lies within them
-pub byte-part : (place size offset : ℕ) (s : List ℕ) → offset < size → byteAt offset (part place size s) ≡ byteAt (place + offset) s
-byte-part place size offset s h = getD-take size (drop place s) offset 0 h ∙ getD-drop place s offset 0
-
 -- Two lists that agree on their first n elements
 pub record Agree (n : ℕ) (s t : List ℕ) : Type 0 where
   pub long : n ≤ length t

@@ -1,21 +1,24 @@
 -- Laws of sample headers and sample data. Assumes nothing.
-use Prim.Native.Nat.{ℕ, _+_, _≤_}
+use Prim.Native.Nat.{ℕ, _+_, _≤_, zero, suc, _*_}
 use mathlib.Core.Bool.{true}
-use mathlib.Core.List.{List, [], _∷_, _++_}
+use mathlib.Core.List.{List, [], _∷_, _++_, map}
 use mathlib.Core.Logic.{_↔_}
 use mathlib.Core.Path.{_≡_, refl, sym, ap, _∙_}
+use native.Mathlib.Nat.{zero-mul, suc-mul}
 use native.Mathlib.Omega.{arith}
-use lib.ListN.{length, take, drop, replicate, length-append}
-use lib.Seq.{length-take-le, take-at}
+use lib.ListN.{length, take, drop, replicate, length-append, length-take}
+use lib.Seq.{length-take-le, take-at, take-take}
 use Rattle.xm.specs.Number.{part}
-use Rattle.xm.specs.Got.{got, refused, AllHold, present, unlike, when, _at_}
-use Rattle.xm.specs.Format.{each, All}
-use Rattle.xm.specs.Sample.{leastHead, headBytes, kindOf, isWide, adpcm, dataSize, headTests, Stretch, readHead, headFormat, readData, dataFormat, SamplesFound, samplesFormat}
+use Rattle.xm.specs.Got.{got, refused, AllHold, present, unlike, when, _at_, Got, _>>=_}
+use Rattle.xm.specs.Format.{each, All, EachGood, joined}
+use Rattle.xm.specs.Sample.{leastHead, headBytes, kindOf, isWide, adpcm, dataSize, headTests, Stretch, readHead, headFormat, readData, dataFormat, SamplesFound, samplesFormat, cutHeadFormat, cutSamplesFormat, smallestHead}
+use Rattle.xm.specs.ModuleKind.{padded, trimmed}
 use Rattle.xm.specs.Region.{Adjoin}
 use Rattle.xm.specs.Demands.{NumbersFit, ThirteenExactly}
 use Rattle.xm.proofs.Number.{bytes-take, agree-take}
 use Rattle.xm.proofs.Got.{got-never, test-holds, pass, passed, bind-got, got-by, got-value, got-carry}
 use Rattle.xm.proofs.Answer.{tests-fail}
+use Rattle.xm.proofs.Cut.{padded-length, padded-bytes, padded-all, padded-long, padded-trimmed, trimmed-le, cut-same}
 use Rattle.xm.proofs.Format.{Back, Keeps, Held, Adjoins, Firm, Tells, then-back, then-keeps, then-adjoins, then-firm, then-tells, each-back, each-keeps, each-adjoins, each-firm, each-tells, many-back, many-keeps, many-adjoins, many-firm, many-tells, all}
 
 -- 13, behind 12
@@ -40,21 +43,35 @@ thirteen-exactly = thirteen-so
 
 -- What is found of a stretch, at its place of the file
 pub record HeadTold (file : List ℕ) (i : Stretch) : Type 0 where
-  pub bytes : i .bytes ≡ part (i .place) leastHead file
+  pub bytes : i .bytes ≡ headBytes (i .size) (drop (i .place) file)
   pub tests : AllHold (headTests 0 (i .bytes))
 
 pub record DataTold (file : List ℕ) (i : Stretch) : Type 0 where
   pub bytes : i .bytes ≡ part (i .place) (i .size) file
   pub long : length (i .bytes) ≡ i .size
 
+-- The bytes of a header: those written, all of them or so many that only zeros are cut off
+front-bytes : (kept : ℕ) (x rest : List ℕ) → length x ≡ leastHead → length (trimmed x) ≤ kept → kept ≤ leastHead → headBytes kept (take kept x ++ rest) ≡ x
+front-bytes kept x rest e h l =
+    ap (padded leastHead) (take-at (take kept x) rest kept (length-take-le kept x (omega (arith, e))))
+    ∙ ap (λ (n : ℕ). padded n (take kept x)) (sym e)
+    ∙ cut-same x kept h
+
+whole-bytes : (x rest : List ℕ) → length x ≡ leastHead → headBytes leastHead (x ++ rest) ≡ x
+whole-bytes x rest e = ap (padded leastHead) (take-at x rest leastHead e) ∙ ap (λ (n : ℕ). padded n x) (sym e) ∙ padded-all x
+
+-- and for code: of a header of 40 bytes or more, the first 40
+pub head-whole : (size : ℕ) (s : List ℕ) → leastHead ≤ size → size ≤ length s → headBytes size s ≡ take leastHead s
+head-whole size s l h = padded-long leastHead (take size s) (omega (arith, length-take-le size s h)) ∙ take-take leastHead size s l
+
 -- Sample headers
 pub head-back : Back headFormat leastHead
 unfolding readHead
 head-back = record {
   back = λ place x rest g.
-      let e = take-at x rest leastHead (g .size) in
+      let e = whole-bytes x rest (g .size) in
       record {
-        found = record { place = place; size = leastHead; bytes = take leastHead (x ++ rest) };
+        found = record { place = place; size = leastHead; bytes = headBytes leastHead (x ++ rest) };
         reads = pass _ (omega (arith, length-append x rest, g .size), rw e (g .tests)) (got-by (sym (g .size)));
         same = e;
       };
@@ -66,9 +83,9 @@ unfolding readHead
 head-keeps size l = record {
   keeps = λ place s i n b e.
       passed _ _ e λ h e.
-      let z : length (take leastHead s) ≡ leastHead = length-take-le leastHead s (omega (arith, h .0)) in
+      let z = padded-length leastHead (take size s) in
       got-carry (λ (r : Stretch) (t : ℕ). Held headFormat size place s r t) e
-      (record { inside = h .0; good = record { size = z; plain = bytes-take leastHead b; tests = h .1 }; short = omega arith });
+      (record { inside = h .0; good = record { size = z; plain = padded-bytes leastHead (bytes-take size b); tests = h .1 }; short = omega arith });
 }
 
 pub head-adjoins : (size : ℕ) → Adjoins headFormat size
@@ -77,14 +94,14 @@ head-adjoins size = record {
   adjoins = λ place s i n e. passed _ _ e λ h e. got-carry (λ (r : Stretch) (t : ℕ). Adjoin place (headFormat .regions r) (place + t)) e (refl, refl);
 }
 
-pub head-firm : (size : ℕ) → leastHead ≤ size → Firm headFormat size
+pub head-firm : (size : ℕ) → Firm headFormat size
 unfolding readHead
-head-firm size l = record {
+head-firm size = record {
   firm = λ place s t i n e a.
       passed _ _ e λ h e.
       got-carry (λ (r : Stretch) (u : ℕ). u ≡ n → readHead size place t ≡ got r u) e
       (λ q.
-      let z = agree-take a leastHead (omega arith) in
+      let z : headBytes size s ≡ headBytes size t = ap (padded leastHead) (agree-take a size (omega arith)) in
       pass _ (omega (arith, a .long), rw (← z) (h .1)) (rw (← z) refl)) refl;
 }
 
@@ -93,6 +110,38 @@ unfolding readHead
 head-tells size = record {
   tells = λ place file i n b e.
       passed _ _ e λ h e. got-carry (λ (r : Stretch) (u : ℕ). HeadTold file r) e (record { bytes = refl; tests = h .1 });
+}
+
+-- Sample headers of which so many bytes are written
+pub cut-back : (kept : ℕ) → kept ≤ leastHead → Back (cutHeadFormat kept) kept
+unfolding readHead
+cut-back kept l = record {
+  back = λ place x rest g.
+      let z : length (take kept x) ≡ kept = length-take-le kept x (omega (arith, g .good .size)) in
+      let e = front-bytes kept x rest (g .good .size) (g .cut) l in
+      record {
+        found = record { place = place; size = kept; bytes = headBytes kept (take kept x ++ rest) };
+        reads = pass _ (omega (arith, length-append (take kept x) rest), rw e (g .good .tests)) (got-by (sym z));
+        same = e;
+      };
+  plain = λ x g. bytes-take kept (g .good .plain);
+}
+
+take-le : (kept : ℕ) (x : List ℕ) → length (take kept x) ≤ kept
+take-le kept x = omega (arith, length-take kept x)
+
+pub cut-keeps : (size : ℕ) → Keeps (cutHeadFormat size) size
+unfolding readHead
+cut-keeps size = record {
+  keeps = λ place s i n b e.
+      passed _ _ e λ h e.
+      let z = padded-length leastHead (take size s) in
+      got-carry (λ (r : Stretch) (t : ℕ). Held (cutHeadFormat size) size place s r t) e
+      (record {
+        inside = h .0;
+        good = record { good = record { size = z; plain = padded-bytes leastHead (bytes-take size b); tests = h .1 }; cut = omega (arith, padded-trimmed leastHead (take size s), take-le size s) };
+        short = take-le size (headBytes size s);
+      });
 }
 
 -- Sample data
@@ -151,9 +200,74 @@ pub samples-adjoin : (k size : ℕ) → Adjoins samplesFormat (replicate k size)
 samples-adjoin k size =
     then-adjoins (λ sizes heads. heads) (many-adjoins headFormat k (head-adjoins size)) (λ heads. each-adjoins dataFormat heads (all data-adjoins heads))
 
-pub samples-firm : (k size : ℕ) → leastHead ≤ size → Firm samplesFormat (replicate k size)
-samples-firm k size l =
-    then-firm (λ sizes heads. heads) (many-firm headFormat k (head-firm size l)) (λ heads. each-firm dataFormat heads (all data-firm heads))
+pub cut-samples-back : (k kept : ℕ) → kept ≤ leastHead → Back (cutSamplesFormat kept) (replicate k kept)
+cut-samples-back k kept l =
+    then-back (λ sizes heads. heads) (many-back (cutHeadFormat kept) k (cut-back kept l)) (λ heads g. each-back dataFormat heads (all data-back heads))
+
+pub cut-samples-keeps : (k size : ℕ) → Keeps (cutSamplesFormat size) (replicate k size)
+cut-samples-keeps k size =
+    then-keeps (λ sizes heads. heads) (many-keeps (cutHeadFormat size) k (cut-keeps size)) (λ heads g. each-keeps dataFormat heads (all data-keeps heads))
+
+-- They are read as all others are
+heads-alike : (kept place : ℕ) (hs : List ℕ) (s : List ℕ) → each (cutHeadFormat kept) .read hs place s ≡ each headFormat .read hs place s
+unfolding _>>=_
+heads-alike kept place [] s = refl
+heads-alike kept place (h ∷ hs) s = go (readHead h place s) (λ n. heads-alike kept (place + n) hs (drop n s))
+  where
+    go : (g : Got Stretch) → ((n : ℕ) → each (cutHeadFormat kept) .read hs (place + n) (drop n s) ≡ each headFormat .read hs (place + n) (drop n s))
+        → _≡_ {A = Got (List Stretch)} (g >>= (λ (i, n). each (cutHeadFormat kept) .read hs (place + n) (drop n s) >>= (λ (is, m). got (i ∷ is) (n + m))))
+        (g >>= (λ (i, n). each headFormat .read hs (place + n) (drop n s) >>= (λ (is, m). got (i ∷ is) (n + m))))
+    go (got i n) same = ap (λ (g : Got (List Stretch)). g >>= (λ (is, m). got (i ∷ is) (n + m))) (same n)
+    go (refused r) same = refl
+
+pub samples-alike : (kept place : ℕ) (hs : List ℕ) (s : List ℕ) → cutSamplesFormat kept .read hs place s ≡ samplesFormat .read hs place s
+samples-alike kept place hs s =
+    ap (λ (g : Got (List Stretch)). g >>= (λ (i, n). each dataFormat .read (map Stretch.bytes i) (place + n) (drop n s) >>= (λ (j, m). got (i, j) (n + m)))) (heads-alike kept place hs s)
+
+-- The smallest H: no more than any that cuts off nothing but zeros, and such a one itself
+pub smallest-least : (kept : ℕ) (hs : List ℕ) (heads : List (List ℕ)) → EachGood (cutHeadFormat kept) hs heads → smallestHead heads ≤ kept
+unfolding smallestHead
+smallest-least kept [] [] g = omega arith
+smallest-least kept [] (x ∷ xs) g = absurd g
+smallest-least kept (h ∷ hs) [] g = absurd g
+smallest-least kept (h ∷ hs) (x ∷ xs) g = omega (arith, g .0 .cut, smallest-least kept hs xs (g .1))
+
+pub smallest-fits : (k : ℕ) (heads : List (List ℕ)) → EachGood headFormat (replicate k leastHead) heads → smallestHead heads ≤ leastHead
+unfolding smallestHead
+smallest-fits zero [] g = omega arith
+smallest-fits zero (x ∷ xs) g = absurd g
+smallest-fits (suc k) [] g = absurd g
+smallest-fits (suc k) (x ∷ xs) g = omega (arith, trimmed-le x, g .0 .size, smallest-fits k xs (g .1))
+
+pub cut-heads : (k kept : ℕ) (heads : List (List ℕ)) → EachGood headFormat (replicate k leastHead) heads → smallestHead heads ≤ kept
+    → EachGood (cutHeadFormat kept) (replicate k kept) heads
+unfolding smallestHead
+cut-heads zero kept [] g h = tt
+cut-heads zero kept (x ∷ xs) g h = absurd g
+cut-heads (suc k) kept [] g h = absurd g
+cut-heads (suc k) kept (x ∷ xs) g h = (record { good = g .0; cut = omega arith }, cut-heads k kept xs (g .1) (omega arith))
+
+pub whole-heads : (k kept : ℕ) (heads : List (List ℕ)) → EachGood (cutHeadFormat kept) (replicate k kept) heads → EachGood headFormat (replicate (length heads) leastHead) heads
+whole-heads zero kept [] g = tt
+whole-heads zero kept (x ∷ xs) g = absurd g
+whole-heads (suc k) kept [] g = absurd g
+whole-heads (suc k) kept (x ∷ xs) g = (g .0 .good, whole-heads k kept xs (g .1))
+
+-- and smaller headers take no more bytes
+pub heads-mono : (kept size : ℕ) (heads : List (List ℕ)) → kept ≤ size → length (joined (take kept) heads) ≤ length (joined (take size) heads)
+heads-mono kept size [] h = omega arith
+heads-mono kept size (x ∷ xs) h = simp length-append (omega (arith, length-take kept x, length-take size x, heads-mono kept size xs h))
+
+pub cut-heads-size : (k kept : ℕ) (heads : List (List ℕ)) → kept ≤ leastHead → EachGood (cutHeadFormat kept) (replicate k kept) heads → length (joined (take kept) heads) ≡ k * kept
+cut-heads-size zero kept [] l g = sym (zero-mul kept)
+cut-heads-size zero kept (x ∷ xs) l g = absurd g
+cut-heads-size (suc k) kept [] l g = absurd g
+cut-heads-size (suc k) kept (x ∷ xs) l g =
+    rw length-append (omega (arith, length-take-le kept x (omega (arith, g .0 .good .size)), cut-heads-size k kept xs l (g .1), suc-mul k kept))
+
+pub samples-firm : (k size : ℕ) → Firm samplesFormat (replicate k size)
+samples-firm k size =
+    then-firm (λ sizes heads. heads) (many-firm headFormat k (head-firm size)) (λ heads. each-firm dataFormat heads (all data-firm heads))
 
 -- each data has the size that its header says
 abbrev pub Sized : (heads : List (List ℕ)) → List Stretch → Type 0

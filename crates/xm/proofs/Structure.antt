@@ -11,14 +11,15 @@ use borrow.Author.Tests.{le-leb, lt-ltb, eqb-true}
 use lib.ListN.{length, drop, getD, replicate, length-drop}
 use lib.Seq.{drop-drop, getD-drop}
 use Rattle.xm.specs.Number.{Bytes, byteAt, part}
-use Rattle.xm.specs.Got.{Refusal, Got, got, refused}
+use Rattle.xm.specs.ModuleKind.{ModuleKind, normal, stripped}
+use Rattle.xm.specs.Got.{Refusal, Got, got, refused, AllHold}
 use Rattle.xm.specs.Format.{Kind, header, patternHeader, patternData, instrument, sampleHeader, sampleData, Region, Format, joined, each, eachRead}
 use Rattle.xm.specs.Answer.{gives, refuses, answered}
-use Rattle.xm.specs.Header.{HeaderFound, channelsAt, headerEnd, readHeader}
+use Rattle.xm.specs.Header.{HeaderFound, channelsAt, headerEnd, kindAt, readHeader}
 use Rattle.xm.specs.PatternInFile.{leastPattern, headSizeAt, dataSizeAt, PatternFound, readPattern, patternFormat}
 use Rattle.xm.specs.Sample.{Stretch, sizeOfFirst, stretchRegion, readHead, headFormat}
-use Rattle.xm.specs.Instrument.{instrumentSizeAt, countAt, headerSizeAt, InstrumentFound, voiceOf, readInstrument, instrumentFormat}
-use Rattle.xm.specs.Module.{Found, patternsFor, instrumentsFor, moduleFormat, fileMost, readFile}
+use Rattle.xm.specs.Instrument.{instrumentSizeAt, countAt, headerSizeAt, fieldsOf, instrumentTests, InstrumentFound, voiceOf, readInstrument, instrumentFormat}
+use Rattle.xm.specs.Module.{Found, patternsFor, instrumentsFor, moduleFormat, regionsOf, fileMost, readFile}
 use Rattle.xm.specs.Structure.{isStructure, kindNumber, structuresOf, structures, Standing, stands, ended, handed, reading, Ahead, Handed, endsAt, handHead, handPattern, handInstrument, handOver, aheadAtFirst, started, called, readOn, readFor}
 use Rattle.xm.specs.Asking.{Lies}
 use Rattle.xm.specs.Region.{ofKind, regionAt}
@@ -27,7 +28,8 @@ use Rattle.xm.proofs.Number.{bytes-drop}
 use Rattle.xm.proofs.Got.{no-true, passed, bind-got, got-value, got-used, got-carry}
 use Rattle.xm.proofs.Answer.{answer-gives, answer-refuses, gives-same}
 use Rattle.xm.proofs.Format.{cons-path}
-use Rattle.xm.proofs.Instrument.{heads-used, instrument-keeps}
+use Rattle.xm.proofs.Instrument.{heads-used}
+use Rattle.xm.proofs.Stripped.{instrument-keeps}
 use Rattle.xm.proofs.Module.{whole-read}
 
 -- A kind is known by its number, so no structure of a kind is left out
@@ -137,22 +139,28 @@ heads-by zero size head hs w =
 heads-by (suc k) size head hs w =
     (w .all ∙ sym (ap₂ (λ (n m : ℕ). headsFrom n m head) (w .count) (w .first (omega arith))), ap₂ (λ (n m : ℕ). n * m) (w .count) (w .first (omega arith)))
 
-pub record InstrumentTold (place : ℕ) (i : InstrumentFound) (n : ℕ) : Type 0 where
-  pub all : told (instrumentFormat .regions i) ≡ stands instrument place ∷ headsFrom (length (i .samples .0)) (sizeOfFirst (i .samples .0)) (place + i .size)
+pub record InstrumentTold (kind : ModuleKind) (place : ℕ) (i : InstrumentFound) (n : ℕ) : Type 0 where
+  pub all : told (instrumentFormat kind .regions i) ≡ stands instrument place ∷ headsFrom (length (i .samples .0)) (sizeOfFirst (i .samples .0)) (place + i .size)
   pub fits : i .size + length (i .samples .0) * sizeOfFirst (i .samples .0) ≤ n
   pub some : 1 ≤ n
 
-pub instrument-told : (place : ℕ) (s : List ℕ) (i : InstrumentFound) (n : ℕ) → readInstrument place s ≡ got i n → InstrumentTold place i n
+-- of either kind, an instrument is of some bytes
+pub some-size : (kind : ModuleKind) (place : ℕ) (s : List ℕ) → AllHold (instrumentTests kind place s) → 1 ≤ instrumentSizeAt s
+some-size normal place s h = omega (arith, h .1 .0)
+some-size stripped place s h = omega (arith, h .1 .0)
+
+pub instrument-told : (kind : ModuleKind) (place : ℕ) (s : List ℕ) (i : InstrumentFound) (n : ℕ) → readInstrument kind place s ≡ got i n → InstrumentTold kind place i n
 unfolding readInstrument
-instrument-told place s i n e =
+instrument-told kind place s i n e =
     passed _ _ e λ h e₁. bind-got _ _ e₁ λ v m ev e₂. bind-got _ _ ev λ hs a eh e₃. bind-got _ _ e₃ λ ds b ed e₄.
-    let w = heads-by _ _ _ hs (heads-told (countAt s) (headerSizeAt s) (place + instrumentSizeAt s) (drop (instrumentSizeAt s) s) hs a eh) in
-    got-carry (λ (r : InstrumentFound) (u : ℕ). InstrumentTold place r u) e₂
-    (got-carry (λ (v : List Stretch × List Stretch) (u : ℕ). InstrumentTold place (record { place = place; size = instrumentSizeAt s; name = part 4 22 s; type = byteAt 26 s; voice = voiceOf (countAt s) s; samples = v }) (instrumentSizeAt s + u)) e₄
+    let f = fieldsOf kind s in
+    let w = heads-by _ _ _ hs (heads-told (countAt f) (headerSizeAt f) (place + instrumentSizeAt s) (drop (instrumentSizeAt s) s) hs a eh) in
+    got-carry (λ (r : InstrumentFound) (u : ℕ). InstrumentTold kind place r u) e₂
+    (got-carry (λ (v : List Stretch × List Stretch) (u : ℕ). InstrumentTold kind place (record { place = place; size = instrumentSizeAt s; name = part 4 22 f; type = byteAt 26 f; voice = voiceOf (countAt f) f; samples = v }) (instrumentSizeAt s + u)) e₄
     (record {
       all = cons-path refl (told-append (joined (stretchRegion sampleHeader) hs) (joined (stretchRegion sampleData) ds) ∙ ap₂ _++_ (w .0) (data-told ds) ∙ append-nil _);
-      fits = omega (arith, w .1, heads-used (countAt s) (headerSizeAt s) (place + instrumentSizeAt s) (drop (instrumentSizeAt s) s) hs a eh);
-      some = omega (arith, h .1 .0);
+      fits = omega (arith, w .1, heads-used (countAt f) (headerSizeAt f) (place + instrumentSizeAt s) (drop (instrumentSizeAt s) s) hs a eh);
+      some = omega (arith, some-size kind place s h);
     }))
 
 -- What a reader has still to hand over
@@ -165,8 +173,8 @@ record Left (file : List ℕ) (a : Ahead) (all : List Standing) : Type 0 where
   patterns-read : each patternFormat .read (replicate (a .patterns) channels) (a .place) (drop (a .place) file) ≡ got patterns used
   instruments : List InstrumentFound
   end : ℕ
-  instruments-read : each instrumentFormat .read (replicate (a .instruments) tt) (a .place + used) (drop (a .place + used) file) ≡ got instruments end
-  same : all ≡ headsFrom (a .heads) (a .headSize) (a .head) ++ (told (joined (patternFormat .regions) patterns) ++ told (joined (instrumentFormat .regions) instruments))
+  instruments-read : each (instrumentFormat (kindAt file)) .read (replicate (a .instruments) tt) (a .place + used) (drop (a .place + used) file) ≡ got instruments end
+  same : all ≡ headsFrom (a .heads) (a .headSize) (a .head) ++ (told (joined (patternFormat .regions) patterns) ++ told (joined (instrumentFormat (kindAt file) .regions) instruments))
 
 -- One call
 record OneCall (file : List ℕ) (a : Ahead) (all : List Standing) : Type 0 where
@@ -214,9 +222,9 @@ module _ (file : List ℕ) (bytes : Bytes file) where
       let there : place + n ≡ place + headSizeAt s + dataSizeAt s = omega (arith, t .used) in
       let next = ahead p i (place + headSizeAt s + dataSizeAt s) 0 0 0 in
       let later : place + w .used ≡ place + headSizeAt s + dataSizeAt s + m = omega (arith, there, used) in
-      let is : all ≡ stands patternHeader place ∷ (told (joined (patternFormat .regions) more) ++ told (joined (instrumentFormat .regions) (w .instruments))) =
+      let is : all ≡ stands patternHeader place ∷ (told (joined (patternFormat .regions) more) ++ told (joined (instrumentFormat (kindAt file) .regions) (w .instruments))) =
       w .same
-      ∙ ap (λ (l : List PatternFound). told (joined (patternFormat .regions) l) ++ told (joined (instrumentFormat .regions) (w .instruments))) parts
+      ∙ ap (λ (l : List PatternFound). told (joined (patternFormat .regions) l) ++ told (joined (instrumentFormat (kindAt file) .regions) (w .instruments))) parts
       ∙ cons-path (ap (stands patternHeader) (t .starts)) refl in
       record {
         next = next;
@@ -236,17 +244,17 @@ module _ (file : List ℕ) (bytes : Bytes file) where
       }
   one-call zero (suc i) place zero head size all w =
       let here : place + w .used ≡ place = omega (arith, got-used (w .patterns-read)) in
-      each-next instrumentFormat tt i place (drop place file) (rw here at (w .instruments-read)) λ x n more m ex em parts used.
-      let t = instrument-told place (drop place file) x n ex in
-      let inside = instrument-keeps .keeps place (drop place file) x n (bytes-drop place bytes) ex .inside in
+      each-next (instrumentFormat (kindAt file)) tt i place (drop place file) (rw here at (w .instruments-read)) λ x n more m ex em parts used.
+      let t = instrument-told (kindAt file) place (drop place file) x n ex in
+      let inside = instrument-keeps (kindAt file) .keeps place (drop place file) x n (bytes-drop place bytes) ex .inside in
       let z : suc i - 1 ≡ i = omega arith in
       let k = length (x .samples .0) in
       let next = ahead 0 i (place + n) k (place + x .size) (sizeOfFirst (x .samples .0)) in
-      let is : all ≡ stands instrument place ∷ (headsFrom k (sizeOfFirst (x .samples .0)) (place + x .size) ++ told (joined (instrumentFormat .regions) more)) =
+      let is : all ≡ stands instrument place ∷ (headsFrom k (sizeOfFirst (x .samples .0)) (place + x .size) ++ told (joined (instrumentFormat (kindAt file) .regions) more)) =
       w .same
-      ∙ ap₂ (λ (l : List PatternFound) (r : List InstrumentFound). told (joined (patternFormat .regions) l) ++ told (joined (instrumentFormat .regions) r)) (sym (got-value (w .patterns-read))) parts
-      ∙ told-append (instrumentFormat .regions x) (joined (instrumentFormat .regions) more)
-      ∙ ap (λ (l : List Standing). l ++ told (joined (instrumentFormat .regions) more)) (t .all) in
+      ∙ ap₂ (λ (l : List PatternFound) (r : List InstrumentFound). told (joined (patternFormat .regions) l) ++ told (joined (instrumentFormat (kindAt file) .regions) r)) (sym (got-value (w .patterns-read))) parts
+      ∙ told-append (instrumentFormat (kindAt file) .regions x) (joined (instrumentFormat (kindAt file) .regions) more)
+      ∙ ap (λ (l : List Standing). l ++ told (joined (instrumentFormat (kindAt file) .regions) more)) (t .all) in
       record {
         next = next;
         gives-it = rw (le-leb (length file) fileMost (w .small), lt-ltb 0 (suc i) (omega arith), le-leb place (length file) (omega (arith, inside, t .some, length-drop place file)), ex, z) (first-is next is);
@@ -267,7 +275,7 @@ module _ (file : List ℕ) (bytes : Bytes file) where
       let here : place + w .used ≡ place = omega (arith, got-used (w .patterns-read)) in
       let is : all ≡ [] =
       w .same
-      ∙ ap₂ (λ (l : List PatternFound) (r : List InstrumentFound). told (joined (patternFormat .regions) l) ++ told (joined (instrumentFormat .regions) r)) (sym (got-value (w .patterns-read))) (sym (got-value (w .instruments-read))) in
+      ∙ ap₂ (λ (l : List PatternFound) (r : List InstrumentFound). told (joined (patternFormat .regions) l) ++ told (joined (instrumentFormat (kindAt file) .regions) r)) (sym (got-value (w .patterns-read))) (sym (got-value (w .instruments-read))) in
       let next = ahead 0 0 place 0 head size in
       record {
         next = next;
@@ -315,7 +323,7 @@ module _ (file : List ℕ) (a : Ahead) where
   unfolding handOver
   hand-stays =
       ended-stays (leb (length file) fileMost) (ltb 0 (a .heads)) (leb (a .head + a .headSize) (length file)) (ltb 0 (a .patterns)) (leb (a .place + leastPattern) (length file)) (ltb 0 (a .instruments)) (leb (a .place) (length file))
-      (readInstrument (a .place) (drop (a .place) file))
+      (readInstrument (kindAt file) (a .place) (drop (a .place) file))
 
 -- Before the first call
 module _ (file : List ℕ) (found : Found) (end : ℕ) (reads : readFile file ≡ got found end) where
@@ -325,12 +333,12 @@ module _ (file : List ℕ) (found : Found) (end : ℕ) (reads : readFile file �
   first-left : Left file (aheadAtFirst file) all
   unfolding readHeader
   first-left =
-      whole-read moduleFormat file found end reads λ small e.
-      bind-got (readHeader 0 file) _ e λ i n eh e₁. bind-got _ _ e₁ λ v m ev e₂.
+      whole-read (moduleFormat (kindAt file)) file found end reads λ small e.
+      bind-got (readHeader (kindAt file) 0 file) _ e λ i n eh e₁. bind-got _ _ e₁ λ v m ev e₂.
       bind-got _ _ ev λ ps k ep e₃. bind-got _ _ e₃ λ is j ei e₄.
       passed _ _ eh λ tests eh.
       let patterns = got-carry (λ (i : HeaderFound) (n : ℕ). each patternFormat .read (patternsFor (i .content)) (0 + n) (drop n file) ≡ got ps k) (sym eh) ep in
-      let instruments = got-carry (λ (i : HeaderFound) (n : ℕ). each instrumentFormat .read (instrumentsFor (i .content) []) (0 + n + k) (drop k (drop n file)) ≡ got is j) (sym eh) ei in
+      let instruments = got-carry (λ (i : HeaderFound) (n : ℕ). each (instrumentFormat (kindAt file)) .read (instrumentsFor (i .content) []) (0 + n + k) (drop k (drop n file)) ≡ got is j) (sym eh) ei in
       got-carry (λ (r : Found) (u : ℕ). Left file (aheadAtFirst file) (map handed (structures r))) e₂
       (got-carry (λ (r : List PatternFound × List InstrumentFound) (u : ℕ). Left file (aheadAtFirst file) (map handed (structures (i, r)))) e₄
       (record {
@@ -343,7 +351,7 @@ module _ (file : List ℕ) (found : Found) (end : ℕ) (reads : readFile file �
         instruments = is;
         end = j;
         instruments-read = rw (zero-add (headerEnd file), drop-drop k (headerEnd file) file) at instruments;
-        same = told-append (joined (patternFormat .regions) ps) (joined (instrumentFormat .regions) is);
+        same = told-append (joined (patternFormat .regions) ps) (joined (instrumentFormat (kindAt file) .regions) is);
       }))
 
   module _ (bytes : Bytes file) where
@@ -410,7 +418,7 @@ pub readers-tell : ReadersTell
 readers-tell = record {
   by-number = by-number;
   hands-over = λ file found end bytes e. record {
-    every-kind = λ kind h. none-left-out kind (moduleFormat .regions found) h;
+    every-kind = λ kind h. none-left-out kind (regionsOf found) h;
     three-kinds = (refl, refl, refl);
     each-one = λ n l. answers file found end e bytes n ∙ ap gives (handed-at (structures found) n l);
     end-then = λ n l. answers file found end e bytes n ∙ ap gives (handed-none (structures found) n l);

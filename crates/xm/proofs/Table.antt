@@ -8,7 +8,7 @@ use Rattle.xm.specs.Format.{Kind, header, patternHeader, patternData, in
 use Rattle.xm.specs.Sample.{Stretch, stretchRegion, SamplesFound, samplesFormat}
 use Rattle.xm.specs.PatternInFile.{PatternFound, patternFormat}
 use Rattle.xm.specs.Instrument.{InstrumentFound, instrumentFormat}
-use Rattle.xm.specs.Module.{Found, moduleFormat}
+use Rattle.xm.specs.Module.{Found, regionsOf}
 use Rattle.xm.specs.Table.{PatternRow, InstrumentRow, SampleRow, patternRow, patternRows, sampleCount, instrumentRowsFrom, instrumentRows, sampleRowsOf, sampleRowsIn, sampleRows}
 use Rattle.xm.specs.Asking.{Lies, liesOf}
 use Rattle.xm.specs.Structure.{kindNumber}
@@ -76,14 +76,14 @@ bytes-regions v =
     ∙ ap₂ (λ (a b : List Lies). a ++ b) (stretches-other sampleData sampleHeader refl (v .0)) (stretches-same sampleData sampleData refl (v .1))
 
 -- Of a module: what the patterns and the instruments have of a kind
-module-regions : (kind : Kind) → eqb (kindNumber kind) (kindNumber header) ≡ false → (found : Found) → ofKind kind (moduleFormat .regions found)
-    ≡ joined (λ (p : PatternFound). ofKind kind (patternFormat .regions p)) (found .1 .0) ++ joined (λ (i : InstrumentFound). ofKind kind (instrumentFormat .regions i)) (found .1 .1)
+module-regions : (kind : Kind) → eqb (kindNumber kind) (kindNumber header) ≡ false → (found : Found) → ofKind kind (regionsOf found)
+    ≡ joined (λ (p : PatternFound). ofKind kind (patternFormat .regions p)) (found .1 .0) ++ joined (λ (i : InstrumentFound). ofKind kind (instrumentFormat (found .0 .kind) .regions i)) (found .1 .1)
 module-regions kind e found =
-    rw e (kind-append kind (joined (patternFormat .regions) (found .1 .0)) (joined (instrumentFormat .regions) (found .1 .1))
-    ∙ ap₂ (λ (a b : List Lies). a ++ b) (kind-joined kind (patternFormat .regions) (found .1 .0)) (kind-joined kind (instrumentFormat .regions) (found .1 .1)))
+    rw e (kind-append kind (joined (patternFormat .regions) (found .1 .0)) (joined (instrumentFormat (found .0 .kind) .regions) (found .1 .1))
+    ∙ ap₂ (λ (a b : List Lies). a ++ b) (kind-joined kind (patternFormat .regions) (found .1 .0)) (kind-joined kind (instrumentFormat (found .0 .kind) .regions) (found .1 .1)))
 
 -- Patterns: a row for each data region
-patterns-stand : (found : Found) → ofKind patternData (moduleFormat .regions found) ≡ map (λ (row : PatternRow). record { place = row .dataPlace; size = row .size }) (patternRows found)
+patterns-stand : (found : Found) → ofKind patternData (regionsOf found) ≡ map (λ (row : PatternRow). record { place = row .dataPlace; size = row .size }) (patternRows found)
 patterns-stand found =
     module-regions patternData refl found
     ∙ ap₂ (λ (a b : List Lies). a ++ b)
@@ -101,7 +101,7 @@ no-patterns : (kind : Kind) → eqb (kindNumber kind) (kindNumber patternHeader)
     → joined (λ (p : PatternFound). ofKind kind (patternFormat .regions p)) ps ≡ []
 no-patterns kind e q ps = joined-none _ (λ p. rw (e, q)) ps
 
-instruments-stand : (found : Found) → map Lies.place (ofKind instrument (moduleFormat .regions found)) ≡ map InstrumentRow.place (instrumentRows found)
+instruments-stand : (found : Found) → map Lies.place (ofKind instrument (regionsOf found)) ≡ map InstrumentRow.place (instrumentRows found)
 instruments-stand found =
     ap (map Lies.place)
     (module-regions instrument refl found
@@ -123,13 +123,13 @@ row-bytes (h ∷ hs) [] z = absurd z
 row-bytes (h ∷ hs) (b ∷ bs) z = cons-path (ap (λ (n : ℕ). record { place = b .place; size = n }) (sym (z .0))) (row-bytes hs bs (z .1))
 
 module _ (file : List ℕ) (found : Found) (told : All (λ (i : InstrumentFound). SamplesTold file (i .samples)) (found .1 .1)) where
-  pub heads-lie : ofKind sampleHeader (moduleFormat .regions found) ≡ joined (λ (i : InstrumentFound). map lies (i .samples .0)) (found .1 .1)
+  pub heads-lie : ofKind sampleHeader (regionsOf found) ≡ joined (λ (i : InstrumentFound). map lies (i .samples .0)) (found .1 .1)
   heads-lie =
       module-regions sampleHeader refl found
       ∙ ap₂ (λ (a b : List Lies). a ++ b) (no-patterns sampleHeader refl refl (found .1 .0)) refl
       ∙ joined-same (λ (i : InstrumentFound). SamplesTold file (i .samples)) _ _ (λ i t. heads-regions (i .samples)) (found .1 .1) told
 
-  heads-stand : map Lies.place (ofKind sampleHeader (moduleFormat .regions found)) ≡ map SampleRow.headerPlace (sampleRows found)
+  heads-stand : map Lies.place (ofKind sampleHeader (regionsOf found)) ≡ map SampleRow.headerPlace (sampleRows found)
   heads-stand =
       ap (map Lies.place) heads-lie
       ∙ map-joined Lies.place (λ (i : InstrumentFound). map lies (i .samples .0)) (found .1 .1)
@@ -137,7 +137,7 @@ module _ (file : List ℕ) (found : Found) (told : All (λ (i : InstrumentFound)
       (λ i t. sym (row-heads (i .samples .0) (i .samples .1) (t .sizes))) (found .1 .1) told
       ∙ sym (map-joined SampleRow.headerPlace sampleRowsIn (found .1 .1))
 
-  bytes-stand : ofKind sampleData (moduleFormat .regions found) ≡ map liesOf (sampleRows found)
+  bytes-stand : ofKind sampleData (regionsOf found) ≡ map liesOf (sampleRows found)
   bytes-stand =
       module-regions sampleData refl found
       ∙ ap₂ (λ (a b : List Lies). a ++ b) (no-patterns sampleData refl refl (found .1 .0)) refl

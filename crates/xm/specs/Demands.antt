@@ -1,27 +1,29 @@
 -- The three demands, and the paper's further claims, as statements over these definitions. docs/PROMISES.md says where each is proved.
--- `Demand₁`, `Demand₂`, `Demand₃`; then of packing `Fifteen` and `EmptyPatterns`; of pressing `PressesWhole` and `SameBytes`; of the check's
--- tables `TablesTell`; of a sample header `TwelveExactly` and `ThirteenExactly`; of accepted files `AcceptedFiles`, `AsksExactly`, `RestIgnored`, `RestartsRead`,
--- `PlaysOrders`; of the small reader `ReadersTell`; of the loader `LoadersTell`.
+-- `Demand₁`, `Demand₂`, `Demand₃`; then of packing `Fifteen` and `EmptyPatterns`; of pressing `PressesWhole` and `SameBytes`; of normal and
+-- stripped modules `KindsTold`, `SmallestSizes`, `KindsRefused`; of conversion `OwnRefusalFirst`, `KeptElse`, `ConvertsBack`; of the check's tables
+-- `TablesTell`; of a sample header `TwelveExactly` and `ThirteenExactly`; of accepted files `AcceptedFiles`, `AsksExactly`, `RestIgnored`,
+-- `RestartsRead`, `PlaysOrders`; of the small reader `ReadersTell`; of the loader `LoadersTell`.
 use Prim.Native.Nat.{ℕ, _+_, _*_, _/_, _%_, _^_, _≤_, _<_}
 use mathlib.Core.Bool.{true, cond}
 use mathlib.Core.List.{List, [], _∷_, _++_, map}
 use mathlib.Core.Logic.{_↔_}
 use mathlib.Core.Path.{_≡_}
-use lib.Dec.{eqb}
+use lib.Dec.{ltb, eqb}
 use lib.IntN.{ℤ}
 use lib.ListN.{length, getD, take, drop, replicate}
 use Rattle.xm.specs.Number.{Bytes, byteAt, longAt, part, byte, word, long, signed}
+use Rattle.xm.specs.ModuleKind.{ModuleKind, normal, stripped}
 use Rattle.xm.specs.Got.{Refusal, got, refused, _at_, AllHold}
 use Rattle.xm.specs.Format.{Format, Kind, Region, patternHeader, patternData, instrument, sampleHeader, sampleData, joined, flat, All}
 use Rattle.xm.specs.Answer.{Answer, gives, refuses, inFront, after}
 use Rattle.xm.specs.Cell.{cellSize, cellMost}
 use Rattle.xm.specs.Stored.{rowsMost, Pattern, emptyRows, readStored, writeStored, GoodPattern}
-use Rattle.xm.specs.Header.{songLengthAt, restartAt}
+use Rattle.xm.specs.Header.{mark, version, markAt, versionAt, sizeAt, songLengthAt, restartAt, ordersFrom, kindAt, noTracker}
 use Rattle.xm.specs.PatternInFile.{dataMost, leastPattern, writePattern}
 use Rattle.xm.specs.Packing.{argumentTests, cellBytes, unpacking, unpackNumbers, unpackAfter, unpackLoader, patternOf, packing, packNumbers, packAfter, packLoader}
-use Rattle.xm.specs.Sample.{leastHead, headBytes, lengthOf, loopStart, loopLength, kindOf, loopBits, isWide, loops, adpcm, deltaTable, adpcmSize, dataSizeBy, readHead}
-use Rattle.xm.specs.Instrument.{Instrument, InstrumentFound}
-use Rattle.xm.specs.Module.{Found, Content, moduleFormat, fileMost, readWhole, readFile, plays}
+use Rattle.xm.specs.Sample.{Stretch, leastHead, headBytes, lengthOf, loopStart, loopLength, kindOf, loopBits, isWide, loops, adpcm, deltaTable, adpcmSize, dataSizeBy, readHead, smallestHead}
+use Rattle.xm.specs.Instrument.{leastStripped, Instrument, InstrumentFound, instrumentView, readInstrument, writeFields}
+use Rattle.xm.specs.Module.{Found, Content, moduleFormat, regionsOf, fileMost, readWhole, readFile, plays}
 use Rattle.xm.specs.Delta.{storedNumbers, decoding, coding, allFit, decodeNumbers, decodeAfter, codeNumbers, codeAfter, decodingLimited, decodeLoader, codingLimited, codeLoader}
 use Rattle.xm.specs.Adpcm.{chosen, adpcmDecoded, adpcmDecoding, adpcmLimited, adpcmLoader, decodingBy, valuesOf}
 use Rattle.xm.specs.Table.{PatternRow, InstrumentRow, SampleRow, patternRows, instrumentRows, sampleRowsIn, sampleRows, Checked, checkedAs, checking, checkNumbers, checkLoader, Room, checkingInto, checkIntoLoader, Tables, roomOf, tablesAfter, sampleNumbers}
@@ -29,6 +31,7 @@ use Rattle.xm.specs.Asking.{Lies, asking, stretchOf, askingFlat, askingR
 use Rattle.xm.specs.Structure.{isStructure, structures, ended, handed, reading, called, readFor}
 use Rattle.xm.specs.Region.{Adjoin, regionAt, ofKind}
 use Rattle.xm.specs.Press.{contentOf, pressed, pressingAs, pressing, pressNumbersAs, pressAfterAs, pressLoader}
+use Rattle.xm.specs.Convert.{converted, converting, convertNumbers, convertAfter, convertLoader}
 
 -- DEMAND 1. "Bad input gets a refusal number and a place. A refused call changes nothing in the memory it was lent", and no call writes
 -- past what it was lent. The numbers are 1 to 16, and "9 is no longer given".
@@ -67,6 +70,7 @@ pub record Demand₁ : Type 0 where
   pub adpcm : (count : ℕ) (bytes : List ℕ) → KeepsItsWord (λ (values : List ℤ). values) (adpcmDecoding count bytes)
   pub adpcm-limited : (count : ℕ) (bytes : List ℕ) → KeepsItsWord (λ (values : List ℤ). values) (adpcmLimited count bytes)
   pub press : (file : List ℕ) → Bytes file → KeepsItsWord (λ (bytes : List ℕ). bytes) (pressing file)
+  pub convert : (to : ModuleKind) (file : List ℕ) → Bytes file → KeepsItsWord (λ (bytes : List ℕ). bytes) (converting to file)
 
 -- An acceptable file of a content, within a format: bytes that are read as it.
 pub record FileOf {I A : Type 0} (F : Format (Unit {0}) I A) (content : A) (file : List ℕ) : Type 0 where
@@ -106,9 +110,9 @@ abbrev pub countsOf : Content → List ℕ
 countsOf content = content .0 .channels ∷ content .0 .patterns ∷ content .0 .instruments ∷ length (headsIn content) ∷ []
 
 pub record CheckTells : Type 0 where
-  pub accepted : (content : Content) (file : List ℕ) (f : FileOf moduleFormat content file) → checkNumbers file ≡ 0 ∷ 0 ∷ f .end ∷ countsOf content
+  pub accepted : (kind : ModuleKind) (content : Content) (file : List ℕ) (f : FileOf (moduleFormat kind) content file) → checkNumbers file ≡ 0 ∷ 0 ∷ f .end ∷ countsOf content
   pub refused-so : (file : List ℕ) (r : Refusal) → readFile file ≡ refused r → checkNumbers file ≡ r .number ∷ r .place ∷ 0 ∷ 0 ∷ 0 ∷ 0 ∷ 0 ∷ []
-  pub acceptable : (file : List ℕ) → Bytes file → accepts (checkNumbers file) → (content : Content) × FileOf moduleFormat content file
+  pub acceptable : (file : List ℕ) → Bytes file → accepts (checkNumbers file) → (kind : ModuleKind) × (content : Content) × FileOf (moduleFormat kind) content file
 
 -- The bytes that pressing leaves in the output it was lent, by the length that it reports.
 abbrev pub pressedInto : {I A : Type 0} → Format (Unit {0}) I A → (file out : List ℕ) → List ℕ
@@ -118,6 +122,11 @@ pressedInto F file out = take (resultIn (pressNumbersAs F file (length out)) 0) 
 abbrev pub PressReadsBack : {I A : Type 0} → Format (Unit {0}) I A → Type 0
 PressReadsBack {I} {A} F = (content : A) (file out : List ℕ) → FileOf F content file → accepts (pressNumbersAs F file (length out))
     → FileOf F content (pressedInto F file out)
+
+-- A converted file is of its target kind and reads as the converted content.
+abbrev pub ConvertReadsBack : Type 0
+ConvertReadsBack = (kind to : ModuleKind) (content : Content) (file out : List ℕ) → FileOf (moduleFormat kind) content file
+    → accepts (convertNumbers to file (length out)) → FileOf (moduleFormat to) (converted content) (take (resultIn (convertNumbers to file (length out)) 0) (convertAfter to file out))
 
 -- "Unpacking a packed pattern returns its cells": by the length and the rows that packing reports.
 pub record UnpacksToCells (rows channels : ℕ) (cells lent : List ℕ) (reported after : List ℕ) : Type 0 where
@@ -148,7 +157,8 @@ pub record AdpcmTells (count : ℕ) (bytes : List ℕ) (room : ℕ) : Type 0 whe
 
 pub record Demand₂ : Type 0 where
   pub check : CheckTells
-  pub press : PressReadsBack moduleFormat
+  pub press : (kind : ModuleKind) → PressReadsBack (moduleFormat kind)
+  pub convert : ConvertReadsBack
   pub unpack : (rows channels : ℕ) (cells out lent : List ℕ) → Bytes cells → accepts (packNumbers rows channels cells (length out)) → length cells ≤ length lent
       → UnpacksToCells rows channels cells lent (packNumbers rows channels cells (length out)) (packAfter rows channels cells out)
   pub decode : (width : ℕ) (values : List ℤ) (out : List ℕ) (room : ℕ) → allFit 16 values ≡ true → accepts (codeNumbers width values (length out))
@@ -182,9 +192,25 @@ pub record PressedShortest {I A : Type 0} (F : Format (Unit {0}) I A) (content :
 abbrev pub PressesShortest : {I A : Type 0} → Format (Unit {0}) I A → Type 0
 PressesShortest {I} {A} F = (content : A) (file : List ℕ) (room : ℕ) → FileOf F content file → PressedShortest F content file room
 
+-- "a conversion .. is the shortest file of its target format": it gets 2 exactly when no acceptable file of that format has the converted
+-- content, its shortest being over the limit; else 14 exactly when none is as short as the room; otherwise what is written is one.
+pub record ConvertedShortest (to : ModuleKind) (content : Content) (file : List ℕ) (room : ℕ) : Type 0 where
+  pub too-large-exactly : (converting to file room ≡ refuses (2 at 0)) ↔ ((other : List ℕ) → FileOf (moduleFormat to) (converted content) other → ⊥)
+  pub over-exactly : (converting to file room ≡ refuses (2 at 0)) ↔ (fileMost < length (pressed to (converted content)))
+  pub no-room-exactly : (converting to file room ≡ refuses (2 at 0) → ⊥)
+      → (converting to file room ≡ refuses (14 at 0)) ↔ ((other : List ℕ) → FileOf (moduleFormat to) (converted content) other → room < length other)
+  pub given-else : (converting to file room ≡ refuses (2 at 0) → ⊥) → (converting to file room ≡ refuses (14 at 0) → ⊥)
+      → converting to file room ≡ gives (pressed to (converted content))
+  pub written : (converting to file room ≡ refuses (2 at 0) → ⊥) → FileOf (moduleFormat to) (converted content) (pressed to (converted content))
+  pub shortest : (other : List ℕ) → FileOf (moduleFormat to) (converted content) other → length (pressed to (converted content)) ≤ length other
+
+abbrev pub ConvertsShortest : Type 0
+ConvertsShortest = (kind to : ModuleKind) (content : Content) (file : List ℕ) (room : ℕ) → FileOf (moduleFormat kind) content file → ConvertedShortest to content file room
+
 pub record Demand₃ : Type 0 where
   pub patterns : (rows channels : ℕ) (cells : List ℕ) (room : ℕ) → WellFormed rows channels cells → PackedShortest rows channels cells room (patternOf rows channels cells)
-  pub modules : PressesShortest moduleFormat
+  pub modules : (kind : ModuleKind) → PressesShortest (moduleFormat kind)
+  pub conversions : ConvertsShortest
 
 -- "size refusals can start at 43 channels (66,048 bytes at 256 rows) and never occur at 42 (64,512)."
 pub record Fifteen : Type 0 where
@@ -203,12 +229,12 @@ pub record EmptyPatterns : Type 0 where
       → cellBytes p ≡ replicate (rows * channels * cellSize) 0 → unpacking rows channels [] room ≡ gives p
 
 -- The pressed length "never exceeds the input's"; the pressed file is used to its last byte.
-pub record PressedWhole (content : Content) (file : List ℕ) : Type 0 where
-  pub no-longer : length (pressed content) ≤ length file
-  pub ends : checkNumbers (pressed content) ≡ 0 ∷ 0 ∷ length (pressed content) ∷ countsOf content
+pub record PressedWhole (kind : ModuleKind) (content : Content) (file : List ℕ) : Type 0 where
+  pub no-longer : length (pressed kind content) ≤ length file
+  pub ends : checkNumbers (pressed kind content) ≡ 0 ∷ 0 ∷ length (pressed kind content) ∷ countsOf content
 
 abbrev pub PressesWhole : Type 0
-PressesWhole = (content : Content) (file : List ℕ) → FileOf moduleFormat content file → PressedWhole content file
+PressesWhole = (kind : ModuleKind) (content : Content) (file : List ℕ) → FileOf (moduleFormat kind) content file → PressedWhole kind content file
 
 -- "two accepted files of one format press to the same bytes, room given, exactly when their content is equal, and .. pressing a pressed
 -- file changes nothing": of any format that reads whole files.
@@ -218,6 +244,61 @@ pub record SameBytes {I A : Type 0} (F : Format (Unit {0}) I A) : Type 0 where
       → (pressedInto F file out ≡ pressedInto F file′ out′) ↔ (content ≡ content′)
   pub again : (content : A) (file out out′ : List ℕ) → FileOf F content file → accepts (pressNumbersAs F file (length out))
       → length (pressedInto F file out) ≤ length out′ → accepts (pressNumbersAs F (pressedInto F file out) (length out′)) × (pressedInto F (pressedInto F file out) out′ ≡ pressedInto F file out)
+
+-- Mark and version are those of a kind.
+abbrev pub Fits : ModuleKind → (file : List ℕ) → Type 0
+Fits kind file = (markAt file ≡ mark kind) × (versionAt file ≡ version kind)
+
+-- A file of a kind: the check reads it as one and the press presses it as one; its mark tells the kind, so no call does.
+pub record KindTold (kind : ModuleKind) (file : List ℕ) : Type 0 where
+  pub is : kindAt file ≡ kind
+  pub mark-tells : Fits kind file
+  pub reads : readFile file ≡ readWhole (moduleFormat kind) file
+  pub found : (found : Found) (end : ℕ) → readFile file ≡ got found end → found .0 .kind ≡ kind
+  pub presses : (room : ℕ) → pressing file room ≡ pressingAs (moduleFormat kind) file room
+
+abbrev pub KindsTold : Type 0
+KindsTold = (kind : ModuleKind) (content : Content) (file : List ℕ) → FileOf (moduleFormat kind) content file → KindTold kind file
+
+-- "Our stripped press uses the smallest H, then the smallest I": no instrument that is read as the same content has smaller ones.
+pub record SmallestIn (i : InstrumentFound) : Type 0 where
+  pub head : All (λ (head : Stretch). smallestHead (instrumentView i .samples .0) ≤ head .size) (i .samples .0)
+  pub size : leastStripped + length (writeFields (instrumentView i)) ≤ i .size
+
+abbrev pub SmallestSizes : Type 0
+SmallestSizes = (place : ℕ) (s : List ℕ) (i : InstrumentFound) (used : ℕ) → Bytes s → readInstrument stripped place s ≡ got i used → SmallestIn i
+
+-- "3 now means neither pair of mark and version fits; 4 takes the stripped limit, 11 never occurs for stripped files": of a file within
+-- the limit that has its first 80 bytes.
+pub record KindsRefused (file : List ℕ) : Type 0 where
+  pub three-exactly : length file ≤ fileMost → ordersFrom ≤ length file → (checking file ≡ refuses (3 at 0)) ↔ ((kind : ModuleKind) → Fits kind file → ⊥)
+  pub four-exactly : length file ≤ fileMost → ordersFrom ≤ length file → Fits normal file → (checking file ≡ refuses (4 at 0)) ↔ (sizeAt file < 276)
+  pub four-stripped : length file ≤ fileMost → ordersFrom ≤ length file → Fits stripped file → (checking file ≡ refuses (4 at 0)) ↔ (sizeAt file < 20 + songLengthAt file)
+  pub eleven-never : Fits stripped file → (place : ℕ) → checking file ≡ refuses (11 at place) → ⊥
+
+-- A conversion gives the file's own refusal first.
+abbrev pub OwnRefusalFirst : Type 0
+OwnRefusalFirst = (to : ModuleKind) (file : List ℕ) (room : ℕ) (r : Refusal) → readFile file ≡ refused r → converting to file room ≡ refuses r
+
+-- "a conversion keeps everything else in the content": all but the tracker name, which is 20 nulls.
+pub record KeptElse (x y : Content) : Type 0 where
+  pub module-name : y .0 .moduleName ≡ x .0 .moduleName
+  pub tracker-null : y .0 .trackerName ≡ noTracker
+  pub song-length : y .0 .songLength ≡ x .0 .songLength
+  pub restart : y .0 .restart ≡ x .0 .restart
+  pub channels : y .0 .channels ≡ x .0 .channels
+  pub patterns : y .0 .patterns ≡ x .0 .patterns
+  pub instruments : y .0 .instruments ≡ x .0 .instruments
+  pub flags : y .0 .flags ≡ x .0 .flags
+  pub tempo : y .0 .tempo ≡ x .0 .tempo
+  pub bpm : y .0 .bpm ≡ x .0 .bpm
+  pub orders : y .0 .orders ≡ x .0 .orders
+  pub body : y .1 ≡ x .1
+
+-- "convert both ways": a stripped file that is converted to a normal one, and that back, is the stripped file pressed.
+abbrev pub ConvertsBack : Type 0
+ConvertsBack = (content : Content) (file : List ℕ) → FileOf (moduleFormat stripped) content file → (room room′ : ℕ) (bytes : List ℕ) → converting normal file room ≡ gives bytes
+    → length (pressed stripped content) ≤ room′ → converting stripped bytes room′ ≡ gives (pressed stripped content)
 
 -- The check that fills tables: the file's own refusal first, then 14 exactly when a count is above the rows lent.
 abbrev pub RoomFor : Room → Found → Type 0
@@ -238,10 +319,10 @@ pub record RegionsApart (file : List ℕ) (rs : List Region) (end : ℕ) : Type 
 
 -- Every place in a table is the start of its region, and every size the size: the regions of a kind, in file order, are the rows'.
 pub record TablesStand (found : Found) : Type 0 where
-  pub patterns : ofKind patternData (moduleFormat .regions found) ≡ map (λ (row : PatternRow). record { place = row .dataPlace; size = row .size }) (patternRows found)
-  pub instruments : map Lies.place (ofKind instrument (moduleFormat .regions found)) ≡ map InstrumentRow.place (instrumentRows found)
-  pub heads : map Lies.place (ofKind sampleHeader (moduleFormat .regions found)) ≡ map SampleRow.headerPlace (sampleRows found)
-  pub bytes : ofKind sampleData (moduleFormat .regions found) ≡ map liesOf (sampleRows found)
+  pub patterns : ofKind patternData (regionsOf found) ≡ map (λ (row : PatternRow). record { place = row .dataPlace; size = row .size }) (patternRows found)
+  pub instruments : map Lies.place (ofKind instrument (regionsOf found)) ≡ map InstrumentRow.place (instrumentRows found)
+  pub heads : map Lies.place (ofKind sampleHeader (regionsOf found)) ≡ map SampleRow.headerPlace (sampleRows found)
+  pub bytes : ofKind sampleData (regionsOf found) ≡ map liesOf (sampleRows found)
 
 -- A pattern row and its data unpack to the content's rows and cells.
 abbrev pub RowUnpacks : (file : List ℕ) (channels : ℕ) → PatternRow → Pattern → Type 0
@@ -261,9 +342,10 @@ FindsRows all [] (i ∷ is) = ⊥
 FindsRows all (row ∷ rows) [] = ⊥
 FindsRows all (row ∷ rows) (i ∷ is) = (take (row .samples) (drop (row .first) all) ≡ sampleRowsIn i) × FindsRows all rows is
 
--- A sample header in the content is what stands in its region of the file.
+-- A sample header in the content is what stands in its region of the file; of a stripped one, whose region may be shorter, what is beyond
+-- reads as 0.
 abbrev pub HeadStands : (file : List ℕ) → Lies → (head : List ℕ) → Type 0
-HeadStands file lies head = (k : ℕ) → k < leastHead → byteAt k head ≡ byteAt (lies .place + k) file
+HeadStands file lies head = (k : ℕ) → k < leastHead → byteAt k head ≡ cond (ltb k (lies .size)) (byteAt (lies .place + k) file) 0
 
 abbrev pub HeadsStand : (file : List ℕ) → List Lies → (heads : List (List ℕ)) → Type 0
 HeadsStand file [] [] = Unit {0}
@@ -352,11 +434,12 @@ LoopInside head = loops head ≡ true → loopStart head + loopLength head ≤ l
 
 pub record AcceptedFile (file : List ℕ) (found : Found) (end : ℕ) : Type 0 where
   pub ends-inside : end ≤ length file
-  pub regions : RegionsApart file (moduleFormat .regions found) end
+  pub regions : RegionsApart file (regionsOf found) end
   pub tables : TablesStand found
   pub rows-unpack : RowsUnpack file (found .0 .content .channels) (patternRows found) (contentOf found .1 .0)
   pub rows-found : FindsRows (sampleRows found) (instrumentRows found) (found .1 .1)
-  pub heads-stand : HeadsStand file (ofKind sampleHeader (moduleFormat .regions found)) (headsIn (contentOf found))
+  pub heads-stand : HeadsStand file (ofKind sampleHeader (regionsOf found)) (headsIn (contentOf found))
+  pub heads-whole : found .0 .kind ≡ normal → All (λ (l : Lies). leastHead ≤ l .size) (ofKind sampleHeader (regionsOf found))
   pub rows-read : EachSample RowReads (sampleRows found) (headsIn (contentOf found)) (bytesIn (contentOf found))
   pub rows-loop : EachSample RowLoops (sampleRows found) (headsIn (contentOf found)) (bytesIn (contentOf found))
   pub rows-decode : EachSample (RowDecodes file) (sampleRows found) (headsIn (contentOf found)) (bytesIn (contentOf found))
@@ -389,7 +472,7 @@ pub record PlaysOrders (content : Content) : Type 0 where
 -- The small reader: a call after n others gives what `reading` says of n, which is the structure of that number, in file order; behind the
 -- last one it says that the end is reached, and the reader stays as it is.
 pub record ReaderHandsOver (file : List ℕ) (found : Found) : Type 0 where
-  pub every-kind : (kind : Kind) → isStructure kind ≡ true → ofKind kind (structures found) ≡ ofKind kind (moduleFormat .regions found)
+  pub every-kind : (kind : Kind) → isStructure kind ≡ true → ofKind kind (structures found) ≡ ofKind kind (regionsOf found)
   pub three-kinds : (isStructure patternHeader ≡ true) × (isStructure instrument ≡ true) × (isStructure sampleHeader ≡ true)
   pub each-one : (n : ℕ) → n < length (structures found) → called file (readFor file n) ≡ gives (handed (regionAt (structures found) n))
   pub end-then : (n : ℕ) → length (structures found) ≤ n → called file (readFor file n) ≡ gives ended
@@ -419,6 +502,7 @@ pub record LoadersTell : Type 0 where
   pub pack-apart : (rows channels : ℕ) (cells : List ℕ) (room : ℕ) (p : Pattern) → packing rows channels cells room ≡ gives p
       → (packLoader rows channels cells room % 65536 ≡ length (writeStored p)) × (packLoader rows channels cells room / 65536 ≡ p .rows)
   pub press : (file : List ℕ) (room : ℕ) → Bytes file → LoaderTells length (pressing file room) (pressLoader file room)
+  pub convert : (to : ModuleKind) (file : List ℕ) (room : ℕ) → Bytes file → LoaderTells length (converting to file room) (convertLoader to file room)
   pub tables : (room : Room) (file : List ℕ) → Bytes file → LoaderTells Checked.end (checkingInto room file) (checkIntoLoader room file)
   pub decode : (width : ℕ) (bytes : List ℕ) (room : ℕ) → LoaderTells length (decodingLimited width bytes room) (decodeLoader width bytes room)
   pub decode-limited : (width : ℕ) (bytes : List ℕ) (room : ℕ) → Limited 16777216 (length bytes) (decoding width bytes room) (decodingLimited width bytes room)

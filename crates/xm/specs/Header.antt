@@ -1,21 +1,24 @@
 -- The header of a module: where its fields stand, its refusals in order, and how it is written.
 use Prim.Native.Nat.{ℕ, _+_, _-_, _<_}
-use mathlib.Core.Bool.{Bool, cond}
+use mathlib.Core.Bool.{Bool, cond, _&&_}
 use mathlib.Core.List.{List, [], _∷_, _++_}
 use mathlib.Core.Path.{_≡_}
-use lib.Dec.{ltb}
+use lib.Dec.{ltb, eqb}
 use lib.ListN.{length, replicate}
 use Rattle.xm.specs.Number.{Bytes, byteAt, wordAt, longAt, part, byte, word, long}
+use Rattle.xm.specs.ModuleKind.{ModuleKind, normal, stripped, kindBy}
 use Rattle.xm.specs.Got.{got, Reader, _>>_, Test, checked, present, atLeast, atMost, within, exactly, _at_, AllHold}
 use Rattle.xm.specs.Format.{Format, header, flat}
 use Rattle.xm.specs.Stored.{channelsMost}
 
--- "byte 37 not 1A hex, or version not 0x0104"
-abbrev pub mark : ℕ
-mark = 0x1A
+-- "byte 37 not 1A hex, or version not 0x0104"; of a stripped module "mark and version are 0"
+abbrev pub mark : ModuleKind → ℕ
+mark normal = 0x1A
+mark stripped = 0
 
-abbrev pub version : ℕ
-version = 0x0104
+abbrev pub version : ModuleKind → ℕ
+version normal = 0x0104
+version stripped = 0
 
 -- "header size 60 (4)": "The first pattern header is at header size + 60."
 abbrev pub sizeFrom : ℕ
@@ -28,9 +31,15 @@ ordersFrom = 80
 abbrev pub ordersMost : ℕ
 ordersMost = 256
 
--- "4 | header size below 276", which the press writes
-abbrev pub leastHeader : (songLength : ℕ) → ℕ
-leastHeader songLength = 276
+-- "4 | header size below 276"; stripped, "header size is at least 20 + song length". The press writes it.
+abbrev pub leastHeader : ModuleKind → (songLength : ℕ) → ℕ
+leastHeader normal songLength = 276
+leastHeader stripped songLength = 20 + songLength
+
+-- The zeros after the orders: "zero-filled to 256"; stripped, "the order table has no padding".
+abbrev pub padding : ModuleKind → (songLength : ℕ) → ℕ
+padding normal songLength = ordersMost - songLength
+padding stripped songLength = 0
 
 -- The numbers, at their offsets.
 abbrev pub markAt : List ℕ → ℕ
@@ -60,6 +69,13 @@ instrumentsAt s = wordAt 72 s
 abbrev pub headerEnd : List ℕ → ℕ
 headerEnd s = sizeAt s + sizeFrom
 
+-- "3 now means neither pair of mark and version fits": what does not have the stripped pair is read as a normal module.
+abbrev pub isStripped : List ℕ → Bool
+isStripped s = eqb (markAt s) (mark stripped) && eqb (versionAt s) (version stripped)
+
+unfoldable pub kindAt : List ℕ → ModuleKind
+kindAt s = kindBy (isStripped s)
+
 -- "5 | song length or patterns not 1..256, channels not 1..64, instruments above 128"
 abbrev pub countTests : (songLength patterns channels instruments place : ℕ) → List Test
 countTests songLength patterns channels instruments place =
@@ -70,12 +86,12 @@ countTests songLength patterns channels instruments place =
     ∷ []
 
 -- "the first 80 bytes present (1); 3; 4; 5; header size + 60 within the file (1)"
-abbrev pub headerTests : (place : ℕ) → List ℕ → List Test
-headerTests place s =
+abbrev pub headerTests : ModuleKind → (place : ℕ) → List ℕ → List Test
+headerTests kind place s =
     present ordersFrom (length s) (1 at place)
-    ∷ exactly mark (markAt s) (3 at place)
-    ∷ exactly version (versionAt s) (3 at place)
-    ∷ atLeast (leastHeader (songLengthAt s)) (sizeAt s) (4 at place)
+    ∷ exactly (mark kind) (markAt s) (3 at place)
+    ∷ exactly (version kind) (versionAt s) (3 at place)
+    ∷ atLeast (leastHeader kind (songLengthAt s)) (sizeAt s) (4 at place)
     ∷ countTests (songLengthAt s) (patternsAt s) (channelsAt s) (instrumentsAt s) place
     ++ (present (headerEnd s) (length s) (1 at place) ∷ [])
 
@@ -100,10 +116,18 @@ restartInside songLength restart = ltb restart songLength
 unfoldable pub restartOf : (songLength restart : ℕ) → ℕ
 restartOf songLength restart = cond (restartInside songLength restart) restart 0
 
-abbrev pub headerOf : List ℕ → Header
-headerOf s = record {
+-- "ID text and tracker name are written as nulls and aren't content here"
+abbrev pub noTracker : List ℕ
+noTracker = replicate 20 0
+
+abbrev pub trackerAt : ModuleKind → List ℕ → List ℕ
+trackerAt normal s = part 38 20 s
+trackerAt stripped s = noTracker
+
+abbrev pub headerOf : ModuleKind → List ℕ → Header
+headerOf kind s = record {
   moduleName = part 17 20 s;
-  trackerName = part 38 20 s;
+  trackerName = trackerAt kind s;
   songLength = songLengthAt s;
   restart = restartOf (songLengthAt s) (restartAt s);
   channels = channelsAt s;
@@ -116,28 +140,30 @@ headerOf s = record {
 }
 
 pub record HeaderFound : Type 0 where
+  pub kind : ModuleKind
   pub place : ℕ
   pub size : ℕ
   pub content : Header
 
-unfoldable pub readHeader : Reader HeaderFound
-readHeader place s = do
-  checked (headerTests place s)
-  got (record { place = place; size = headerEnd s; content = headerOf s }) (headerEnd s)
+unfoldable pub readHeader : ModuleKind → Reader HeaderFound
+readHeader kind place s = do
+  checked (headerTests kind place s)
+  got (record { kind = kind; place = place; size = headerEnd s; content = headerOf kind s }) (headerEnd s)
 
 -- "Extended module: " (17 bytes)
-abbrev pub idText : List ℕ
-idText = 0x45 ∷ 0x78 ∷ 0x74 ∷ 0x65 ∷ 0x6E ∷ 0x64 ∷ 0x65 ∷ 0x64 ∷ 0x20 ∷ 0x6D ∷ 0x6F ∷ 0x64 ∷ 0x75 ∷ 0x6C ∷ 0x65 ∷ 0x3A ∷ 0x20 ∷ []
+abbrev pub idText : ModuleKind → List ℕ
+idText normal = 0x45 ∷ 0x78 ∷ 0x74 ∷ 0x65 ∷ 0x6E ∷ 0x64 ∷ 0x65 ∷ 0x64 ∷ 0x20 ∷ 0x6D ∷ 0x6F ∷ 0x64 ∷ 0x75 ∷ 0x6C ∷ 0x65 ∷ 0x3A ∷ 0x20 ∷ []
+idText stripped = replicate 17 0
 
--- "mark 1A, version 0x0104, header size 276, order table zero-filled to 256"
-unfoldable pub writeHeader : Header → List ℕ
-writeHeader x = flat (
-    idText
+-- "mark 1A, version 0x0104, header size 276, order table zero-filled to 256"; and the stripped press's own
+unfoldable pub writeHeader : ModuleKind → Header → List ℕ
+writeHeader kind x = flat (
+    idText kind
     ∷ x .moduleName
-    ∷ byte mark
+    ∷ byte (mark kind)
     ∷ x .trackerName
-    ∷ word version
-    ∷ long (leastHeader (x .songLength))
+    ∷ word (version kind)
+    ∷ long (leastHeader kind (x .songLength))
     ∷ word (x .songLength)
     ∷ word (x .restart)
     ∷ word (x .channels)
@@ -147,14 +173,18 @@ writeHeader x = flat (
     ∷ word (x .tempo)
     ∷ word (x .bpm)
     ∷ x .orders
-    ∷ replicate (ordersMost - x .songLength) 0
+    ∷ replicate (padding kind (x .songLength)) 0
     ∷ [])
 
-pub record GoodHeader (x : Header) : Type 0 where
+-- What is not content is null.
+abbrev pub GoodTracker : ModuleKind → (name : List ℕ) → Type 0
+GoodTracker normal name = (length name ≡ 20) × Bytes name
+GoodTracker stripped name = name ≡ noTracker
+
+pub record GoodHeader (kind : ModuleKind) (x : Header) : Type 0 where
   pub name-size : length (x .moduleName) ≡ 20
   pub name-plain : Bytes (x .moduleName)
-  pub tracker-size : length (x .trackerName) ≡ 20
-  pub tracker-plain : Bytes (x .trackerName)
+  pub tracker-good : GoodTracker kind (x .trackerName)
   pub counts : AllHold (countTests (x .songLength) (x .patterns) (x .channels) (x .instruments) 0)
   pub restart-low : x .restart < x .songLength
   pub flags-high : x .flags < 65536
@@ -163,11 +193,11 @@ pub record GoodHeader (x : Header) : Type 0 where
   pub orders-size : length (x .orders) ≡ x .songLength
   pub orders-plain : Bytes (x .orders)
 
-abbrev pub headerFormat : Format (Unit {0}) HeaderFound Header
-headerFormat = record {
-  read = λ u. readHeader;
+abbrev pub headerFormat : ModuleKind → Format (Unit {0}) HeaderFound Header
+headerFormat kind = record {
+  read = λ u. readHeader kind;
   view = λ i. i .content;
   regions = λ i. record { kind = header; place = i .place; size = i .size } ∷ [];
-  Good = λ u. GoodHeader;
-  write = writeHeader;
+  Good = λ u. GoodHeader kind;
+  write = writeHeader kind;
 }

@@ -20,7 +20,9 @@ pub mod Asking
 pub mod Structure
 pub mod Region
 pub mod Press
+pub mod Convert
 pub mod Demands
 pub mod Lay
 pub mod Bench
 pub mod Wrong
+pub mod Worked

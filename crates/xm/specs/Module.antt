@@ -2,10 +2,11 @@
 use Prim.Native.Nat.{ℕ}
 use mathlib.Core.List.{List, [], _∷_}
 use lib.ListN.{length, getD, replicate}
+use Rattle.xm.specs.ModuleKind.{ModuleKind}
 use Rattle.xm.specs.Got.{Got, _>>_, checked, atMost, _at_}
-use Rattle.xm.specs.Format.{Format, over, then, each}
+use Rattle.xm.specs.Format.{Format, Region, over, then, each}
 use Rattle.xm.specs.Stored.{Pattern, emptyRows}
-use Rattle.xm.specs.Header.{Header, HeaderFound, headerFormat}
+use Rattle.xm.specs.Header.{Header, HeaderFound, kindAt, headerFormat}
 use Rattle.xm.specs.PatternInFile.{PatternFound, patternFormat}
 use Rattle.xm.specs.Instrument.{Instrument, InstrumentFound, instrumentFormat}
 
@@ -16,8 +17,8 @@ patternsFor x = replicate (x .patterns) (x .channels)
 abbrev pub instrumentsFor : Header → List Pattern → List (Unit {0})
 instrumentsFor x patterns = replicate (x .instruments) tt
 
-abbrev pub bodyFormat : Format Header (List PatternFound × List InstrumentFound) (List Pattern × List Instrument)
-bodyFormat = then (over patternsFor (each patternFormat)) instrumentsFor (each instrumentFormat)
+abbrev pub bodyFormat : ModuleKind → Format Header (List PatternFound × List InstrumentFound) (List Pattern × List Instrument)
+bodyFormat kind = then (over patternsFor (each patternFormat)) instrumentsFor (each (instrumentFormat kind))
 
 -- What is found in a file, and its content: header, patterns, instruments.
 abbrev pub Found : Type 0
@@ -26,8 +27,12 @@ Found = HeaderFound × (List PatternFound × List InstrumentFound)
 abbrev pub Content : Type 0
 Content = Header × (List Pattern × List Instrument)
 
-abbrev pub moduleFormat : Format (Unit {0}) Found Content
-moduleFormat = then headerFormat (λ u x. x) bodyFormat
+abbrev pub moduleFormat : ModuleKind → Format (Unit {0}) Found Content
+moduleFormat kind = then (headerFormat kind) (λ u x. x) (bodyFormat kind)
+
+-- The regions of what is found.
+abbrev pub regionsOf : Found → List Region
+regionsOf found = moduleFormat (found .0 .kind) .regions found
 
 -- "2 | file over 16,777,216 bytes"
 abbrev pub fileMost : ℕ
@@ -39,8 +44,9 @@ readWhole F file = do
   checked (atMost fileMost (length file) (2 at 0) ∷ [])
   F .read tt 0 file
 
+-- Of either kind, by its mark and version.
 abbrev pub readFile : (file : List ℕ) → Got Found
-readFile file = readWhole moduleFormat file
+readFile file = readWhole (moduleFormat (kindAt file)) file
 
 -- "the standard empty one: 64 rows of empty cells"
 abbrev pub standard : (channels : ℕ) → Pattern

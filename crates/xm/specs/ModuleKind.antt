@@ -1,9 +1,15 @@
--- The two kinds of module, normal and stripped (A1); and bytes that a stripped one cuts off, which "read as 0".
+-- The two kinds of module, normal and stripped; and bytes that a stripped one cuts off, which "read as 0".
 use Prim.Native.Nat.{ℕ, zero, suc}
+use mathlib.Core.Bool.{Bool, true, false}
 use mathlib.Core.List.{List, [], _∷_}
 
 pub data ModuleKind : Type 0 where
   normal stripped : ModuleKind
+
+-- by whether it is stripped
+abbrev pub kindBy : (isStripped : Bool) → ModuleKind
+kindBy true = stripped
+kindBy false = normal
 
 -- So many bytes, of which those that are not there are 0.
 unfoldable pub padded : (width : ℕ) → List ℕ → List ℕ

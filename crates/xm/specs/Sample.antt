@@ -1,6 +1,6 @@
 -- A sample header, the sample data, and all of an instrument's: "k sample headers of H bytes each, then the k samples' data, back to
 -- back in order".
-use Prim.Native.Nat.{ℕ, zero, suc, _+_, _/_, _%_}
+use Prim.Native.Nat.{ℕ, zero, suc, _+_, _/_, _%_, _≤_, max}
 use mathlib.Core.Bool.{Bool, cond, _&&_, not}
 use mathlib.Core.List.{List, [], _∷_}
 use mathlib.Core.Path.{_≡_}
@@ -8,6 +8,7 @@ use lib.Dec.{ltb, eqb}
 use lib.IntN.{ℤ}
 use lib.ListN.{length, take}
 use Rattle.xm.specs.Number.{Bytes, byteAt, longAt, signed}
+use Rattle.xm.specs.ModuleKind.{padded, trimmed}
 use Rattle.xm.specs.Got.{got, Reader, _>>_, Test, checked, present, atMost, unlike, even, when, _at_, AllHold}
 use Rattle.xm.specs.Format.{Format, Kind, Region, sampleHeader, sampleData, then, each}
 
@@ -15,8 +16,9 @@ use Rattle.xm.specs.Format.{Format, Kind, Region, sampleHeader, sampleDa
 abbrev pub leastHead : ℕ
 leastHead = 40
 
+-- A header of any H: "Instrument bytes at offset I and beyond read as 0, and we treat sample headers the same for any H".
 abbrev pub headBytes : (size : ℕ) → List ℕ → List ℕ
-headBytes size s = take leastHead s
+headBytes size s = padded leastHead (take size s)
 
 -- The fields in these bytes.
 abbrev pub lengthOf : List ℕ → ℕ
@@ -159,3 +161,18 @@ Samples = List (List ℕ) × List (List ℕ)
 
 abbrev pub samplesFormat : Format (List ℕ) SamplesFound Samples
 samplesFormat = then (each headFormat) (λ sizes heads. heads) (each dataFormat)
+
+-- In a stripped file no more of each header is written than `kept` bytes: "the smallest H" that cuts off nothing but zeros.
+pub record GoodCut (kept : ℕ) (head : List ℕ) : Type 0 where
+  pub good : GoodHead head
+  pub cut : length (trimmed head) ≤ kept
+
+abbrev pub cutHeadFormat : (kept : ℕ) → Format ℕ Stretch (List ℕ)
+cutHeadFormat kept = record { read = readHead; view = λ i. i .bytes; regions = stretchRegion sampleHeader; Good = λ size. GoodCut kept; write = take kept }
+
+abbrev pub cutSamplesFormat : (kept : ℕ) → Format (List ℕ) SamplesFound Samples
+cutSamplesFormat kept = then (each (cutHeadFormat kept)) (λ sizes heads. heads) (each dataFormat)
+
+unfoldable pub smallestHead : (heads : List (List ℕ)) → ℕ
+smallestHead [] = 0
+smallestHead (head ∷ heads) = max (length (trimmed head)) (smallestHead heads)

@@ -8,11 +8,11 @@ use lib.ListN.{length, drop, getD}
 use Rattle.xm.specs.Got.{Got, got, refused}
 use Rattle.xm.specs.Format.{Kind, Region, header, patternHeader, patternData, instrument, sampleHeader, sampleData}
 use Rattle.xm.specs.Answer.{Answer, gives, refuses, answered}
-use Rattle.xm.specs.Header.{patternsAt, instrumentsAt, headerEnd}
+use Rattle.xm.specs.Header.{patternsAt, instrumentsAt, headerEnd, kindAt}
 use Rattle.xm.specs.PatternInFile.{leastPattern, headSizeAt, dataSizeAt}
 use Rattle.xm.specs.Sample.{sizeOfFirst}
 use Rattle.xm.specs.Instrument.{InstrumentFound, readInstrument}
-use Rattle.xm.specs.Module.{Found, moduleFormat, fileMost, readFile}
+use Rattle.xm.specs.Module.{Found, regionsOf, fileMost, readFile}
 
 abbrev pub isStructure : Kind → Bool
 isStructure header = false
@@ -36,7 +36,7 @@ structuresOf [] = []
 structuresOf (r ∷ rs) = cond (isStructure (r .kind)) (r ∷ structuresOf rs) (structuresOf rs)
 
 abbrev pub structures : Found → List Region
-structures found = structuresOf (moduleFormat .regions found)
+structures found = structuresOf (regionsOf found)
 
 -- What a call hands over: a structure's kind and place, or that the end is reached.
 pub data Standing : Type 0 where
@@ -94,13 +94,14 @@ handInstrument (got i used) a = record {
 }
 handInstrument (refused r) a = endsAt a
 
--- One call, of any such numbers: where they are of no accepted file, what is not there is the end.
+-- One call, of any such numbers: where they are of no accepted file, what is not there is the end. Which kind of module it is, normal or
+-- stripped, the file says itself. With H = 0 several sample headers stand at one place: they are counted.
 unfoldable pub handOver : (file : List ℕ) → Ahead → Handed
 handOver file a =
     cond (leb (length file) fileMost)
     (cond (ltb 0 (a .heads)) (cond (leb (a .head + a .headSize) (length file)) (handHead a) (endsAt a))
     (cond (ltb 0 (a .patterns)) (cond (leb (a .place + leastPattern) (length file)) (handPattern (drop (a .place) file) a) (endsAt a))
-    (cond (ltb 0 (a .instruments)) (cond (leb (a .place) (length file)) (handInstrument (readInstrument (a .place) (drop (a .place) file)) a) (endsAt a))
+    (cond (ltb 0 (a .instruments)) (cond (leb (a .place) (length file)) (handInstrument (readInstrument (kindAt file) (a .place) (drop (a .place) file)) a) (endsAt a))
     (endsAt a))))
     (endsAt a)
 

@@ -4,6 +4,7 @@ use Prim.Native.Nat.{ℕ, _+_}
 use mathlib.Core.List.{List, [], _∷_}
 use lib.ListN.{length, take, drop, replicate}
 use Rattle.xm.specs.Number.{part, byte, word, long}
+use Rattle.xm.specs.ModuleKind.{normal}
 use Rattle.xm.specs.Got.{Got, got, refused}
 use Rattle.xm.specs.Format.{joined, flat}
 use Rattle.xm.specs.Cell.{writeCell}
@@ -39,14 +40,14 @@ song = (
 
 -- A file by its parts.
 abbrev pub fileBy : (Pattern → List ℕ) → (Instrument → List ℕ) → Content → List ℕ
-fileBy pattern instrument content = flat (writeHeader (content .0) ∷ joined pattern (content .1 .0) ∷ joined instrument (content .1 .1) ∷ [])
+fileBy pattern instrument content = flat (writeHeader normal (content .0) ∷ joined pattern (content .1 .0) ∷ joined instrument (content .1 .1) ∷ [])
 
 -- As a tracker may have saved it: every cell plain.
 abbrev pub plainPattern : Pattern → List ℕ
 plainPattern p = flat (long leastPattern ∷ byte 0 ∷ word (p .rows) ∷ word (length (flat (p .cells))) ∷ flat (p .cells) ∷ [])
 
 abbrev pub saved : List ℕ
-saved = fileBy plainPattern writeInstrument song
+saved = fileBy plainPattern (writeInstrument normal) song
 
 -- "a press that packs pattern 0 and copies the rest as found"
 abbrev pub asFound : (file : List ℕ) → PatternFound → List ℕ
@@ -54,10 +55,10 @@ asFound file i = part (i .place) (i .headSize + i .dataSize) file
 
 abbrev pub firstPacked : (file : List ℕ) → Got Found → List ℕ
 firstPacked file (got found end) = flat (
-    writeHeader (found .0 .content)
+    writeHeader normal (found .0 .content)
     ∷ joined writePattern (take 1 (contentOf found .1 .0))
     ∷ joined (asFound file) (drop 1 (found .1 .0))
-    ∷ joined writeInstrument (contentOf found .1 .1)
+    ∷ joined (writeInstrument normal) (contentOf found .1 .1)
     ∷ [])
 firstPacked file (refused r) = []
 
@@ -79,7 +80,7 @@ longInstrument x = flat (
     ∷ [])
 
 abbrev pub wrongFiles : List (List ℕ)
-wrongFiles = firstPacked saved (readFile saved) ∷ fileBy longPattern writeInstrument song ∷ fileBy writePattern longInstrument song ∷ []
+wrongFiles = firstPacked saved (readFile saved) ∷ fileBy longPattern (writeInstrument normal) song ∷ fileBy writePattern longInstrument song ∷ []
 
 -- 32 silent rows, twice, and a press that writes S = 0 of 64 empty rows only.
 abbrev pub silence : Content
@@ -89,7 +90,7 @@ abbrev pub cellsPattern : Pattern → List ℕ
 cellsPattern p = let cells = joined writeCell (p .cells) in flat (long leastPattern ∷ byte 0 ∷ word (p .rows) ∷ word (length cells) ∷ cells ∷ [])
 
 abbrev pub inCells : List ℕ
-inCells = fileBy cellsPattern writeInstrument silence
+inCells = fileBy cellsPattern (writeInstrument normal) silence
 
 -- A14: a press that forgets a field gives one file for two songs; one that keeps what is no content gives two files for one.
 abbrev pub withTempo : ℕ → Content → Content
@@ -111,14 +112,14 @@ withTempo tempo content = (
 )
 
 abbrev pub forgetful : Content → List ℕ
-forgetful content = pressed (withTempo 0 content)
+forgetful content = pressed normal (withTempo 0 content)
 
 -- The packing type, which is ignored, as found.
 abbrev pub typedPattern : (type : ℕ) → Pattern → List ℕ
 typedPattern type p = flat (long leastPattern ∷ byte type ∷ word (p .rows) ∷ word (length (writeStored p)) ∷ writeStored p ∷ [])
 
 abbrev pub typed : (type : ℕ) → List ℕ
-typed type = fileBy (typedPattern type) writeInstrument song
+typed type = fileBy (typedPattern type) (writeInstrument normal) song
 
 -- What a file reads as, and how many bytes it takes.
 abbrev pub contentsIn : Got Found → List Content

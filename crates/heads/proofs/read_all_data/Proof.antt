@@ -17,7 +17,7 @@ abbrev μ-loop : tie.MeasureT-loop
 read-data-requires : tie.Need-read-data-requires Inv-loop μ-loop
 read-data-requires c κs =
     let p = c .before .before .before .pre in
-    (omega (arith, p .1 .0 (omega arith), data-room _ _ _ _ _ (c .before .loop .inv) (c .loop-test .taken) (p .0)), c .before .loop .inv .inside)
+    (data-room _ _ _ _ _ (c .before .loop .inv) (c .loop-test .taken) (p .0), c .before .loop .inv .inside)
 
 returns : tie.Need-returns Inv-loop μ-loop
 returns c = data-out _ _ _ _ _ (c .before .before .before .before .loop .inv) (c .before .before .before .loop-test .taken) (c .before .before .read-data .ensures) (c .enum-told .given .1)
@@ -34,7 +34,7 @@ read-all-data-spec =
     (tie.spec
     Inv-loop
     μ-loop
-    (λ c. data-start _ _ _ _ _ (c .before .pre .1 .1))
+    (λ c. data-start _ _ _ _ _ (c .before .pre .1))
     read-data-requires
     (search needs)
     (search needs)

@@ -16,7 +16,7 @@ abbrev μ-loop : tie.MeasureT-loop
 read-head-requires : tie.Need-read-head-requires Inv-loop μ-loop
 read-head-requires c κs =
     let s = c .before .before .before in
-    (heads-room (s .args .file .now) (s .args .at) (s .args .size) (s .args .count) (c .before .loop .inv) (omega arith) (s .pre .0), s .pre .1 (omega arith))
+    heads-room (s .args .file .now) (s .args .at) (s .args .size) (s .args .count) (c .before .loop .inv) (omega arith) (s .pre)
 
 returns : tie.Need-returns Inv-loop μ-loop
 returns c =

@@ -15,7 +15,7 @@ read-all-data-requires : tie.Need-read-all-data-requires
 read-all-data-requires c κs =
     let s = c .before .before .before .before .before in
     let behind = heads-behind (s .args .file .now) (s .args .at) (s .args .size) (s .args .count) (sym (c .before .step .given .1) ∙ c .before .before .before .read-heads .ensures) in
-    (s .pre .0, (s .pre .1, omega arith))
+    (s .pre, omega arith)
 
 returns-2 : tie.Need-returns-2
 returns-2 c =

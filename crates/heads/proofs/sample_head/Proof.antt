@@ -1,31 +1,8 @@
--- `heads::sample_head` meets its contract: each field is the number at its offset. Assumes nothing.
-use mathlib.Core.Path.{_∙_}
-use mir.Syntax.{w8}
-use mir.Facts.{toZ-ofZ}
+-- `heads::sample_head` meets its contract. Assumes nothing.
 use native.Mathlib.Omega.{arith}
-use Rattle.heads.proofs.SampleLaws.{head-made}
 use borrow.Author.Needs.{needs}
 use Rattle.heads.proofs.sample_head.Statement.{statement}
 use Rattle.heads.proofs.sample_head.Tie as tie
 
-returns : tie.Need-returns
-returns c =
-    let a = c .before .before .before .before .before .before .before .before .before .before .args in
-    head-made (a .file .now) (a .at) (a .size) (omega arith) (c .before .before .before .before .before .before .long .ensures) (c .before .before .before .before .before .long2 .ensures) (c .before .before .before .before .long3 .ensures) (toZ-ofZ {w = w8} (record { sfits = c .before .before .before .signed-byte .ok }) ∙ c .before .before .before .signed-byte .ensures) (c .before .before .byte .ensures) (toZ-ofZ {w = w8} (record { sfits = c .before .signed-byte2 .ok }) ∙ c .before .signed-byte2 .ensures) (c .byte2 .ensures)
-
 pub sample-head-spec : {M : Type 1} → statement M
-sample-head-spec =
-    tie.close
-    (tie.spec
-    (search needs)
-    (search needs)
-    (search needs)
-    (search needs)
-    (search needs)
-    (search needs)
-    (search needs)
-    (search needs)
-    (search needs)
-    (search needs)
-    (search needs)
-    returns)
+sample-head-spec = tie.close (tie.spec (λ c κs. (omega arith, omega arith)) (λ c. c .whole-head .ensures) (search needs) (λ c. c .cut-head .ensures))

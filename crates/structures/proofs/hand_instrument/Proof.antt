@@ -2,6 +2,7 @@
 use mathlib.Core.Path.{sym, _∙_}
 use native.Mathlib.Omega.{arith}
 use lib.ListN.{length, drop}
+use Rattle.xm.specs.Header.{kindAt}
 use Rattle.xm.specs.Instrument.{readInstrument}
 use Rattle.structures.proofs.HandLaws.{not-there, is-there, instrument-handed, instrument-not, part-fits}
 use borrow.Author.Needs.{needs}
@@ -29,20 +30,20 @@ with-ahead-requires-2 c κs = search needs
 
 returns-2 : tie.Need-returns-2
 returns-2 c =
-    let a = c .before .before .before .before .before .before .args in is-there (a .ahead .place) (length (a .file .now)) _ (a .ahead) (omega arith) (c .with-ahead2 .ensures ∙ instrument-not (a .ahead) (readInstrument (a .ahead .place) (drop (a .ahead .place) (a .file .now))) (c .before .before .before .read-instrument .ensures) (c .before .enum-told .given .1))
+    let a = c .before .before .before .before .before .before .args in is-there (a .ahead .place) (length (a .file .now)) _ (a .ahead) (omega arith) (c .with-ahead2 .ensures ∙ instrument-not (a .ahead) (readInstrument (kindAt (a .file .now)) (a .ahead .place) (drop (a .ahead .place) (a .file .now))) (c .before .before .before .read-instrument .ensures) (c .before .enum-told .given .1))
 
 sub-t7 : tie.Need-sub-t7
 sub-t7 c = search needs
 
 add-t11 : tie.Need-add-t11
-add-t11 c = omega (arith, c .before .before .before .before .before .before .before .before .pre .0, part-fits _ _ (record { below = λ i. omega (arith, c .before .before .before .before .before .before .before .shared-slice-known .given i) }) (sym (c .before .before .before .step .given .1) ∙ c .before .before .before .before .before .read-instrument .ensures))
+add-t11 c = omega (arith, c .before .before .before .before .before .before .before .before .pre .0, part-fits _ _ (sym (c .before .before .before .step .given .1) ∙ c .before .before .before .before .before .read-instrument .ensures))
 
 with-ahead-requires-3 : tie.Need-with-ahead-requires-3
 with-ahead-requires-3 c κs = search needs
 
 returns-3 : tie.Need-returns-3
 returns-3 c =
-    let a = c .before .before .before .before .before .before .before .before .before .args in is-there (a .ahead .place) (length (a .file .now)) _ (a .ahead) (omega arith) (instrument-handed (a .ahead) (readInstrument (a .ahead .place) (drop (a .ahead .place) (a .file .now))) (sym (c .before .before .before .before .step .given .1) ∙ c .before .before .before .before .before .before .read-instrument .ensures) (c .with-ahead3 .ensures) (omega arith))
+    let a = c .before .before .before .before .before .before .before .before .before .args in is-there (a .ahead .place) (length (a .file .now)) _ (a .ahead) (omega arith) (instrument-handed (a .ahead) (readInstrument (kindAt (a .file .now)) (a .ahead .place) (drop (a .ahead .place) (a .file .now))) (sym (c .before .before .before .before .step .given .1) ∙ c .before .before .before .before .before .before .read-instrument .ensures) (c .with-ahead3 .ensures) (omega arith))
 
 pub hand-instrument-spec : {M : Type 1} → statement M
 hand-instrument-spec =

@@ -13,7 +13,7 @@ returns : tie.Need-returns
 returns c = c .with-ahead .ensures ∙ over-long _ _ (omega arith)
 
 hand-head-requires : tie.Need-hand-head-requires
-hand-head-requires c κs = search needs
+hand-head-requires c κs = omega arith
 
 returns-2 : tie.Need-returns-2
 returns-2 c = over-head _ _ (omega arith) (omega arith) (c .hand-head .ensures)

@@ -2,24 +2,24 @@
 use mathlib.Core.Path.{sym, _∙_}
 use native.Mathlib.Omega.{arith}
 use lib.ListN.{length-drop}
+use Rattle.xm.specs.ModuleKind.{kindBy}
 use Rattle.xm.proofs.Lay.{part-all}
-use Rattle.writers.proofs.InstrumentLaws.{is-long}
 use Rattle.press.proofs.RowLaws.{InstrumentsLeft, instruments-none, instrument-inside, instrument-room, instrument-never, instruments-more, instruments-done}
 use borrow.Author.Needs.{needs}
 use Rattle.press.proofs.module.write_instruments.Statement.{statement}
 use Rattle.press.proofs.module.write_instruments.Tie as tie
 
 abbrev Inv-loop : tie.InvT-loop
-Inv-loop file at count out₀ place₀ to₀ left₀ out place to left = InstrumentsLeft file out₀ at count left place out to
+Inv-loop file at count to out₀ place₀ written₀ left₀ out place written left = InstrumentsLeft file out₀ (kindBy to) at count left place out written
 
 abbrev μ-loop : tie.MeasureT-loop
-μ-loop file at count out₀ place₀ to₀ left₀ out place to left = left
+μ-loop file at count to out₀ place₀ written₀ left₀ out place written left = left
 
 loop-holds : tie.Need-loop-holds Inv-loop μ-loop
-loop-holds c = instruments-none _ _ _ _ (c .before .before .pre .1 .0) (c .before .before .pre .1 .1)
+loop-holds c = instruments-none _ _ _ _ _ (c .before .before .pre .1 .0) (c .before .before .pre .1 .1)
 
 read-instrument-requires : tie.Need-read-instrument-requires Inv-loop μ-loop
-read-instrument-requires c κs = (instrument-inside _ _ _ _ (c .before .loop .inv) (c .loop-test .taken), c .before .before .before .before .pre .0)
+read-instrument-requires c κs = (instrument-inside _ _ _ _ _ (c .before .loop .inv) (c .loop-test .taken), c .before .before .before .before .pre .0)
 
 enum-known-step : tie.Need-enum-known-step Inv-loop μ-loop
 enum-known-step c = search needs
@@ -31,7 +31,7 @@ same-length : tie.Need-same-length Inv-loop μ-loop
 same-length c = c .before .before .before .before .loop .inv .writes .laid .kept
 
 returns : tie.Need-returns Inv-loop μ-loop
-returns c = instrument-never _ _ _ _ (c .before .before .before .before .loop .inv) (c .before .before .before .loop-test .taken) (c .before .before .read-instrument .ensures) (c .enum-told .given .1)
+returns c = instrument-never _ _ _ _ _ (c .before .before .before .before .loop .inv) (c .before .before .before .loop-test .taken) (c .before .before .read-instrument .ensures) (c .enum-told .given .1)
 
 sub-write-instrument : tie.Need-sub-write-instrument Inv-loop μ-loop
 sub-write-instrument c = omega (arith, c .before .before .before .before .before .loop .inv .writes .laid .room)
@@ -45,11 +45,10 @@ part-write-instrument-end c = omega (arith, c .before .before .before .before .b
 write-instrument-requires : tie.Need-write-instrument-requires Inv-loop μ-loop
 write-instrument-requires c κs =
     let is = sym (c .before .before .step .given .1) ∙ c .before .before .before .before .read-instrument .ensures in
-    let room = instrument-room _ _ _ _ (c .before .before .before .before .before .before .loop .inv) (c .before .before .before .before .before .loop-test .taken) in
-    (is, rw (part-all, length-drop) (omega (arith, is-long _ _ is)))
+    (is, (c .before .before .before .before .before .before .before .before .before .pre .0, rw (part-all, length-drop) (omega (arith, instrument-room _ _ _ _ _ (c .before .before .before .before .before .before .loop .inv) (c .before .before .before .before .before .loop-test .taken)))))
 
-add-to : tie.Need-add-to Inv-loop μ-loop
-add-to c = omega (arith, instrument-room _ _ _ _ (c .before .before .before .before .before .before .before .before .before .before .loop .inv) (c .before .before .before .before .before .before .before .before .before .loop-test .taken), is-long _ _ (sym (c .before .before .before .before .before .before .step .given .1) ∙ c .before .before .before .before .before .before .before .before .read-instrument .ensures), c .before .before .before .before .before .before .before .before .before .before .loop .inv .writes .laid .kept, c .before .before .before .before .before .before .before .before .before .before .before .before .before .good)
+add-written : tie.Need-add-written Inv-loop μ-loop
+add-written c = let inv = c .before .before .before .before .before .before .before .before .before .loop .inv in omega (arith, instrument-room _ _ _ _ _ inv (c .before .before .before .before .before .before .before .before .loop-test .taken), c .before .before .write-instrument .ensures .0, inv .writes .laid .kept, c .before .before .before .before .before .before .before .before .before .before .before .before .good)
 
 sub-left : tie.Need-sub-left Inv-loop μ-loop
 sub-left c = omega arith
@@ -58,13 +57,15 @@ loop-less : tie.Need-loop-less Inv-loop μ-loop
 loop-less c = omega arith
 
 loop-again : tie.Need-loop-again Inv-loop μ-loop
-loop-again c = instruments-more _ _ _ _ (c .before .before .before .before .before .before .before .before .before .before .loop .inv) (c .before .before .before .before .before .before .before .before .before .loop-test .taken) (sym (c .before .before .before .before .before .before .step .given .1) ∙ c .before .before .before .before .before .before .before .before .read-instrument .ensures) (c .before .before .before .write-instrument .ensures)
+loop-again c =
+    let is = sym (c .before .before .before .before .before .step .given .1) ∙ c .before .before .before .before .before .before .before .read-instrument .ensures in
+    instruments-more _ _ _ _ _ (c .before .before .before .before .before .before .before .before .before .loop .inv) (c .before .before .before .before .before .before .before .before .loop-test .taken) is (c .before .before .write-instrument .ensures .0) (c .before .before .write-instrument .ensures .1)
 
 same-length-2 : tie.Need-same-length-2 Inv-loop μ-loop
 same-length-2 c = c .before .loop .inv .writes .laid .kept
 
 returns-2 : tie.Need-returns-2 Inv-loop μ-loop
-returns-2 c = instruments-done _ _ _ _ (c .before .loop .inv) (omega arith)
+returns-2 c = instruments-done _ _ _ _ _ (c .before .loop .inv) (omega arith)
 
 pub write-instruments-spec : {M : Type 1} → statement M
 write-instruments-spec =
@@ -82,7 +83,7 @@ write-instruments-spec =
     part-write-instrument-start
     part-write-instrument-end
     write-instrument-requires
-    add-to
+    add-written
     sub-left
     loop-less
     loop-again

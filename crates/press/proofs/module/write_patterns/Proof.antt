@@ -35,7 +35,7 @@ write-pattern-requires : tie.Need-write-pattern-requires Inv-loop μ-loop
 write-pattern-requires c κs =
     let l = c .before .before .before .loop in
     let room = pattern-room _ _ _ _ _ _ (l .inv) (c .before .before .loop-test .taken) in
-    (c .before .before .before .before .before .before .pre .0, (rw (c .before .mark-at .ensures) (pattern-told _ _ _ _ _ _ (l .inv) (c .before .before .loop-test .taken)), rw (part-all, length-drop) (omega arith)))
+    (c .before .before .before .before .before .before .pre .0, (pattern-told _ _ _ _ _ _ (l .inv) (c .before .before .loop-test .taken) (omega (arith, c .before .mark-at .ensures)), rw (part-all, length-drop) (omega arith)))
 
 add-to : tie.Need-add-to Inv-loop μ-loop
 add-to c = omega (arith, pattern-room _ _ _ _ _ _ (c .before .before .before .before .before .before .loop .inv) (c .before .before .before .before .before .loop-test .taken), c .before .before .write-pattern .ensures .0, c .before .before .before .before .before .before .loop .inv .writes .laid .kept, c .before .before .before .before .before .before .before .before .before .good)
@@ -43,12 +43,12 @@ add-to c = omega (arith, pattern-room _ _ _ _ _ _ (c .before .before .before .be
 long-requires : tie.Need-long-requires Inv-loop μ-loop
 long-requires c κs =
     let a = c .before .before .before .before .before .before .before .before .before .args in
-    omega (arith, head-inside (a .file .now) (c .before .before .before .before .before .before .loop .place) (a .channels) _ refl refl refl (pattern-told _ _ _ _ _ _ (c .before .before .before .before .before .before .loop .inv) (c .before .before .before .before .before .loop-test .taken)))
+    omega (arith, head-inside (a .file .now) (c .before .before .before .before .before .before .loop .place) (a .channels) _ refl refl refl (pattern-told _ _ _ _ _ _ (c .before .before .before .before .before .before .loop .inv) (c .before .before .before .before .before .loop-test .taken) refl))
 
 word-requires : tie.Need-word-requires Inv-loop μ-loop
 word-requires c κs =
     let a = c .before .before .before .before .before .before .before .before .before .before .args in
-    omega (arith, head-inside (a .file .now) (c .before .before .before .before .before .before .before .loop .place) (a .channels) _ refl refl refl (pattern-told _ _ _ _ _ _ (c .before .before .before .before .before .before .before .loop .inv) (c .before .before .before .before .before .before .loop-test .taken)))
+    omega (arith, head-inside (a .file .now) (c .before .before .before .before .before .before .before .loop .place) (a .channels) _ refl refl refl (pattern-told _ _ _ _ _ _ (c .before .before .before .before .before .before .before .loop .inv) (c .before .before .before .before .before .before .loop-test .taken) refl))
 
 add-place : tie.Need-add-place Inv-loop μ-loop
 add-place c = omega (arith, c .before .long .ensures .small, c .word .ensures .small)
@@ -56,7 +56,7 @@ add-place c = omega (arith, c .before .long .ensures .small, c .word .ensures .s
 add-place-2 : tie.Need-add-place-2 Inv-loop μ-loop
 add-place-2 c =
     let a = c .before .before .before .before .before .before .before .before .before .before .before .args in
-    omega (arith, pattern-inside (a .file .now) (c .before .before .before .before .before .before .before .before .loop .place) (a .channels) _ (pattern-told _ _ _ _ _ _ (c .before .before .before .before .before .before .before .before .loop .inv) (c .before .before .before .before .before .before .before .loop-test .taken)), c .before .long .ensures .value, c .word .ensures .value, c .before .before .before .before .before .before .before .before .before .before .before .good)
+    omega (arith, pattern-inside (a .file .now) (c .before .before .before .before .before .before .before .before .loop .place) (a .channels) _ (pattern-told _ _ _ _ _ _ (c .before .before .before .before .before .before .before .before .loop .inv) (c .before .before .before .before .before .before .before .loop-test .taken) refl), c .before .long .ensures .value, c .word .ensures .value, c .before .before .before .before .before .before .before .before .before .before .before .good)
 
 add-done : tie.Need-add-done Inv-loop μ-loop
 add-done c = search needs

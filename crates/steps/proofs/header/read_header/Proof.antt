@@ -1,21 +1,35 @@
 -- `steps::header::read_header` meets its contract: a test's refusal, or the header's counts and start. Assumes nothing.
-use mathlib.Core.Path.{sym, ap, _∙_}
+use mathlib.Core.Path.{_≡_, sym, ap, _∙_}
 use native.Mathlib.Omega.{arith}
+use Rattle.xm.specs.ModuleKind.{ModuleKind, kindBy}
+use Rattle.xm.specs.Header.{kindAt, headerTests}
+use Rattle.refusal.specs.Test.{firstFault}
 use Rattle.steps.specs.Step.{headerStep}
 use Rattle.steps.specs.declared.header.HeaderStep.the-variants.{Read}
 use Rattle.steps.proofs.HeaderLaws.{header-faulty, header-holds, header-read}
+use Rattle.steps.proofs.KindLaws.{own-kind}
 use borrow.Author.Needs.{needs}
 use Rattle.steps.proofs.header.read_header.Statement.{statement}
 use Rattle.steps.proofs.header.read_header.Tie as tie
 
+-- The tests were those of the file's own kind
+own : (t : tie.After-header-fault) →
+    let file = t .before .before .before .args .file .now in
+    t .header-fault .result ≡ firstFault (headerTests (kindAt file) 0 file)
+own t =
+    let file = t .before .before .before .args .file .now in
+    t .header-fault .ensures ∙ ap (λ (kind : ModuleKind). firstFault (headerTests kind 0 file)) (own-kind file (t .before .is-stripped .ensures))
+
 returns : tie.Need-returns
-returns c = sym (ap headerStep (header-faulty _ (c .before .header-fault .ensures) (c .if1 .taken)))
+returns c = let file = c .before .before .before .before .args .file .now in sym (ap headerStep (header-faulty (kindAt file) file (own (c .before)) (c .if1 .taken)))
 
 header-part-requires : tie.Need-header-part-requires
-header-part-requires c κs = let h = header-holds (c .before .before .before .args .file .now) (c .before .header-fault .ensures) (c .if1 .left) in omega arith
+header-part-requires c κs = let file = c .before .before .before .before .args .file .now in header-holds (kindAt file) file (own (c .before)) (c .if1 .left) .0
 
 returns-2 : tie.Need-returns-2
-returns-2 c = ap Read (c .header-part .ensures) ∙ sym (ap headerStep (header-read _ (header-holds _ (c .before .before .header-fault .ensures) (c .before .if1 .left))))
+returns-2 c =
+    let file = c .before .before .before .before .before .args .file .now in
+    ap Read (c .header-part .ensures) ∙ sym (ap headerStep (header-read (kindAt file) file (header-holds (kindAt file) file (own (c .before .before)) (c .before .if1 .left))))
 
 pub read-header-spec : {M : Type 1} → statement M
-read-header-spec = tie.close (tie.spec (search needs) returns header-part-requires returns-2)
+read-header-spec = tie.close (tie.spec (search needs) (search needs) returns header-part-requires returns-2)

@@ -1,42 +1,38 @@
--- `steps::instrument::instrument_head` meets its contract. Assumes nothing.
-use Prim.Native.Nat.{ℕ, _+_, _≤_}
-use mathlib.Core.Path.{_≡_, ap}
-use native.Mathlib.Omega.{arith}
-use lib.ListN.{length, drop, length-drop}
-use Rattle.xm.specs.Instrument.{countAt}
-use Rattle.steps.specs.Step.{headSizeOf}
-use Rattle.steps.proofs.InstrumentLaws.{some-samples, size-some}
+-- `steps::instrument::instrument_head` meets its contract: the fields of the file's own kind. Assumes nothing.
+use mathlib.Core.Path.{sym, ap, subst, _∙_}
+use lib.ListN.{drop}
+use Rattle.xm.specs.ModuleKind.{ModuleKind}
+use Rattle.xm.specs.Got.{AllHold}
+use Rattle.xm.specs.Instrument.{instrumentTests}
+use Rattle.steps.specs.Step.{instrumentHead}
+use Rattle.steps.proofs.KindLaws.{own-stripped, own-normal}
+use borrow.Author.Needs.{needs}
 use Rattle.steps.proofs.instrument.instrument_head.Statement.{statement}
 use Rattle.steps.proofs.instrument.instrument_head.Tie as tie
 
-there : (t : tie.After-shared-slice-known) → t .before .args .at + 29 ≤ length (t .before .args .file .now)
-there t = omega (arith, t .before .pre .0, length-drop (t .before .args .at) (t .before .args .file .now))
+stripped-head-requires : tie.Need-stripped-head-requires
+stripped-head-requires c κs =
+    let s = c .before .before .before in
+    let own = own-stripped (s .args .file .now) (c .before .is-stripped .ensures) (c .if1 .taken) in
+    subst (λ (kind : ModuleKind). AllHold (instrumentTests kind (s .args .at) (drop (s .args .at) (s .args .file .now)))) (sym own) (s .pre)
 
 returns : tie.Need-returns
 returns c =
     let a = c .before .before .before .before .args in
-    let s = drop (a .at) (a .file .now) in
-    let none : countAt s ≡ 0 = omega arith in cc (ap (λ (k : ℕ). headSizeOf k s) none)
+    let own = own-stripped (a .file .now) (c .before .before .is-stripped .ensures) (c .before .if1 .taken) in
+    c .stripped-head .ensures ∙ ap (λ (kind : ModuleKind). instrumentHead kind (a .at) (drop (a .at) (a .file .now))) own
 
-long-requires-2 : tie.Need-long-requires-2
-long-requires-2 c κs =
-    let s = c .before .before .before .before in
-    let some = some-samples (s .args .file .now) (s .args .at) (s .pre) (omega arith) in
-    omega (arith, s .pre .1 .1 .1 .1 .0, length-drop (s .args .at) (s .args .file .now))
+normal-head-requires : tie.Need-normal-head-requires
+normal-head-requires c κs =
+    let s = c .before .before .before in
+    let own = own-normal (s .args .file .now) (c .before .is-stripped .ensures) (c .if1 .left) in
+    subst (λ (kind : ModuleKind). AllHold (instrumentTests kind (s .args .at) (drop (s .args .at) (s .args .file .now)))) (sym own) (s .pre)
 
 returns-2 : tie.Need-returns-2
 returns-2 c =
-    let a = c .before .before .before .before .before .args in
-    let k = c .before .before .word .ensures .value in
-    let s = drop (a .at) (a .file .now) in cc (size-some (countAt s) s (omega arith))
+    let a = c .before .before .before .before .args in
+    let own = own-normal (a .file .now) (c .before .before .is-stripped .ensures) (c .before .if1 .left) in
+    c .normal-head .ensures ∙ ap (λ (kind : ModuleKind). instrumentHead kind (a .at) (drop (a .at) (a .file .now))) own
 
 pub instrument-head-spec : {M : Type 1} → statement M
-instrument-head-spec =
-    tie.close
-    (tie.spec
-    (λ c κs. omega (arith, there c))
-    (λ c. omega (arith, there (c .before), c .long .ensures .small))
-    (λ c κs. omega (arith, there (c .before)))
-    returns
-    long-requires-2
-    returns-2)
+instrument-head-spec = tie.close (tie.spec (search needs) stripped-head-requires returns normal-head-requires returns-2)

@@ -27,10 +27,7 @@ loop-holds : tie.Need-loop-holds Inv-loop μ-loop
 loop-holds c = left-start _ _ (c .before .pre)
 
 sample-head-requires : tie.Need-sample-head-requires Inv-loop μ-loop
-sample-head-requires c κs =
-    let w = c .before .loop .inv in
-    let l = c .loop-test .taken in
-    omega (arith, left-room _ _ _ w l, w .wide l)
+sample-head-requires c κs = left-room _ _ _ (c .before .loop .inv) (c .loop-test .taken)
 
 data-size-requires : tie.Need-data-size-requires Inv-loop μ-loop
 data-size-requires c κs = search needs

@@ -7,7 +7,7 @@ use lib.ListN.{length}
 use Rattle.tables.specs.Place.{sampleRow}
 use Rattle.tables.specs.Sought.{Seeks}
 use Rattle.tables.specs.declared.sample.SampleRow.{SampleRow}
-use Rattle.tables.proofs.SampleLaws.{seeks-small, seeks-fits, seeks-found, seeks-after, seeks-tests, seeks-stands, seeks-on, seeks-less}
+use Rattle.tables.proofs.SampleLaws.{seeks-fits, seeks-found, seeks-after, seeks-tests, seeks-stands, seeks-on, seeks-less}
 use borrow.Author.Needs.{needs}
 use Rattle.tables.proofs.sample.row_step.Statement.{statement}
 use Rattle.tables.proofs.sample.row_step.Tie as tie
@@ -39,7 +39,7 @@ loop-again c = seeks-on _ _ (c .before .before .before .before .pre .0) (record 
 sample-row-requires : tie.Need-sample-row-requires Inv-loop μ-loop
 sample-row-requires c κs =
     let w = seeks-fits _ _ (c .before .before .before .pre .0) (record { below = λ i. omega (arith, c .before .before .shared-slice-known .given i) }) (c .before .loop .inv) (omega (arith, c .loop-test .left)) in
-    (w .small, (w .header, w .bytes))
+    (w .small, (w .next-head, w .bytes))
 
 add-t13 : tie.Need-add-t13 Inv-loop μ-loop
 add-t13 c = omega (arith, c .before .before .before .before .pre .1)

@@ -1,0 +1,27 @@
+-- `forms::kept` meets its contract. The loop's invariant: without the zeros behind, as many are left of those before as of all. Assumes nothing.
+use mathlib.Core.Path.{refl}
+use native.Mathlib.Omega.{arith}
+use Rattle.forms.proofs.KeptLaws.{KeptLeft, kept-none, kept-zero, kept-some}
+use Rattle.forms.proofs.kept.Statement.{statement}
+use Rattle.forms.proofs.kept.Tie as tie
+
+abbrev Inv-loop : tie.InvT-loop
+Inv-loop file place count left₀ left = KeptLeft file place count left
+
+abbrev μ-loop : tie.MeasureT-loop
+μ-loop file place count left₀ left = left
+
+pub kept-spec : {M : Type 1} → statement M
+kept-spec =
+    tie.close
+    (tie.spec
+    Inv-loop
+    μ-loop
+    (λ c. record { inside = c .pre; same = refl })
+    (omega arith)
+    (λ c. omega (arith, c .before .loop .inv .inside))
+    (λ c. omega (arith, c .before .before .loop .inv .inside))
+    (λ c. kept-some (c .before .before .before .loop .inv) (c .before .before .loop-test .taken) (c .if1 .taken))
+    (omega arith)
+    (λ c. kept-zero (c .before .before .before .loop .inv) (c .before .before .loop-test .taken) (c .if1 .left))
+    (λ c. kept-none (c .before .loop .inv) (omega arith)))

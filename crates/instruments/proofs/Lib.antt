@@ -1,0 +1,3 @@
+pub mod CutLaws
+pub mod PieceLaws
+pub mod InstrumentLaws

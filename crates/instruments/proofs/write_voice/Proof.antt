@@ -1,0 +1,47 @@
+-- `instruments::write_voice` meets its contract: H alone, of which its first byte is not 0, or all of it and what follows. Assumes nothing.
+use mathlib.Core.Path.{refl}
+use native.Mathlib.Omega.{arith}
+use lib.ListN.{take, drop}
+use Rattle.xm.specs.Number.{byte, long}
+use Rattle.xm.specs.ModuleKind.{padded}
+use Rattle.xm.proofs.Cut.{padded-length}
+use Rattle.xm.proofs.Lay.{laid-first, laid-last}
+use Rattle.instruments.specs.Instrument.{voiceIn}
+use Rattle.instruments.proofs.CutLaws.{padded-behind}
+use Rattle.instruments.proofs.PieceLaws.{voice-short}
+use borrow.Author.Needs.{needs}
+use Rattle.instruments.proofs.write_voice.Statement.{statement}
+use Rattle.instruments.proofs.write_voice.Tie as tie
+
+returns : tie.Need-returns
+returns c =
+    let a = c .before .before .before .before .before .before .before .before .before .before .before .args in
+    let s = take (a .size) (drop (a .at) (a .file .now)) in
+    laid-last (laid-first (a .out .now) (padded (a .count) (voiceIn (a .head-size) s)) (byte (a .head-size)) _ (voice-short (a .count) (a .head-size) s (omega arith) (omega arith) (omega arith)) (omega (arith, padded-length (a .count) (voiceIn (a .head-size) s))) refl (c .before .before .before .before .before .before .put-byte .ensures)) refl (c .before .before .clear .ensures)
+
+returns-2 : tie.Need-returns-2
+returns-2 c =
+    let a = c .before .before .before .before .before .before .before .before .before .before .before .args in
+    let s = take (a .size) (drop (a .at) (a .file .now)) in
+    laid-last (laid-first (a .out .now) (padded (a .count) (voiceIn (a .head-size) s)) (long (a .head-size)) _ (padded-behind (a .count) (long (a .head-size)) (padded 208 (drop 33 s)) (omega arith)) (omega (arith, padded-length (a .count) (voiceIn (a .head-size) s))) refl (c .before .before .before .before .before .before .put-long .ensures)) refl (c .before .before .write-notes .ensures)
+
+pub write-voice-spec : {M : Type 1} → statement M
+write-voice-spec =
+    tie.close
+    (tie.spec
+    (search needs)
+    (search needs)
+    (search needs)
+    (search needs)
+    (search needs)
+    (search needs)
+    (search needs)
+    (search needs)
+    returns
+    (search needs)
+    (search needs)
+    (search needs)
+    (search needs)
+    (search needs)
+    (search needs)
+    returns-2)

@@ -1,8 +1,0 @@
--- `steps::instrument::least_size` meets its contract. Assumes nothing.
-use borrow.Author.Needs.{needs}
-use Rattle.steps.proofs.InstrumentLaws.{least-some}
-use Rattle.steps.proofs.instrument.least_size.Statement.{statement}
-use Rattle.steps.proofs.instrument.least_size.Tie as tie
-
-pub least-size-spec : {M : Type 1} → statement M
-least-size-spec = tie.close (tie.spec (λ c. search needs) (λ c. least-some _ (c .if1 .left)))
