@@ -11,10 +11,10 @@ use Rattle.xm.specs.Got.{AllHold}
 use Rattle.xm.specs.Instrument.{leastStripped, voiceFrom, voiceSize, instrumentSizeAt, countAt, fieldsOf, instrumentTests, voiceOf}
 use Rattle.xm.proofs.Number.{Agree, agree-byte, agree-part}
 use Rattle.xm.proofs.Format.{cons-path}
-use Rattle.xm.proofs.Cut.{padded-length}
+use Rattle.xm.proofs.Cut.{padded-length, front-padded}
 use Rattle.steps.proofs.InstrumentLaws.{fields-pass, some-samples}
 use Rattle.forms.specs.Form.{fieldsFrom}
-use Rattle.forms.proofs.KeptLaws.{part-padded, front-padded, trimmed-behind, trimmed-front}
+use Rattle.forms.proofs.KeptLaws.{part-padded, trimmed-behind, trimmed-front}
 
 -- Small numbers: their first byte says them
 pub long-low : (n : ℕ) → n < 256 → long n ≡ n ∷ 0 ∷ 0 ∷ 0 ∷ []

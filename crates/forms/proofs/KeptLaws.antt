@@ -10,7 +10,7 @@ use Rattle.xm.specs.Number.{part}
 use Rattle.xm.specs.ModuleKind.{padded, before, trimmed}
 use Rattle.xm.specs.Sample.{leastHead, headBytes, smallestHead}
 use Rattle.xm.proofs.Format.{cons-path}
-use Rattle.xm.proofs.Cut.{padded-drop, trimmed-le, trimmed-zero, trimmed-some}
+use Rattle.xm.proofs.Cut.{padded-drop, take-padded, drop-take, trimmed-le, trimmed-zero, trimmed-some}
 use Rattle.heads.specs.Sample.{headsFrom}
 
 -- One byte after the other, from the end: a part, and the byte behind it
@@ -54,14 +54,6 @@ module _ {file : List ℕ} {place count left : ℕ} (w : KeptLeft file place cou
         sym (ap length all ∙ long) ∙ w .same
 
 -- Of a structure that is cut off
-pub drop-take : (from size : ℕ) (s : List ℕ) → from ≤ size → drop from (take size s) ≡ take (size - from) (drop from s)
-drop-take zero size s h = let n : size - 0 ≡ size = omega arith in sym (ap (λ (k : ℕ). take k s) n)
-drop-take (suc from) zero s h = absurd (omega arith)
-drop-take (suc from) (suc size) [] h = sym (take-nil (suc size - suc from))
-drop-take (suc from) (suc size) (b ∷ s) h =
-    let n : suc size - suc from ≡ size - from = omega arith in
-    drop-take from size s (omega arith) ∙ sym (ap (λ (k : ℕ). take k (drop from s)) n)
-
 take-least : (m n : ℕ) (s : List ℕ) → n ≤ m → take m (take n s) ≡ take n s
 take-least m zero s h = take-nil m
 take-least zero (suc n) s h = absurd (omega arith)
@@ -120,27 +112,11 @@ padded-cut zero s = refl
 padded-cut (suc width) [] = zeros (suc width)
 padded-cut (suc width) (b ∷ s) = ap (before b) (padded-cut width s)
 
-pub take-padded : (n width : ℕ) (s : List ℕ) → n ≤ width → take n (padded width s) ≡ padded n s
-unfolding padded
-take-padded zero width s h = refl
-take-padded (suc n) zero s h = absurd (omega arith)
-take-padded (suc n) (suc width) [] h = cons-path refl (take-padded n width [] (omega arith))
-take-padded (suc n) (suc width) (b ∷ s) h = cons-path refl (take-padded n width s (omega arith))
-
 pub part-padded : (from count width : ℕ) (s : List ℕ) → count ≤ width → trimmed (part from count (padded (from + width) s)) ≡ trimmed (part from count s)
 part-padded from count width s h =
     ap (λ (l : List ℕ). trimmed (take count l)) (padded-drop from width s)
     ∙ ap trimmed (take-padded count width (drop from s) h)
     ∙ padded-cut count (drop from s)
-
-whole-padded : (n : ℕ) (s : List ℕ) → n ≤ length s → padded n s ≡ take n s
-unfolding padded
-whole-padded zero s h = refl
-whole-padded (suc n) [] h = absurd (omega arith)
-whole-padded (suc n) (b ∷ s) h = cons-path refl (whole-padded n s (omega arith))
-
-pub front-padded : (n width I : ℕ) (s : List ℕ) → n ≤ width → n ≤ I → I ≤ length s → take n (padded width (take I s)) ≡ take n s
-front-padded n width I s h l m = take-padded n width (take I s) h ∙ whole-padded n (take I s) (omega (arith, length-take I s)) ∙ take-take n I s l
 
 -- Behind other bytes
 before-long : (byte : ℕ) (s : List ℕ) → 1 ≤ length s → before byte s ≡ byte ∷ s

@@ -9,19 +9,13 @@ use lib.Seq.{take-take, drop-drop, length-take-le}
 use Rattle.xm.specs.ModuleKind.{padded}
 use Rattle.xm.specs.Answer.{inFront}
 use Rattle.xm.proofs.Format.{cons-path}
-use Rattle.xm.proofs.Cut.{padded-length, padded-append, padded-long}
-use Rattle.forms.proofs.KeptLaws.{drop-take, take-padded}
+use Rattle.xm.proofs.Cut.{padded-length, padded-append, padded-long, take-padded, drop-take, padded-none}
 
 -- What was written, under another name
 pub named : (lent : List ℕ) {written piece left : List ℕ} → left ≡ inFront written lent → written ≡ piece → left ≡ inFront piece lent
 named lent w e = w ∙ ap (λ (l : List ℕ). inFront l lent) e
 
--- Filled up: of nothing, of fewer bytes, of more; and twice
-pub padded-none : (n : ℕ) → padded n [] ≡ replicate n 0
-unfolding padded
-padded-none zero = refl
-padded-none (suc n) = cons-path refl (padded-none n)
-
+-- Filled up: of fewer bytes, of more; and twice
 pub padded-short : (n : ℕ) (s : List ℕ) → length s ≤ n → padded n s ≡ s ++ replicate (n - length s) 0
 unfolding padded
 padded-short n [] h = let z : n ≡ n - 0 = omega arith in padded-none n ∙ ap (λ (k : ℕ). replicate k 0) z

@@ -14,7 +14,7 @@ use Rattle.xm.specs.Sample.{leastHead, Stretch, readData, headFormat, dataForma
 use Rattle.xm.specs.Instrument.{leastInstrument, leastStripped, voiceFrom, voiceSize, instrumentSizeAt, countAt, headerSizeAt, fieldsOf, instrumentTests, Instrument, InstrumentFound, voiceOf, readInstrument, writeVoice, countOf, writeFields, writeInstrument, GoodInstrument, instrumentView}
 use Rattle.xm.proofs.Number.{bytes-drop, bytes-take}
 use Rattle.xm.proofs.Got.{no-true, passed, bind-got, got-value, got-used, got-carry}
-use Rattle.xm.proofs.Cut.{padded-length, padded-bytes, padded-drop, padded-long, trimmed-le, trimmed-take}
+use Rattle.xm.proofs.Cut.{padded-length, padded-bytes, padded-drop, padded-long, take-padded, trimmed-le, trimmed-take}
 use Rattle.xm.proofs.Sample.{smallest-fits}
 use Rattle.xm.proofs.Instrument.{heads-used}
 use Rattle.xm.proofs.Stripped.{instrument-keeps}
@@ -24,7 +24,7 @@ use Rattle.steps.specs.declared.instrument.InstrumentPart.{InstrumentPart}
 use Rattle.steps.proofs.InstrumentLaws.{fields-pass, some-samples, found, AsRead, as-read, PartLies, part-lies, part-inside}
 use Rattle.forms.specs.Form.{FormIs, formBy}
 use Rattle.forms.specs.declared.Form.{Form}
-use Rattle.forms.proofs.KeptLaws.{take-padded, trimmed-front}
+use Rattle.forms.proofs.KeptLaws.{trimmed-front}
 use Rattle.forms.proofs.FormLaws.{least-most}
 use Rattle.writers.specs.Found.{instrumentAs}
 use Rattle.instruments.specs.Instrument.{voiceIn, fieldsIn, headsIn}

@@ -14,9 +14,8 @@ use Rattle.xm.specs.Answer.{inFront}
 use Rattle.xm.specs.Sample.{leastHead, headBytes}
 use Rattle.xm.specs.Instrument.{leastStripped, voiceFrom, voiceSize}
 use Rattle.xm.proofs.Lay.{Laid, laid-none, laid-part, laid-done}
-use Rattle.xm.proofs.Cut.{padded-length}
+use Rattle.xm.proofs.Cut.{padded-length, take-padded}
 use Rattle.heads.specs.Sample.{headsFrom}
-use Rattle.forms.proofs.KeptLaws.{take-padded}
 use Rattle.forms.proofs.FieldLaws.{long-low}
 use Rattle.instruments.specs.Instrument.{voiceIn, fieldsIn, headsIn}
 use Rattle.instruments.proofs.CutLaws.{padded-front, padded-padded, padded-behind}

@@ -2,15 +2,16 @@
 use Prim.Native.Nat.{ℕ, zero, suc, _+_, _-_, _*_, _≤_, _<_}
 use mathlib.Core.Bool.{Bool, true, false, cond}
 use mathlib.Core.List.{List, [], _∷_, _++_}
-use mathlib.Core.Path.{_≡_, refl, ap, _∙_}
+use mathlib.Core.Path.{_≡_, refl, sym, ap, _∙_}
 use native.Mathlib.Omega.{arith}
 use lib.Dec.{ltb}
 use borrow.Author.Tests.{ltb-true, ltb-false}
-use lib.ListN.{length, getD, take, drop, length-append, length-take, List·getD-eq-default}
-use lib.Seq.{drop-nil, getD-take}
+use lib.ListN.{length, getD, take, drop, replicate, length-append, length-take, List·getD-eq-default}
+use lib.Seq.{drop-nil, getD-take, take-take}
 use Rattle.xm.specs.Number.{Bytes, byteAt, wordAt, longAt}
 use Rattle.xm.specs.ModuleKind.{padded, before, trimmed}
-use Rattle.xm.proofs.Number.{bytes-nil, bytes-cons, bytes-tail}
+use Rattle.xm.specs.Answer.{inFront}
+use Rattle.xm.proofs.Number.{bytes-nil, bytes-cons, bytes-tail, take-drop}
 use Rattle.xm.proofs.Format.{cons-path}
 
 -- Filled up to a width
@@ -77,6 +78,32 @@ unfolding padded
 padded-long zero s h = refl
 padded-long (suc width) [] h = absurd (omega arith)
 padded-long (suc width) (b ∷ s) h = cons-path refl (padded-long width s (omega arith))
+
+pub take-padded : (n width : ℕ) (s : List ℕ) → n ≤ width → take n (padded width s) ≡ padded n s
+unfolding padded
+take-padded zero width s h = refl
+take-padded (suc n) zero s h = absurd (omega arith)
+take-padded (suc n) (suc width) [] h = cons-path refl (take-padded n width [] (omega arith))
+take-padded (suc n) (suc width) (b ∷ s) h = cons-path refl (take-padded n width s (omega arith))
+
+-- Of a structure of `size` bytes, the front and what stands from an offset on
+pub front-padded : (n width size : ℕ) (s : List ℕ) → n ≤ width → n ≤ size → size ≤ length s → take n (padded width (take size s)) ≡ take n s
+front-padded n width size s h l m = take-padded n width (take size s) h ∙ padded-long n (take size s) (omega (arith, length-take size s)) ∙ take-take n size s l
+
+pub drop-take : (from size : ℕ) (s : List ℕ) → from ≤ size → drop from (take size s) ≡ take (size - from) (drop from s)
+drop-take from size s h = let n : size ≡ from + (size - from) = omega arith in ap (λ (k : ℕ). drop from (take k s)) n ∙ sym (take-drop (size - from) from s)
+
+-- Filled up from zeros: with nothing in front, and with no more bytes than there are zeros
+pub padded-none : (n : ℕ) → padded n [] ≡ replicate n 0
+unfolding padded
+padded-none zero = refl
+padded-none (suc n) = cons-path refl (padded-none n)
+
+pub padded-zeros : (n : ℕ) (s : List ℕ) → length s ≤ n → inFront s (replicate n 0) ≡ padded n s
+unfolding padded
+padded-zeros n [] h = sym (padded-none n)
+padded-zeros zero (b ∷ s) h = absurd (omega arith)
+padded-zeros (suc n) (b ∷ s) h = cons-path refl (padded-zeros n s (omega arith))
 
 pub padded-drop : (k width : ℕ) (s : List ℕ) → drop k (padded (k + width) s) ≡ padded width (drop k s)
 unfolding padded
