@@ -1,23 +1,24 @@
 -- Laws of the steps over sample headers and sample data. Assumes nothing.
-use Prim.Native.Nat.{ℕ, zero, suc, _+_, _*_, _≤_, _<_}
+use Prim.Native.Nat.{ℕ, zero, suc, _+_, _-_, _*_, _≤_, _<_}
 use mathlib.Core.Bool.{Bool, true, false, cond}
 use mathlib.Core.List.{List, [], _∷_}
 use mathlib.Core.Path.{_≡_, refl, sym, ap, ap₂, _∙_}
-use native.Mathlib.Nat.{add-assoc, mul-le-mul-right, zero-mul}
+use native.Mathlib.Nat.{add-assoc, add-sub-cancel-left, mul-le-mul-right, zero-mul}
 use native.Mathlib.Omega.{arith}
 use lib.Dec.{eqb}
 use lib.IntN.{ℤ}
-use lib.ListN.{length, getD, take, drop, replicate, length-drop, length-append, length-replicate, getD-replicate}
-use lib.Seq.{getD-drop, take-take, drop-drop, length-take-le}
+use lib.ListN.{length, getD, take, drop, replicate, length-take, length-drop, length-append, length-replicate, getD-replicate}
+use lib.Seq.{getD-drop, drop-drop, length-take-le}
 use Rattle.xm.specs.Number.{byteAt, signed}
+use Rattle.xm.specs.ModuleKind.{padded}
+use Rattle.xm.specs.Answer.{inFront}
 use Rattle.xm.specs.Got.{Got, got, refused, _>>=_, _>>_, checked, _at_}
 use Rattle.xm.specs.Format.{each}
 use Rattle.xm.specs.Sample.{leastHead, headBytes, adpcm, adpcmSize, dataSizeBy, dataSize, Stretch, readHead, readData, headFormat, dataFormat, SamplesFound, samplesFormat, sizeOfFirst}
 use Rattle.xm.proofs.Number.{Agree, agree-byte, agree-long}
-use Rattle.xm.proofs.Cut.{padded-length, padded-at, long-padded}
+use Rattle.xm.proofs.Cut.{padded-length, take-padded, front-padded, padded-zeros}
 use Rattle.xm.proofs.Got.{pass, step, test-holds, test-fails, step-refused, passed, bind-got, got-value, got-used, got-carry}
 use Rattle.xm.proofs.Format.{cons-path, read-length}
-use Rattle.xm.proofs.Sample.{head-whole}
 use Rattle.xm.proofs.Instrument.{heads-used}
 use Rattle.refusal.specs.Fault.{faultOf, placeStep}
 use Rattle.refusal.specs.declared.Fault.{Fault}
@@ -26,47 +27,57 @@ use Rattle.refusal.specs.declared.Step.the-variants.{Next, Refused}
 use Rattle.refusal.proofs.Steps.{next-got}
 use Rattle.slices.specs.Number.{Byte, Long}
 use Rattle.refusal.specs.Test.{firstFault}
-use Rattle.heads.specs.Sample.{HeadAt, headTestsOf, headsFrom}
+use Rattle.heads.specs.Sample.{fieldsEnd, HeadAt, headTestsOf, headsFrom}
 use Rattle.heads.specs.declared.SampleHead.{SampleHead}
 use Rattle.refusal.proofs.Tests.{fault-holds, fault-refuses}
 use Rattle.refusal.proofs.Walking.{refused-on, Reached, reached-start, reached-on, reached-out, reached-place}
 
--- A header's fields are the numbers at their offsets: of one that is there whole, and of one that is cut off
-module _ (file : List ℕ) (place size : ℕ) (there : place + size ≤ length file) (wide : leastHead ≤ size) where
+-- A header's fields are the numbers at their offsets
+module _ (bytes : List ℕ) (place : ℕ) where
   abbrev from : List ℕ
-  from = drop place file
+  from = drop place bytes
 
-  front : Agree leastHead (headBytes size from) from
-  front = record {
-    long = omega (arith, length-drop place file);
-    same = ap (take leastHead) (head-whole size from wide (omega (arith, length-drop place file))) ∙ take-take leastHead leastHead from (omega arith);
-  }
-
-  tune : {finetune : ℤ} (offset : ℕ) → offset < leastHead → finetune ≡ signed 8 (getD file (place + offset) 0) → finetune ≡ signed 8 (byteAt offset (headBytes size from))
-  tune offset h e = e ∙ ap (signed 8) (sym (agree-byte front offset h ∙ getD-drop place file offset 0))
+  tune : {number : ℤ} (offset : ℕ) → number ≡ signed 8 (getD bytes (place + offset) 0) → number ≡ signed 8 (byteAt offset from)
+  tune offset e = e ∙ ap (signed 8) (sym (getD-drop place bytes offset 0))
 
   pub head-made : {length start looped form kind : ℕ} {finetune note : ℤ} → Long 0 from length → Long 4 from start → Long 8 from looped
-      → finetune ≡ signed 8 (getD file (place + 13) 0) → Byte 14 from form → note ≡ signed 8 (getD file (place + 16) 0) → Byte 17 from kind
-      → HeadAt (headBytes size from) (record { length = length; «loop_start» = start; «loop_length» = looped; finetune = finetune; form = form; «relative_note» = note; kind = kind })
+      → finetune ≡ signed 8 (getD bytes (place + 13) 0) → Byte 14 from form → note ≡ signed 8 (getD bytes (place + 16) 0) → Byte 17 from kind
+      → HeadAt from (record { length = length; «loop_start» = start; «loop_length» = looped; finetune = finetune; form = form; «relative_note» = note; kind = kind })
   head-made l s o f t n k = record {
-    value = cc (agree-long front 0 (omega arith), agree-long front 4 (omega arith), agree-long front 8 (omega arith), tune 13 (omega arith) f, agree-byte front 14 (omega arith), tune 16 (omega arith) n, agree-byte front 17 (omega arith));
+    value = cc (tune 13 f, tune 16 n);
     length-small = l .small;
     start-small = s .small;
     looped-small = o .small;
   }
 
-pub head-cut : (size : ℕ) (from : List ℕ) {length start looped form kind : ℕ} {finetune note : ℤ}
-    → Long 0 (take size from) length → Long 4 (take size from) start → Long 8 (take size from) looped → finetune ≡ signed 8 (byteAt 13 (take size from)) → Byte 14 (take size from) form
-    → note ≡ signed 8 (byteAt 16 (take size from)) → Byte 17 (take size from) kind
-    → HeadAt (headBytes size from) (record { length = length; «loop_start» = start; «loop_length» = looped; finetune = finetune; form = form; «relative_note» = note; kind = kind })
-head-cut size from l s o f t n k =
-    let cut = take size from in
-    record {
-      value = cc (long-padded leastHead 0 cut (omega arith), long-padded leastHead 4 cut (omega arith), long-padded leastHead 8 cut (omega arith), padded-at leastHead 13 cut (omega arith), padded-at leastHead 14 cut (omega arith), padded-at leastHead 16 cut (omega arith), padded-at leastHead 17 cut (omega arith));
-      length-small = l .small;
-      start-small = s .small;
-      looped-small = o .small;
-    }
+-- and are the same of any bytes that begin alike
+pub head-alike : {s t : List ℕ} → Agree fieldsEnd s t → {r : SampleHead} → HeadAt s r → HeadAt t r
+head-alike a v = record {
+  value = v .value ∙ cc (agree-long a 0 (omega arith), agree-long a 4 (omega arith), agree-long a 8 (omega arith), agree-byte a 13 (omega arith), agree-byte a 14 (omega arith), agree-byte a 16 (omega arith), agree-byte a 17 (omega arith));
+  length-small = v .length-small;
+  start-small = v .start-small;
+  looped-small = v .looped-small;
+}
+
+-- as those of a header do and what is there of it, be it long enough or filled up with zeros
+pub whole-alike : (size : ℕ) (s : List ℕ) → fieldsEnd ≤ size → size ≤ length s → Agree fieldsEnd s (headBytes size s)
+whole-alike size s h there = record {
+  long = omega (arith, padded-length leastHead (take size s));
+  same = sym (front-padded fieldsEnd leastHead size s (omega arith) h there);
+}
+
+pub cut-alike : (size : ℕ) (s : List ℕ) → Agree fieldsEnd (padded fieldsEnd (take size s)) (headBytes size s)
+cut-alike size s = record {
+  long = omega (arith, padded-length leastHead (take size s));
+  same = take-padded fieldsEnd fieldsEnd (take size s) (omega arith) ∙ sym (take-padded fieldsEnd leastHead (take size s) (omega arith));
+}
+
+-- What is there of it, copied over zeros
+pub cut-filled : (file : List ℕ) (place size : ℕ) → size ≤ fieldsEnd → {bytes : List ℕ}
+    → bytes ≡ inFront (take (place + size - place) (drop place file)) (replicate fieldsEnd 0) → bytes ≡ padded fieldsEnd (take size (drop place file))
+cut-filled file place size few e =
+    e ∙ ap (λ (n : ℕ). inFront (take n (drop place file)) (replicate fieldsEnd 0)) (add-sub-cancel-left place size)
+    ∙ padded-zeros fieldsEnd (take size (drop place file)) (omega (arith, length-take size (drop place file)))
 
 -- A header's tests, by the fields that the code has
 same-fault : (place : ℕ) (head : SampleHead) → firstFault (headTestsOf 0 head) ≡ firstFault (headTestsOf place head)

@@ -18,6 +18,11 @@ sampleHead head = record {
   kind = kindOf head;
 }
 
+-- "name 18 (22)": the fields end where the name begins.
+abbrev pub fieldsEnd : ℕ
+fieldsEnd = 18
+
+-- The fields of a header, of which the bytes as far as their end are enough.
 pub record HeadAt (head : List ℕ) (r : SampleHead) : Type 0 where
   pub value : r ≡ sampleHead head
   pub length-small : r .length < 4294967296

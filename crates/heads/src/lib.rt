@@ -3,20 +3,19 @@ use adpcm::adpcm_size;
 use refusal::Fault;
 use refusal::Step;
 use slices::read::byte;
-use slices::read::byte_in;
 use slices::read::long;
-use slices::read::long_in;
 use slices::read::signed_byte;
-use slices::read::signed_in;
+use slices::write::copy;
 ghost use mathlib.Core.Path.{_≡_};
 ghost use Prim.Native.Nat.{_+_, _*_, _≤_, _<_};
-ghost use lib.ListN.{length, drop, replicate};
+ghost use lib.ListN.{length, take, drop, replicate};
+ghost use Rattle.xm.specs.ModuleKind.{padded};
 ghost use Rattle.xm.specs.Got.{passes};
 ghost use Rattle.xm.specs.Format.{each};
-ghost use Rattle.xm.specs.Sample.{leastHead, headBytes, loopsBy, dataSizeBy, readHead, readData, headFormat, dataFormat, samplesFormat};
+ghost use Rattle.xm.specs.Sample.{headBytes, loopsBy, dataSizeBy, readHead, readData, headFormat, dataFormat, samplesFormat};
 ghost use Rattle.refusal.specs.Fault.{placeStep};
 ghost use Rattle.refusal.specs.Test.{firstFault};
-ghost use Rattle.heads.specs.Sample.{HeadAt, kindTest, wideTest, loopTest, wholeTest, headTestsOf, headsFrom};
+ghost use Rattle.heads.specs.Sample.{fieldsEnd, HeadAt, kindTest, wideTest, loopTest, wholeTest, headTestsOf, headsFrom};
 
 // "Kind AD"
 const ADPCM: usize = 0xAD;
@@ -32,49 +31,44 @@ pub struct SampleHead {
     pub kind: usize,
 }
 
-// A header of 40 bytes or more.
-fn whole_head(file: &[u8], at: usize, size: usize) -> SampleHead
-    requires { ⌜ at + size ≤ length (now file) ⌝ }
-    requires { ⌜ leastHead ≤ size ⌝ }
-    ensures { λ r. ⌜ HeadAt (headBytes size (drop at (now (file .entry)))) r ⌝ }
+// The fields of a header that stands at a place of some bytes, as far as its last field.
+fn fields_at(bytes: &[u8], at: usize) -> SampleHead
+    requires { ⌜ at + fieldsEnd ≤ length (now bytes) ⌝ }
+    ensures { λ r. ⌜ HeadAt (drop at (now (bytes .entry))) r ⌝ }
 {
-    let finetune = file[at + 13];
-    let relative_note = file[at + 16];
+    let finetune = bytes[at + 13];
+    let relative_note = bytes[at + 16];
     SampleHead {
-        length: long(file, at, 0),
-        loop_start: long(file, at, 4),
-        loop_length: long(file, at, 8),
+        length: long(bytes, at, 0),
+        loop_start: long(bytes, at, 4),
+        loop_length: long(bytes, at, 8),
         finetune: signed_byte(finetune),
-        form: byte(file, at, 14),
+        form: byte(bytes, at, 14),
         relative_note: signed_byte(relative_note),
-        kind: byte(file, at, 17),
+        kind: byte(bytes, at, 17),
     }
 }
 
-// A header of any size, as a stripped module may have it.
-fn cut_head(file: &[u8], at: usize, size: usize) -> SampleHead
+// The fields of a header that ends before its last one, as a stripped module may have it: what is cut off is 0.
+fn cut_fields(file: &[u8], at: usize, size: usize) -> SampleHead
     requires { ⌜ at + size ≤ length (now file) ⌝ }
-    ensures { λ r. ⌜ HeadAt (headBytes size (drop at (now (file .entry)))) r ⌝ }
+    requires { ⌜ size ≤ fieldsEnd ⌝ }
+    ensures { λ r. ⌜ HeadAt (padded fieldsEnd (take size (drop at (now (file .entry))))) r ⌝ }
 {
-    SampleHead {
-        length: long_in(file, at, size, 0),
-        loop_start: long_in(file, at, size, 4),
-        loop_length: long_in(file, at, size, 8),
-        finetune: signed_in(file, at, size, 13),
-        form: byte_in(file, at, size, 14),
-        relative_note: signed_in(file, at, size, 16),
-        kind: byte_in(file, at, size, 17),
-    }
+    let mut bytes: [u8; 18] = [0; 18];
+    copy(&file[at..at + size], &mut bytes);
+    fields_at(&bytes, 0)
 }
 
+// The fields of a header of any size.
 pub fn sample_head(file: &[u8], at: usize, size: usize) -> SampleHead
     requires { ⌜ at + size ≤ length (now file) ⌝ }
     ensures { λ r. ⌜ HeadAt (headBytes size (drop at (now (file .entry)))) r ⌝ }
 {
-    if 40 <= size {
-        return whole_head(file, at, size);
+    if 18 <= size {
+        return fields_at(file, at);
     }
-    cut_head(file, at, size)
+    cut_fields(file, at, size)
 }
 
 // The bytes that a sample's data take: of kind AD not its length.
@@ -137,12 +131,14 @@ fn loop_fits(form: usize, length: usize, start: usize, looped: usize) -> bool
 fn whole_fits(form: usize, looped: usize, number: usize) -> bool
     ensures { λ r. ⌜ r ≡ passes (wholeTest form looped number 0) ⌝ }
 {
-    if form / 16 % 2 == 1 {
-        if loops(form, looped) {
-            if number % 2 == 1 {
-                return false;
-            }
-        }
+    if form / 16 % 2 != 1 {
+        return true;
+    }
+    if !loops(form, looped) {
+        return true;
+    }
+    if number % 2 == 1 {
+        return false;
     }
     true
 }

@@ -2,7 +2,7 @@
 ghost use mathlib.Core.Path.{_≡_};
 ghost use Prim.Native.Nat.{_+_, _≤_, _<_};
 ghost use lib.ListN.{length, take, drop};
-ghost use Rattle.xm.specs.Number.{byteAt, signed};
+ghost use Rattle.xm.specs.Number.{signed};
 ghost use Rattle.slices.specs.Number.{Byte, Word, Long};
 
 pub fn byte(file: &[u8], place: usize, offset: usize) -> usize
@@ -70,14 +70,4 @@ pub fn long_in(file: &[u8], place: usize, size: usize, offset: usize) -> usize
     ensures { λ r. ⌜ Long offset (take size (drop place (now (file .entry)))) r ⌝ }
 {
     word_in(file, place, size, offset) + 65536 * word_in(file, place, size, offset + 2)
-}
-
-pub fn signed_in(file: &[u8], place: usize, size: usize, offset: usize) -> i8
-    requires { ⌜ place + size ≤ length (now file) ⌝ }
-    ensures { λ r. ⌜ r ≡ signed 8 (byteAt offset (take size (drop place (now (file .entry))))) ⌝ }
-{
-    if offset < size {
-        return signed_byte(file[place + offset]);
-    }
-    0
 }

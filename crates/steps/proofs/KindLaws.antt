@@ -9,7 +9,7 @@ use borrow.Author.Tests.{eq-eqb, ne-eqb}
 use lib.ListN.{length, take, drop}
 use lib.Seq.{take-length}
 use Rattle.xm.specs.Number.{byteAt, wordAt}
-use Rattle.xm.specs.ModuleKind.{ModuleKind, normal, stripped, kindBy}
+use Rattle.xm.specs.ModuleKind.{kindBy}
 use Rattle.xm.specs.Header.{leastHeader, markAt, isStripped, kindAt}
 use Rattle.xm.proofs.Kind.{kind-stripped}
 use Rattle.slices.specs.Number.{Byte, Word}
@@ -25,12 +25,6 @@ module _ (file : List ℕ) where
   -- what the code was told is the file's own
   pub own-kind : {is : Bool} → is ≡ isStripped file → kindBy is ≡ kindAt file
   own-kind e = ap kindBy e ∙ sym (kind-stripped file)
-
-  pub own-stripped : {is : Bool} → is ≡ isStripped file → is ≡ true → stripped ≡ kindAt file
-  own-stripped e t = sym (ap kindBy t) ∙ own-kind e
-
-  pub own-normal : {is : Bool} → is ≡ isStripped file → is ≡ false → normal ≡ kindAt file
-  own-normal e t = sym (ap kindBy t) ∙ own-kind e
 
 -- The least header size is small
 pub least-small : (is : Bool) (songLength : ℕ) → songLength < 65536 → leastHeader (kindBy is) songLength < 65812

@@ -12,7 +12,7 @@ use slices::read::word_in;
 ghost use mathlib.Core.Path.{_≡_};
 ghost use Prim.Native.Nat.{_≤_};
 ghost use lib.ListN.{length, drop};
-ghost use Rattle.xm.specs.ModuleKind.{normal, stripped};
+ghost use Rattle.xm.specs.ModuleKind.{normal, stripped, kindBy};
 ghost use Rattle.xm.specs.Got.{AllHold};
 ghost use Rattle.xm.specs.Header.{kindAt};
 ghost use Rattle.xm.specs.Instrument.{instrumentTests, readInstrument};
@@ -116,12 +116,12 @@ fn stripped_fault(file: &[u8], at: usize) -> u32
     0
 }
 
-// Of either kind, as the file says.
-fn fault_in_front(file: &[u8], at: usize) -> u32
+// Of either kind.
+fn fault_by(file: &[u8], at: usize, stripped: bool) -> u32
     requires { ⌜ at ≤ length (now file) ⌝ }
-    ensures { λ r. ⌜ r ≡ firstFault (instrumentTests (kindAt (now (file .entry))) at (drop at (now (file .entry)))) ⌝ }
+    ensures { λ r. ⌜ r ≡ firstFault (instrumentTests (kindBy stripped) at (drop at (now (file .entry)))) ⌝ }
 {
-    if is_stripped(file) {
+    if stripped {
         return stripped_fault(file, at);
     }
     instrument_fault(file, at)
@@ -169,29 +169,40 @@ fn stripped_head(file: &[u8], at: usize) -> InstrumentHead
     }
 }
 
-pub fn instrument_head(file: &[u8], at: usize) -> InstrumentHead
-    requires { ⌜ AllHold (instrumentTests (kindAt (now file)) at (drop at (now file))) ⌝ }
-    ensures { λ r. ⌜ r ≡ instrumentHead (kindAt (now (file .entry))) at (drop at (now (file .entry))) ⌝ }
+// Of either kind.
+fn head_by(file: &[u8], at: usize, stripped: bool) -> InstrumentHead
+    requires { ⌜ AllHold (instrumentTests (kindBy stripped) at (drop at (now file))) ⌝ }
+    ensures { λ r. ⌜ r ≡ instrumentHead (kindBy stripped) at (drop at (now (file .entry))) ⌝ }
 {
-    if is_stripped(file) {
+    if stripped {
         return stripped_head(file, at);
     }
     normal_head(file, at)
 }
 
+// The fields of an instrument that passed, of the kind that the file is.
+pub fn instrument_head(file: &[u8], at: usize) -> InstrumentHead
+    requires { ⌜ AllHold (instrumentTests (kindAt (now file)) at (drop at (now file))) ⌝ }
+    ensures { λ r. ⌜ r ≡ instrumentHead (kindAt (now (file .entry))) at (drop at (now (file .entry))) ⌝ }
+{
+    head_by(file, at, is_stripped(file))
+}
+
+// An instrument with its samples: its first fault, or what the walk needs of it.
 pub fn read_instrument(file: &[u8], at: usize) -> InstrumentStep
     requires { ⌜ at ≤ length (now file) ⌝ }
     requires { ⌜ length (now file) ≤ fileMost ⌝ }
     ensures { λ r. ⌜ r ≡ instrumentStep at (readInstrument (kindAt (now (file .entry))) at (drop at (now (file .entry)))) ⌝ }
 {
-    let fault = fault_in_front(file, at);
+    let stripped = is_stripped(file);
+    let fault = fault_by(file, at, stripped);
     if fault != 0 {
         return InstrumentStep::Refused(Fault {
             number: fault,
             place: at,
         });
     }
-    let head = instrument_head(file, at);
+    let head = head_by(file, at, stripped);
     let step = read_samples(file, head.heads, head.head_size, head.samples);
     let Step::Next(next) = step else {
         return InstrumentStep::Refused(fault_of(step));

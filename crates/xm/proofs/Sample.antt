@@ -7,7 +7,7 @@ use mathlib.Core.Path.{_≡_, refl, sym, ap, _∙_}
 use native.Mathlib.Nat.{zero-mul, suc-mul}
 use native.Mathlib.Omega.{arith}
 use lib.ListN.{length, take, drop, replicate, length-append, length-take}
-use lib.Seq.{length-take-le, take-at, take-take}
+use lib.Seq.{length-take-le, take-at}
 use Rattle.xm.specs.Number.{part}
 use Rattle.xm.specs.Got.{got, refused, AllHold, present, unlike, when, _at_, Got, _>>=_}
 use Rattle.xm.specs.Format.{each, All, EachGood, joined}
@@ -18,7 +18,7 @@ use Rattle.xm.specs.Demands.{NumbersFit, ThirteenExactly}
 use Rattle.xm.proofs.Number.{bytes-take, agree-take}
 use Rattle.xm.proofs.Got.{got-never, test-holds, pass, passed, bind-got, got-by, got-value, got-carry}
 use Rattle.xm.proofs.Answer.{tests-fail}
-use Rattle.xm.proofs.Cut.{padded-length, padded-bytes, padded-all, padded-long, padded-trimmed, trimmed-le, cut-same}
+use Rattle.xm.proofs.Cut.{padded-length, padded-bytes, padded-all, padded-trimmed, trimmed-le, cut-same}
 use Rattle.xm.proofs.Format.{Back, Keeps, Held, Adjoins, Firm, Tells, then-back, then-keeps, then-adjoins, then-firm, then-tells, each-back, each-keeps, each-adjoins, each-firm, each-tells, many-back, many-keeps, many-adjoins, many-firm, many-tells, all}
 
 -- 13, behind 12
@@ -59,10 +59,6 @@ front-bytes kept x rest e h l =
 
 whole-bytes : (x rest : List ℕ) → length x ≡ leastHead → headBytes leastHead (x ++ rest) ≡ x
 whole-bytes x rest e = ap (padded leastHead) (take-at x rest leastHead e) ∙ ap (λ (n : ℕ). padded n x) (sym e) ∙ padded-all x
-
--- and for code: of a header of 40 bytes or more, the first 40
-pub head-whole : (size : ℕ) (s : List ℕ) → leastHead ≤ size → size ≤ length s → headBytes size s ≡ take leastHead s
-head-whole size s l h = padded-long leastHead (take size s) (omega (arith, length-take-le size s h)) ∙ take-take leastHead size s l
 
 -- Sample headers
 pub head-back : Back headFormat leastHead
