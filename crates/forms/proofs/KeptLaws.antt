@@ -146,8 +146,25 @@ pub record HeadsLeft (file : List ℕ) (heads size count head most left : ℕ) :
   pub low : most ≤ leastHead
   pub same : max most (smallestHead (headsFrom left size (drop head file))) ≡ smallestHead (headsFrom count size (drop heads file))
 
-head-kept : (size : ℕ) (s : List ℕ) → length (trimmed (headBytes size s)) ≡ length (trimmed (part 0 leastHead (take size s)))
-head-kept size s = ap length (padded-cut leastHead (take size s))
+before-most : (most byte : ℕ) (s : List ℕ) → max (suc most) (length (before byte s)) ≡ suc (max most (length s))
+unfolding before
+before-most most zero [] = omega arith
+before-most most zero (b ∷ s) = omega arith
+before-most most (suc byte) s = omega arith
+
+-- of one header, what lies beyond the most so far
+beyond-most : (most : ℕ) (s : List ℕ) → max most (length (trimmed s)) ≡ most + length (trimmed (drop most s))
+unfolding trimmed
+beyond-most zero s = omega arith
+beyond-most (suc most) [] = omega arith
+beyond-most (suc most) (b ∷ s) = before-most most b (trimmed s) ∙ omega (arith, beyond-most most s)
+
+head-beyond : (most size : ℕ) (s : List ℕ) → most ≤ leastHead
+    → max most (length (trimmed (headBytes size s))) ≡ most + length (trimmed (part most (leastHead - most) (take size s)))
+head-beyond most size s low =
+    ap (λ (l : List ℕ). max most (length l)) (padded-cut leastHead (take size s))
+    ∙ beyond-most most (take leastHead (take size s))
+    ∙ ap (λ (l : List ℕ). most + length (trimmed l)) (drop-take most leastHead (take size s) low)
 
 smallest-more : (left size : ℕ) (s : List ℕ) → 0 < left
     → smallestHead (headsFrom left size s) ≡ max (length (trimmed (headBytes size s))) (smallestHead (headsFrom (left - 1) size (drop size s)))
@@ -176,15 +193,15 @@ module _ {file : List ℕ} {heads size count head most left : ℕ} (w : HeadsLef
     pub head-inside : head + size ≤ length file
     head-inside = omega (arith, w .inside, less)
 
-    pub heads-on : {one next : ℕ} → one ≡ length (trimmed (part 0 (40 - 0) (take size (drop head file)))) → one ≤ 40 - 0 → next ≡ max most one
+    pub heads-on : {more next : ℕ} → more ≡ length (trimmed (part most (leastHead - most) (take size (drop head file)))) → more ≤ leastHead - most → next ≡ most + more
         → HeadsLeft file heads size count (head + size) next (left - 1)
-    heads-on {one} {next} e l q =
+    heads-on e l q =
         let rest : smallestHead (headsFrom (left - 1) size (drop size (drop head file))) ≡ smallestHead (headsFrom (left - 1) size (drop (head + size) file)) =
         ap (λ (s : List ℕ). smallestHead (headsFrom (left - 1) size s)) (drop-drop size head file) in
-        let this : length (trimmed (headBytes size (drop head file))) ≡ one = head-kept size (drop head file) ∙ sym e in
-        let more = smallest-more left size (drop head file) some in
+        let this = head-beyond most size (drop head file) (w .low) in
+        let ahead = smallest-more left size (drop head file) some in
         record {
           inside = omega (arith, w .inside, less);
           low = omega (arith, w .low);
-          same = omega (arith, w .same, more, rest, this, q);
+          same = omega (arith, w .same, ahead, rest, this, e, q);
         }

@@ -2,7 +2,7 @@
 // from the end of the fields back to the last byte that is not 0.
 use steps::instrument::InstrumentPart;
 ghost use mathlib.Core.Path.{_≡_};
-ghost use Prim.Native.Nat.{_+_, _-_, _*_, _≤_, max};
+ghost use Prim.Native.Nat.{_+_, _-_, _*_, _≤_};
 ghost use lib.ListN.{length, take, drop};
 ghost use Rattle.xm.specs.Number.{part};
 ghost use Rattle.xm.specs.ModuleKind.{kindBy, padded, trimmed};
@@ -53,13 +53,7 @@ fn kept_in(file: &[u8], at: usize, size: usize, from: usize, to: usize) -> usize
     kept(file, at + from, size - from)
 }
 
-fn larger(one: usize, other: usize) -> usize
-    ensures { λ r. ⌜ r ≡ max one other ⌝ }
-{
-    if one < other { other } else { one }
-}
-
-// The smallest H of `count` headers, each of `size` bytes.
+// The smallest H of `count` headers, each of `size` bytes: of one after the other only what lies beyond the most so far is looked at.
 fn smallest_head(file: &[u8], heads: usize, size: usize, count: usize) -> usize
     requires { ⌜ heads + count * size ≤ length (now file) ⌝ }
     ensures { λ r. ⌜ r ≡ smallestHead (headsFrom count size (drop heads (now (file .entry)))) ⌝ }
@@ -69,7 +63,7 @@ fn smallest_head(file: &[u8], heads: usize, size: usize, count: usize) -> usize
     let mut most: usize = 0;
     let mut left = count;
     while 0 < left {
-        most = larger(most, kept_in(file, head, size, 0, 40));
+        most += kept_in(file, head, size, most, 40);
         head += size;
         left -= 1;
     }

@@ -12,9 +12,7 @@ abbrev μ-loop : tie.MeasureT-loop
 μ-loop file heads size count head₀ most₀ left₀ head most left = left
 
 loop-again : tie.Need-loop-again Inv-loop μ-loop
-loop-again c =
-    let k = c .before in
-    heads-on (k .before .before .loop .inv) (k .before .loop-test .taken) (k .kept-in .ensures .0) (k .kept-in .ensures .1) (omega (arith, c .larger .ensures))
+loop-again c = heads-on (c .before .before .loop .inv) (c .before .loop-test .taken) (c .kept-in .ensures .0) (c .kept-in .ensures .1) (omega arith)
 
 pub smallest-head-spec : {M : Type 1} → statement M
 smallest-head-spec =
@@ -23,9 +21,9 @@ smallest-head-spec =
     Inv-loop
     μ-loop
     (λ c. heads-start (c .before .pre))
-    (λ c κs. (head-inside (c .before .loop .inv) (c .loop-test .taken), omega arith))
-    (search needs)
-    (λ c. omega (arith, head-inside (c .before .before .before .loop .inv) (c .before .before .loop-test .taken)))
+    (λ c κs. (head-inside (c .before .loop .inv) (c .loop-test .taken), c .before .loop .inv .low))
+    (λ c. omega (arith, c .before .before .loop .inv .low, c .kept-in .ensures .1))
+    (λ c. omega (arith, head-inside (c .before .before .loop .inv) (c .before .loop-test .taken)))
     (omega arith)
     (omega arith)
     loop-again
