@@ -44,13 +44,13 @@
    Stack is what a call takes below its caller's, return address included: the most that was measured on x86-64.
 
        call       stack, bytes    time grows with
-       check               464    file_len: what stands in headers and patterns is read once, sample data are passed over
+       check               384    file_len: what stands in headers and patterns is read once, sample data are passed over
        unpack              304    data_len + rows x channels
        pack                 72    cells_len
-       press               848    file_len: as the check, and once more what is written
-       to_normal           848    file_len: as the check, and once more what is written
-       to_stripped         848    file_len: as the check, and once more what is written
-       tables              608    file_len: as the check, and once more the headers
+       press               760    file_len: as the check, and once more what is written
+       to_normal           760    file_len: as the check, and once more what is written
+       to_stripped         760    file_len: as the check, and once more what is written
+       tables              544    file_len: as the check, and once more the headers
        decode               24    bytes_len
        code                 24    values_len
        adpcm                40    length
