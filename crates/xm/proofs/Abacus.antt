@@ -15,13 +15,14 @@ use Rattle.xm.specs.Cell.{lengthBy, fieldsBy, cellAt, readCell, kept, ma
 use Rattle.xm.specs.Stored.{readCells, readStored, allZero, needsNoData, writeStored, cellsOf}
 use Rattle.xm.specs.Header.{kindAt, restartInside, restartOf, trackerAt, readHeader, writeHeader}
 use Rattle.xm.specs.PatternInFile.{PatternFound, readPattern, writePattern}
-use Rattle.xm.specs.Sample.{Stretch, headBytes, lengthOf, loopKind, loopFrom, loopCount, adpcm, dataSize, readHead, readData, smallestHead}
+use Rattle.xm.specs.Sample.{Stretch, Samples, headBytes, lengthOf, loopKind, loopFrom, loopCount, adpcm, dataSize, readHead, readData, smallestHead}
 use Rattle.xm.specs.Instrument.{InstrumentFound, countAt, fieldsOf, readInstrument, writeVoice, writeFields, writeInstrument, instrumentFormat}
 use Rattle.xm.specs.Module.{readWhole, plays}
 use Rattle.xm.specs.Packing.{unpacking, unpackNumbers, unpackAfter, packing, packNumbers, packLoader}
 use Rattle.xm.specs.Delta.{pairs, storedNumbers, sums, decoded, decoding, decodeNumbers}
 use Rattle.xm.specs.Adpcm.{halves, chosen, adpcmDecoded}
-use Rattle.xm.specs.Table.{patternRow, sampleRowAt, InstrumentRow, instrumentRowsFrom, checking, checkNumbers, checkingInto, checkIntoLoader, patternNumbers, sampleNumbers}
+use Rattle.xm.specs.Table.{patternRow, sampleRowAt, InstrumentRow, instrumentRowsFrom, checking}
+use Rattle.xm.specs.Table.{checkNumbers, checkingInto, checkIntoLoader, patternNumbers, sampleNumbers}
 use Rattle.xm.specs.Asking.{asking, askNumbers, askingFlat}
 use Rattle.xm.specs.Structure.{kindNumber, structuresOf, Standing, stands, ended, handHead, handOver}
 use Rattle.xm.specs.Press.{pressed}
@@ -31,7 +32,9 @@ use Rattle.xm.specs.Worked.{headed, small, nothing, counted, five, sampl
 use Rattle.xm.specs.Wrong.{song}
 
 -- A note of 200 is read whole; a full cell with a note of 128 is written marked, in six bytes, and with one of 127 plain
-pub high-notes : (cellAt (0x81 ∷ 200 ∷ []) ≡ 200 ∷ 0 ∷ 0 ∷ 0 ∷ 0 ∷ []) × (writeCell (128 ∷ 1 ∷ 2 ∷ 3 ∷ 4 ∷ []) ≡ 0x9F ∷ 128 ∷ 1 ∷ 2 ∷ 3 ∷ 4 ∷ []) × (writeCell (127 ∷ 1 ∷ 2 ∷ 3 ∷ 4 ∷ []) ≡ 127 ∷ 1 ∷ 2 ∷ 3 ∷ 4 ∷ [])
+pub high-notes : (cellAt (0x81 ∷ 200 ∷ []) ≡ 200 ∷ 0 ∷ 0 ∷ 0 ∷ 0 ∷ [])
+    × (writeCell (128 ∷ 1 ∷ 2 ∷ 3 ∷ 4 ∷ []) ≡ 0x9F ∷ 128 ∷ 1 ∷ 2 ∷ 3 ∷ 4 ∷ [])
+    × (writeCell (127 ∷ 1 ∷ 2 ∷ 3 ∷ 4 ∷ []) ≡ 127 ∷ 1 ∷ 2 ∷ 3 ∷ 4 ∷ [])
 unfolding cellAt fieldsBy writeCell goesPlain plainBy standsPlain plainShorter marked kepts marks kept
 high-notes = (refl, refl, refl)
 
@@ -41,7 +44,9 @@ numbersIn f (got a n) = n ∷ f a
 numbersIn f (refused r) = []
 
 -- A pattern at 100, whose header has ten bytes and whose data has one: its row says 110, one byte, one row
-pub long-header : numbersIn (λ (i : PatternFound). patternNumbers (patternRow i)) (readPattern 1 100 (10 ∷ 0 ∷ 0 ∷ 0 ∷ 0 ∷ 1 ∷ 0 ∷ 1 ∷ 0 ∷ 0 ∷ 0x80 ∷ [])) ≡ 11 ∷ 110 ∷ 1 ∷ 1 ∷ []
+pub long-header : numbersIn (λ (i : PatternFound). patternNumbers (patternRow i))
+    (readPattern 1 100 (10 ∷ 0 ∷ 0 ∷ 0 ∷ 0 ∷ 1 ∷ 0 ∷ 1 ∷ 0 ∷ 0 ∷ 0x80 ∷ []))
+    ≡ 11 ∷ 110 ∷ 1 ∷ 1 ∷ []
 unfolding readPattern _>>=_ _>>_ ensure checked readStored readCells readCell cellAt fieldsBy lengthBy ones onesIn wordAt longAt
 long-header = refl
 
@@ -73,7 +78,8 @@ adpcm-heads = refl
 
 -- A row's bytes, width and loop. In samples: forward at 16 bits, from byte 2 for 4 bytes; both ways at 8 bits; in five values of kind AD. All 0:
 -- with a loop length of 0, and with loop bits of 0
-pub loop-columns : map (λ (head : List ℕ). drop 2 (sampleNumbers (sampleRowAt 0 0 head))) (sampleHead 8 2 4 17 0 ∷ sampleHead 8 2 4 2 0 ∷ sampleHead 5 2 3 1 adpcm ∷ sampleHead 8 2 0 1 0 ∷ sampleHead 8 2 4 16 0 ∷ [])
+pub loop-columns : map (λ (head : List ℕ). drop 2 (sampleNumbers (sampleRowAt 0 0 head)))
+    (sampleHead 8 2 4 17 0 ∷ sampleHead 8 2 4 2 0 ∷ sampleHead 5 2 3 1 adpcm ∷ sampleHead 8 2 0 1 0 ∷ sampleHead 8 2 4 16 0 ∷ [])
     ≡ (8 ∷ 16 ∷ 1 ∷ 1 ∷ 2 ∷ []) ∷ (8 ∷ 8 ∷ 2 ∷ 2 ∷ 4 ∷ []) ∷ (19 ∷ 8 ∷ 1 ∷ 2 ∷ 3 ∷ []) ∷ (8 ∷ 8 ∷ 0 ∷ 0 ∷ 0 ∷ []) ∷ (8 ∷ 16 ∷ 0 ∷ 0 ∷ 0 ∷ []) ∷ []
 unfolding dataSize loopKind loopFrom loopCount longAt
 loop-columns = refl
@@ -84,7 +90,9 @@ abbrev numberOf : {A : Type 0} → Got A → ℕ
 numberOf (got a n) = 0
 numberOf (refused r) = r .number
 
-pub odd-loops : map (λ (head : List ℕ). numberOf (readHead 40 0 head)) (sampleHead 8 1 2 17 0 ∷ sampleHead 8 2 3 18 0 ∷ sampleHead 8 1 3 17 adpcm ∷ sampleHead 8 1 3 1 0 ∷ sampleHead 8 1 3 16 0 ∷ sampleHead 8 1 0 17 0 ∷ sampleHead 8 2 4 3 0 ∷ [])
+pub odd-loops : map (λ (head : List ℕ). numberOf (readHead 40 0 head))
+    (sampleHead 8 1 2 17 0 ∷ sampleHead 8 2 3 18 0 ∷ sampleHead 8 1 3 17 adpcm
+    ∷ sampleHead 8 1 3 1 0 ∷ sampleHead 8 1 3 16 0 ∷ sampleHead 8 1 0 17 0 ∷ sampleHead 8 2 4 3 0 ∷ [])
     ≡ 13 ∷ 13 ∷ 12 ∷ 0 ∷ 0 ∷ 0 ∷ 13 ∷ []
 unfolding readHead padded _>>_ ensure checked longAt
 odd-loops = refl
@@ -104,11 +112,16 @@ pub two-cells : writeStored (record { rows = 2; cells = (1 ∷ replicate 4 0) �
 unfolding writeStored needsNoData allZero writeCell goesPlain plainBy standsPlain plainShorter marked kepts marks kept ones onesIn
 two-cells = refl
 
-pub cells-packed : (packNumbers 2 1 (1 ∷ replicate 9 0) 3 ≡ 0 ∷ 0 ∷ 3 ∷ 2 ∷ []) × (packLoader 2 1 (1 ∷ replicate 9 0) 3 ≡ 131075) × (packNumbers 3 1 (replicate 15 0) 0 ≡ 0 ∷ 0 ∷ 0 ∷ 3 ∷ [])
-unfolding packing cellsOf _>>_ ensure checked writeStored needsNoData allZero writeCell goesPlain plainBy standsPlain plainShorter marked kepts marks kept ones onesIn loaderNumber
+pub cells-packed : (packNumbers 2 1 (1 ∷ replicate 9 0) 3 ≡ 0 ∷ 0 ∷ 3 ∷ 2 ∷ [])
+    × (packLoader 2 1 (1 ∷ replicate 9 0) 3 ≡ 131075)
+    × (packNumbers 3 1 (replicate 15 0) 0 ≡ 0 ∷ 0 ∷ 0 ∷ 3 ∷ [])
+unfolding packing cellsOf _>>_ ensure checked writeStored needsNoData allZero writeCell goesPlain plainBy standsPlain plainShorter marked kepts marks kept
+    ones onesIn loaderNumber
 cells-packed = (refl, refl, refl)
 
-pub three-unpacked : (unpackNumbers 3 1 [] 15 ≡ 0 ∷ 0 ∷ 3 ∷ []) × (unpackNumbers 3 1 (replicate 3 0x80) 15 ≡ 0 ∷ 0 ∷ 3 ∷ []) × (unpackAfter 1 1 (0x80 ∷ []) (replicate 6 7) ≡ 0 ∷ 0 ∷ 0 ∷ 0 ∷ 0 ∷ 7 ∷ [])
+pub three-unpacked : (unpackNumbers 3 1 [] 15 ≡ 0 ∷ 0 ∷ 3 ∷ [])
+    × (unpackNumbers 3 1 (replicate 3 0x80) 15 ≡ 0 ∷ 0 ∷ 3 ∷ [])
+    × (unpackAfter 1 1 (0x80 ∷ []) (replicate 6 7) ≡ 0 ∷ 0 ∷ 0 ∷ 0 ∷ 0 ∷ 7 ∷ [])
 unfolding unpacking _>>=_ _>>_ ensure checked readStored readCells readCell cellAt fieldsBy lengthBy ones onesIn
 three-unpacked = (refl, refl, refl)
 
@@ -116,7 +129,8 @@ three-unpacked = (refl, refl, refl)
 abbrev pub bare : InstrumentFound
 bare = record { place = 0; size = 29; name = []; type = 0; voice = []; samples = ([], []) }
 
-pub no-samples : (map Region.size (instrumentFormat normal .regions bare) ≡ 29 ∷ []) × (map InstrumentRow.first (instrumentRowsFrom 0 (bare ∷ bare ∷ [])) ≡ 0 ∷ 0 ∷ [])
+pub no-samples : (map Region.size (instrumentFormat normal .regions bare) ≡ 29 ∷ [])
+    × (map InstrumentRow.first (instrumentRowsFrom 0 (bare ∷ bare ∷ [])) ≡ 0 ∷ 0 ∷ [])
 no-samples = (refl, refl)
 
 -- One byte at 2 is asked for by the numbers of its row
@@ -125,7 +139,9 @@ unfolding asking _>>_ ensure checked dataSize loopKind loopFrom loopCount longAt
 one-asked = refl
 
 -- Three kinds are handed over; of two sample headers one is left
-pub three-kinds : map (λ (r : Region). kindNumber (r .kind)) (structuresOf (map (λ (k : Kind). record { kind = k; place = 0; size = 0 }) (header ∷ patternHeader ∷ patternData ∷ instrument ∷ sampleHeader ∷ sampleData ∷ []))) ≡ 1 ∷ 3 ∷ 4 ∷ []
+pub three-kinds :
+    let kinds = header ∷ patternHeader ∷ patternData ∷ instrument ∷ sampleHeader ∷ sampleData ∷ [] in
+    map (λ (r : Region). kindNumber (r .kind)) (structuresOf (map (λ (k : Kind). record { kind = k; place = 0; size = 0 }) kinds)) ≡ 1 ∷ 3 ∷ 4 ∷ []
 three-kinds = refl
 
 pub one-left : handHead (record { patterns = 0; instruments = 0; place = 0; heads = 2; head = 0; headSize = 40 }) .ahead .heads ≡ 1
@@ -152,8 +168,12 @@ unfolding plays
 two-channels = refl
 
 -- No bytes are refused; the song's file is read to its end, with and without tables
-pub song-checked : (checkNumbers [] ≡ 1 ∷ 0 ∷ 0 ∷ 0 ∷ 0 ∷ 0 ∷ 0 ∷ []) × (checkNumbers (pressed normal song) ≡ 0 ∷ 0 ∷ 662 ∷ 1 ∷ 2 ∷ 1 ∷ 1 ∷ []) × (checkIntoLoader (record { patterns = 2; instruments = 1; samples = 1 }) (pressed normal song) ≡ 662)
-unfolding checking checkingInto loaderNumber readWhole _>>=_ _>>_ ensure checked kindAt restartInside restartOf readHeader writeHeader readPattern writePattern readStored readCells readCell cellAt fieldsBy lengthBy ones onesIn writeStored needsNoData allZero writeCell goesPlain plainBy standsPlain plainShorter marked kepts marks kept readHead readData readInstrument writeVoice writeInstrument wordAt longAt padded dataSize
+pub song-checked : (checkNumbers [] ≡ 1 ∷ 0 ∷ 0 ∷ 0 ∷ 0 ∷ 0 ∷ 0 ∷ [])
+    × (checkNumbers (pressed normal song) ≡ 0 ∷ 0 ∷ 662 ∷ 1 ∷ 2 ∷ 1 ∷ 1 ∷ [])
+    × (checkIntoLoader (record { patterns = 2; instruments = 1; samples = 1 }) (pressed normal song) ≡ 662)
+unfolding checking checkingInto loaderNumber readWhole _>>=_ _>>_ ensure checked kindAt restartInside restartOf readHeader writeHeader readPattern
+    writePattern readStored readCells readCell cellAt fieldsBy lengthBy ones onesIn writeStored needsNoData allZero writeCell goesPlain plainBy standsPlain
+    plainShorter marked kepts marks kept readHead readData readInstrument writeVoice writeInstrument wordAt longAt padded dataSize
 song-checked = (refl, refl, refl)
 
 -- A stripped header of one order: by its mark, version and header size it is refused with 4, read, refused with 4 as a normal one, and refused with
@@ -161,7 +181,9 @@ song-checked = (refl, refl, refl)
 abbrev headerBy : (mark version size : ℕ) → List ℕ
 headerBy mark version size = headed mark version size 0 (replicate 17 1) (replicate 20 1) (replicate 1 0)
 
-pub header-kinds : (map (λ (s : List ℕ). numberOf (readHeader (kindAt s) 0 s)) (headerBy 0 0 20 ∷ headerBy 0 0 21 ∷ headerBy 0x1A 0x0104 21 ∷ headerBy 0 0x0104 21 ∷ headerBy 0x1A 0 21 ∷ []) ≡ 4 ∷ 0 ∷ 4 ∷ 3 ∷ 3 ∷ [])
+pub header-kinds : (map (λ (s : List ℕ). numberOf (readHeader (kindAt s) 0 s))
+    (headerBy 0 0 20 ∷ headerBy 0 0 21 ∷ headerBy 0x1A 0x0104 21 ∷ headerBy 0 0x0104 21 ∷ headerBy 0x1A 0 21 ∷ [])
+    ≡ 4 ∷ 0 ∷ 4 ∷ 3 ∷ 3 ∷ [])
     × (trackerAt stripped (headerBy 0 0 21) ≡ replicate 20 0)
     × (map (λ (kind : ModuleKind). length (writeHeader kind (song .0))) (normal ∷ stripped ∷ []) ≡ 336 ∷ 81 ∷ [])
 unfolding kindAt readHeader writeHeader _>>_ ensure checked restartInside restartOf wordAt longAt
@@ -176,16 +198,20 @@ cut-off = (refl, refl)
 
 -- Stripped instruments: 1 of three bytes, 10 of I = 3, 1 of I = 5 in four bytes, 1 of I = 40 in 28 bytes before the 10 of 17 samples; 16 samples with
 -- no H are read, and so is I = 4; an H of 41 that is not there gets 1
-pub stripped-refused : map (λ (s : List ℕ). numberOf (readInstrument stripped 0 s)) ((4 ∷ 0 ∷ 0 ∷ []) ∷ long 3 ∷ long 5 ∷ counted 40 17 ∷ counted 28 17 ∷ counted 28 16 ∷ nothing ∷ sampled 41 [] [] ∷ [])
+pub stripped-refused : map (λ (s : List ℕ). numberOf (readInstrument stripped 0 s))
+    ((4 ∷ 0 ∷ 0 ∷ []) ∷ long 3 ∷ long 5 ∷ counted 40 17 ∷ counted 28 17 ∷ counted 28 16 ∷ nothing ∷ sampled 41 [] [] ∷ [])
     ≡ 1 ∷ 10 ∷ 1 ∷ 1 ∷ 10 ∷ 0 ∷ 0 ∷ 1 ∷ []
 unfolding readInstrument readHead readData dataSize padded _>>=_ _>>_ ensure checked wordAt longAt
 stripped-refused = refl
 
--- The smallest H is the one of the longest header: of no bytes, of one and of 18; and an instrument without samples is written in four bytes, one with a sample of
--- five in 36, with I = 30
-pub smallest : (map smallestHead ((replicate 40 0 ∷ []) ∷ (replicate 40 0 ∷ sampleHead 5 0 0 0 0 ∷ []) ∷ (adpcmHead 1 0 ∷ sampleHead 5 0 0 0 0 ∷ []) ∷ []) ≡ 0 ∷ 1 ∷ 18 ∷ [])
+-- The smallest H is the one of the longest header: of no bytes, of one and of 18; and an instrument without samples is written in four bytes,
+-- one with a sample of five in 36, with I = 30
+pub smallest : (map smallestHead
+    ((replicate 40 0 ∷ []) ∷ (replicate 40 0 ∷ sampleHead 5 0 0 0 0 ∷ []) ∷ (adpcmHead 1 0 ∷ sampleHead 5 0 0 0 0 ∷ []) ∷ [])
+    ≡ 0 ∷ 1 ∷ 18 ∷ [])
     × (writeInstrument stripped (record { name = replicate 22 0; type = 0; voice = []; samples = ([], []) }) ≡ nothing)
-    × (writeInstrument stripped (record { name = replicate 22 0; type = 0; voice = replicate 208 0; samples = (sampleHead 5 0 0 0 0 ∷ [], (1 ∷ 2 ∷ 3 ∷ 4 ∷ 5 ∷ []) ∷ []) }) ≡ five)
+    × (let samples : Samples = (sampleHead 5 0 0 0 0 ∷ [], (1 ∷ 2 ∷ 3 ∷ 4 ∷ 5 ∷ []) ∷ []) in
+    writeInstrument stripped (record { name = replicate 22 0; type = 0; voice = replicate 208 0; samples = samples }) ≡ five)
 unfolding smallestHead writeInstrument writeFields trimmed before
 smallest = (refl, refl, refl)
 
@@ -194,13 +220,17 @@ abbrev placeIn : Standing → ℕ
 placeIn (stands kind place) = place
 placeIn ended = 0
 
-pub handed-over : (placeIn (handOver (small stripped 0) (record { patterns = 0; instruments = 0; place = 90; heads = 2; head = 90; headSize = 0 }) .standing) ≡ 90)
+pub handed-over :
+    (placeIn (handOver (small stripped 0) (record { patterns = 0; instruments = 0; place = 90; heads = 2; head = 90; headSize = 0 }) .standing) ≡ 90)
     × (placeIn (handOver (small stripped 0 ++ noted) (record { patterns = 0; instruments = 1; place = 90; heads = 0; head = 0; headSize = 0 }) .standing) ≡ 90)
 unfolding handOver kindAt readInstrument readHead readData dataSize padded _>>=_ _>>_ ensure checked wordAt longAt
 handed-over = (refl, refl)
 
 -- A conversion takes the tracker name away and writes the 81 bytes of a header and nine of a pattern; 2 is tried before 14, and 14 within the limit
-pub converted-small : (listIn (λ (x : List ℕ). length x ∷ byteAt 38 x ∷ []) (converting stripped (headed 0x1A 0x0104 276 0 (replicate 17 1) (replicate 20 1) (replicate 256 0)) 1000) ≡ 90 ∷ 0 ∷ [])
+pub converted-small : (listIn (λ (x : List ℕ). length x ∷ byteAt 38 x ∷ [])
+    (converting stripped (headed 0x1A 0x0104 276 0 (replicate 17 1) (replicate 20 1) (replicate 256 0)) 1000)
+    ≡ 90 ∷ 0 ∷ [])
     × (map (λ (size : ℕ). numberOf (checked (convertTests size 16777215))) (16777217 ∷ 16777216 ∷ 16777215 ∷ []) ≡ 2 ∷ 14 ∷ 0 ∷ [])
-unfolding converting readWhole _>>=_ _>>_ ensure checked kindAt restartInside restartOf readHeader writeHeader readPattern writePattern readStored writeStored needsNoData allZero wordAt longAt
+unfolding converting readWhole _>>=_ _>>_ ensure checked kindAt restartInside restartOf readHeader writeHeader readPattern writePattern readStored writeStored
+    needsNoData allZero wordAt longAt
 converted-small = (refl, refl)

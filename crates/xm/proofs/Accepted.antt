@@ -14,17 +14,20 @@ use Rattle.xm.specs.Format.{sampleHeader, sampleData, joined, EachGood, 
 use Rattle.xm.specs.ModuleKind.{ModuleKind, normal}
 use Rattle.xm.specs.Got.{got}
 use Rattle.xm.specs.PatternInFile.{PatternFound, GoodStored, patternFormat}
-use Rattle.xm.specs.Sample.{leastHead, Stretch, lengthOf, loopStart, loopLength, loopBits, isWide, loops, loopKind, loopFrom, loopCount, headBytes, kindOf, dataSize}
+use Rattle.xm.specs.Sample.{leastHead, Stretch, lengthOf, loopStart, loopLength, loopBits, isWide}
+use Rattle.xm.specs.Sample.{loops, loopKind, loopFrom, loopCount, headBytes, kindOf, dataSize}
 use Rattle.xm.specs.Header.{kindAt}
 use Rattle.xm.specs.Instrument.{Instrument, InstrumentFound, instrumentView}
 use Rattle.xm.specs.Module.{Found, patternsFor, moduleFormat, regionsOf}
 use Rattle.xm.specs.Adpcm.{decodingBy, valuesOf}
-use Rattle.xm.specs.Table.{SampleRow, patternRow, sampleCount, instrumentRowsFrom, sampleRow, sampleRowsOf, sampleRowsIn, sampleRows, sampleStride, sampleNumbers}
+use Rattle.xm.specs.Table.{SampleRow, patternRow, sampleCount, instrumentRowsFrom, sampleRow}
+use Rattle.xm.specs.Table.{sampleRowsOf, sampleRowsIn, sampleRows, sampleStride, sampleNumbers}
 use Rattle.xm.specs.Press.{contentOf}
 use Rattle.xm.specs.Answer.{gives}
 use Rattle.xm.specs.Region.{ofKind}
 use Rattle.xm.specs.Asking.{Lies, asking, stretchOf, askingFlat, askingRows, noRow, liesOf}
-use Rattle.xm.specs.Demands.{headsIn, bytesIn, RowUnpacks, RowsUnpack, FindsRows, HeadStands, HeadsStand, EachSample, RowReads, LoopReads, RowLoops, RowDecodes, liesAt, Asked, AsksExactly, LoopInside, AcceptedFile, AcceptedFiles}
+use Rattle.xm.specs.Demands.{headsIn, bytesIn, RowUnpacks, RowsUnpack, FindsRows, HeadStands, HeadsStand, EachSample, RowReads}
+use Rattle.xm.specs.Demands.{LoopReads, RowLoops, RowDecodes, liesAt, Asked, AsksExactly, LoopInside, AcceptedFile, AcceptedFiles}
 use Rattle.xm.proofs.Cut.{padded-at, byte-cut}
 use Rattle.xm.proofs.Got.{pass}
 use Rattle.xm.proofs.Answer.{answer-gives, answer-refuses, tests-fail}
@@ -85,20 +88,24 @@ all-stand file (i ∷ is) t = some-stand file (i .samples .0) _ _ (t .0 .heads) 
 -- What holds of each sample that is found holds of each row with its header and data
 module _ (file : List ℕ) (P : SampleRow → (head bytes : List ℕ) → Type 0)
     (one : (h b : Stretch) → HeadTold file h → DataTold file b → b .size ≡ dataSize (h .bytes) → P (sampleRow h b) (h .bytes) (b .bytes)) where
-  some-samples : (heads bytes : List Stretch) (rows : List SampleRow) (hs bs : List (List ℕ)) → All (HeadTold file) heads → All (DataTold file) bytes → Sized (map Stretch.bytes heads) bytes
-      → EachSample P rows hs bs → EachSample P (sampleRowsOf heads bytes ++ rows) (map Stretch.bytes heads ++ hs) (map Stretch.bytes bytes ++ bs)
+  some-samples : (heads bytes : List Stretch) (rows : List SampleRow) (hs bs : List (List ℕ))
+      → All (HeadTold file) heads → All (DataTold file) bytes → Sized (map Stretch.bytes heads) bytes → EachSample P rows hs bs
+      → EachSample P (sampleRowsOf heads bytes ++ rows) (map Stretch.bytes heads ++ hs) (map Stretch.bytes bytes ++ bs)
   some-samples [] [] rows hs bs t d z r = r
   some-samples [] (b ∷ bytes) rows hs bs t d z r = absurd z
   some-samples (h ∷ heads) [] rows hs bs t d z r = absurd z
   some-samples (h ∷ heads) (b ∷ bytes) rows hs bs t d z r = (one h b (t .0) (d .0) (z .0), some-samples heads bytes rows hs bs (t .1) (d .1) (z .1) r)
 
   all-samples : (is : List InstrumentFound) → All (λ (i : InstrumentFound). SamplesTold file (i .samples)) is
-      → EachSample P (joined sampleRowsIn is) (joined (λ (i : InstrumentFound). map Stretch.bytes (i .samples .0)) is) (joined (λ (i : InstrumentFound). map Stretch.bytes (i .samples .1)) is)
+      → EachSample P (joined sampleRowsIn is)
+      (joined (λ (i : InstrumentFound). map Stretch.bytes (i .samples .0)) is)
+      (joined (λ (i : InstrumentFound). map Stretch.bytes (i .samples .1)) is)
   all-samples [] t = tt
   all-samples (i ∷ is) t = some-samples (i .samples .0) (i .samples .1) _ _ _ (t .0 .heads) (t .0 .bytes) (t .0 .sizes) (all-samples is (t .1))
 
   content-samples : (is : List InstrumentFound) → All (λ (i : InstrumentFound). SamplesTold file (i .samples)) is
-      → EachSample P (joined sampleRowsIn is) (joined (λ (x : Instrument). x .samples .0) (map instrumentView is)) (joined (λ (x : Instrument). x .samples .1) (map instrumentView is))
+      → let content = map instrumentView is in
+      EachSample P (joined sampleRowsIn is) (joined (λ (x : Instrument). x .samples .0) content) (joined (λ (x : Instrument). x .samples .1) content)
   content-samples is t = rw (joined-map _ instrumentView is, joined-map _ instrumentView is) (all-samples is t)
 
 -- A row says what its header says
@@ -107,7 +114,8 @@ unfolding dataSize
 row-reads h b = (refl, refl, refl, refl)
 
 -- A count of bytes that is even at 16 bits is a whole count of samples; and a loop inside a length is inside it in samples
-samples-whole : (loop wide : Bool) (n : ℕ) → (wide ≡ true → loop ≡ true → n % 2 ≡ 0) → cond loop (n / (cond wide 16 8 / 8)) 0 * (cond wide 16 8 / 8) ≡ cond loop n 0
+samples-whole : (loop wide : Bool) (n : ℕ) → (wide ≡ true → loop ≡ true → n % 2 ≡ 0)
+    → cond loop (n / (cond wide 16 8 / 8)) 0 * (cond wide 16 8 / 8) ≡ cond loop n 0
 samples-whole true true n e = omega (arith, e refl refl)
 samples-whole true false n e = omega arith
 samples-whole false true n e = refl
@@ -135,15 +143,17 @@ row-loops file h b t =
     few false n = omega arith
 
 -- Its stretch is the data, and decodes
-row-decodes : (file : List ℕ) (h b : Stretch) → HeadTold file h → DataTold file b → b .size ≡ dataSize (h .bytes) → RowDecodes file (sampleRow h b) (h .bytes) (b .bytes)
+row-decodes : (file : List ℕ) (h b : Stretch) → HeadTold file h → DataTold file b → b .size ≡ dataSize (h .bytes)
+    → RowDecodes file (sampleRow h b) (h .bytes) (b .bytes)
 unfolding loopFrom loopCount
 row-decodes file h b t d z =
     let stretch : part (b .place) (dataSize (h .bytes)) file ≡ b .bytes = sym (d .bytes ∙ ap (λ (n : ℕ). part (b .place) n file) z) in
-    let counted = values-counted (h .bytes) (b .bytes) (d .long ∙ z) (t .tests) in (
+    let head = h .bytes in
+    let counted = values-counted head (b .bytes) (d .long ∙ z) (t .tests) in (
       stretch,
-      rw stretch (sample-decodes (h .bytes) (b .bytes) (d .long ∙ z) (t .tests)),
+      rw stretch (sample-decodes head (b .bytes) (d .long ∙ z) (t .tests)),
       counted,
-      rw counted (samples-inside (loops (h .bytes)) (isWide (h .bytes)) (loopStart (h .bytes)) (loopLength (h .bytes)) (lengthOf (h .bytes)) (t .tests .1 .1 .1 .0)),
+      rw counted (samples-inside (loops head) (isWide head) (loopStart head) (loopLength head) (lengthOf head) (t .tests .1 .1 .1 .0)),
     )
 
 -- An instrument's own rows stand where its row says
@@ -152,7 +162,8 @@ rows-length [] bytes z = refl
 rows-length (h ∷ hs) [] z = absurd z
 rows-length (h ∷ hs) (b ∷ bs) z = ap suc (rows-length hs bs (z .1))
 
-finds-rows : (file : List ℕ) (before : List SampleRow) (first : ℕ) (is : List InstrumentFound) → length before ≡ first → All (λ (i : InstrumentFound). SamplesTold file (i .samples)) is
+finds-rows : (file : List ℕ) (before : List SampleRow) (first : ℕ) (is : List InstrumentFound) → length before ≡ first
+    → All (λ (i : InstrumentFound). SamplesTold file (i .samples)) is
     → FindsRows (before ++ joined sampleRowsIn is) (instrumentRowsFrom first is) is
 finds-rows file before first [] e t = tt
 finds-rows file before first (i ∷ is) e t =
@@ -187,7 +198,8 @@ number-at stride numbers wide (r ∷ rs) none stale (suc n) k h l =
     ∙ number-at stride numbers wide rs none stale n k (omega arith) l
 
 -- What holds of each sample holds of the one with a number
-pub sample-at : (P : SampleRow → (head bytes : List ℕ) → Type 0) (rows : List SampleRow) (heads bytes : List (List ℕ)) (number : ℕ) → number < length rows → EachSample P rows heads bytes
+pub sample-at : (P : SampleRow → (head bytes : List ℕ) → Type 0) (rows : List SampleRow) (heads bytes : List (List ℕ)) (number : ℕ)
+    → number < length rows → EachSample P rows heads bytes
     → P (getD rows number noRow) (getD heads number []) (getD bytes number [])
 sample-at P [] heads bytes number h e = absurd (omega arith)
 sample-at P (row ∷ rows) [] bytes number h e = absurd e
@@ -195,7 +207,8 @@ sample-at P (row ∷ rows) (head ∷ heads) [] number h e = absurd e
 sample-at P (row ∷ rows) (head ∷ heads) (b ∷ bytes) zero h e = e .0
 sample-at P (row ∷ rows) (head ∷ heads) (b ∷ bytes) (suc number) h e = sample-at P rows heads bytes number (omega arith) (e .1)
 
-module _ (file : List ℕ) (rows : List SampleRow) (heads bytes : List (List ℕ)) (inside : All (λ (row : SampleRow). row .dataPlace + row .size ≤ length file) rows)
+module _ (file : List ℕ) (rows : List SampleRow) (heads bytes : List (List ℕ))
+    (inside : All (λ (row : SampleRow). row .dataPlace + row .size ≤ length file) rows)
     (decode : EachSample (RowDecodes file) rows heads bytes) where
   row-inside : (number : ℕ) → number < length rows → getD rows number noRow .dataPlace + getD rows number noRow .size ≤ length file
   row-inside number h = all-at (λ (row : SampleRow). row .dataPlace + row .size ≤ length file) rows number noRow inside h
@@ -203,8 +216,10 @@ module _ (file : List ℕ) (rows : List SampleRow) (heads bytes : List (List ℕ
   asked-flat : (stale : List ℕ) (number : ℕ) → number < length rows → askingFlat file (joined sampleNumbers rows ++ stale) number ≡ gives (liesAt rows number)
   asked-flat stale number h =
       let table = joined sampleNumbers rows ++ stale in
-      let lies : _≡_ {A = Lies} (record { place = getD table (sampleStride * number + 1) 0; size = getD table (sampleStride * number + 2) 0 }) (liesAt rows number) =
-      ap₂ (λ (p s : ℕ). record { place = p; size = s }) (number-at sampleStride sampleNumbers (λ row. refl) rows noRow stale number 1 h (omega arith)) (number-at sampleStride sampleNumbers (λ row. refl) rows noRow stale number 2 h (omega arith)) in
+      let start = sampleStride * number in
+      let column = number-at sampleStride sampleNumbers (λ row. refl) rows noRow stale number in
+      let lies : _≡_ {A = Lies} (record { place = getD table (start + 1) 0; size = getD table (start + 2) 0 }) (liesAt rows number) =
+      ap₂ (λ (p s : ℕ). record { place = p; size = s }) (column 1 h (omega arith)) (column 2 h (omega arith)) in
       ap (asking file (length table / sampleStride) number) lies
       ∙ asks-exactly file (length table / sampleStride) number (liesAt rows number) .0
       (omega (arith, length-append (joined sampleNumbers rows) stale, joined-length sampleStride sampleNumbers (λ row. refl) rows), row-inside number h)
@@ -236,7 +251,8 @@ row-unpacks file channels i low high t g = (
 )
 
 rows-unpack : (file : List ℕ) (channels : ℕ) (ps : List PatternFound) → 1 ≤ channels → channels ≤ 64 → All (PatternTold channels file) ps
-    → EachGood patternFormat (replicate (length ps) channels) (map PatternFound.content ps) → RowsUnpack file channels (map patternRow ps) (map PatternFound.content ps)
+    → EachGood patternFormat (replicate (length ps) channels) (map PatternFound.content ps)
+    → RowsUnpack file channels (map patternRow ps) (map PatternFound.content ps)
 rows-unpack file channels [] low high t g = tt
 rows-unpack file channels (p ∷ ps) low high t g = (row-unpacks file channels p low high (t .0) (g .0), rows-unpack file channels ps low high (t .1) (g .1))
 
@@ -249,7 +265,8 @@ normal-heads : (file : List ℕ) (found : Found) (end : ℕ) → Bytes file → 
     → All (λ (l : Lies). leastHead ≤ l .size) (joined (λ (i : InstrumentFound). map lies (i .samples .0)) (found .1 .1))
 normal-heads file found end b e =
     all-joined (λ (i : InstrumentFound). All (λ (h : Stretch). leastHead ≤ h .size) (i .samples .0)) _ _
-    (λ i w. all-map (λ (h : Stretch). leastHead ≤ h .size) _ lies (λ h l. l) (i .samples .0) w) (found .1 .1) (module-told normal normal-wide file found end b e .1)
+    (λ i w. all-map (λ (h : Stretch). leastHead ≤ h .size) _ lies (λ h l. l) (i .samples .0) w) (found .1 .1)
+    (module-told normal normal-wide file found end b e .1)
 
 pub accepted-files : AcceptedFiles
 accepted-files file found end b e =
@@ -259,7 +276,8 @@ accepted-files file found end b e =
     let t = module-tells kind file found end b e in
     let c = w .good .0 .counts in
     let adjoin = rw (zero-add end) at (module-adjoins kind .adjoins 0 file found end e) in
-    let n = each-length patternFormat (patternsFor (found .0 .content)) (map PatternFound.content (found .1 .0)) (w .good .1 .0) in
+    let x = found .0 .content in
+    let n = each-length patternFormat (patternsFor x) (map PatternFound.content (found .1 .0)) (w .good .1 .0) in
     let stand = tables-stand file found (t .instruments) in
     let before : All (λ (row : SampleRow). row .dataPlace + row .size ≤ end) (sampleRows found) =
     all-unmap (Before end) _ (sampleRows found) (rw (stand .bytes) at (kind-before sampleData 0 end (regionsOf found) adjoin)) in
@@ -270,17 +288,21 @@ accepted-files file found end b e =
       regions = adjoin-regions file (regionsOf found) end adjoin (w .inside);
       tables = stand;
       rows-unpack =
-          rows-unpack file (found .0 .content .channels) (found .1 .0) (c .1 .1 .0 .0) (c .1 .1 .0 .1) (t .patterns)
-          (rw (sym (length-map (found .1 .0) PatternFound.content) ∙ n ∙ length-replicate (found .0 .content .patterns) (found .0 .content .channels)) (w .good .1 .0));
+          rows-unpack file (x .channels) (found .1 .0) (c .1 .1 .0 .0) (c .1 .1 .0 .1) (t .patterns)
+          (rw (sym (length-map (found .1 .0) PatternFound.content) ∙ n ∙ length-replicate (x .patterns) (x .channels)) (w .good .1 .0));
       rows-found = finds-rows file [] 0 (found .1 .1) refl (t .instruments);
       heads-stand = rw (heads-lie file found (t .instruments), joined-map _ instrumentView (found .1 .1)) (all-stand file (found .1 .1) (t .instruments));
-      heads-whole = λ q. rw (heads-lie file found (t .instruments)) (normal-heads file found end b (subst (λ (k : ModuleKind). moduleFormat k .read tt 0 file ≡ got found end) (sym (kind-found kind file found end e) ∙ q) e));
+      heads-whole = λ q.
+          let is-normal = sym (kind-found kind file found end e) ∙ q in
+          let as-normal = subst (λ (k : ModuleKind). moduleFormat k .read tt 0 file ≡ got found end) is-normal e in
+          rw (heads-lie file found (t .instruments)) (normal-heads file found end b as-normal);
       rows-read = content-samples file RowReads (λ h b t d z. row-reads h b) (found .1 .1) (t .instruments);
       rows-loop = content-samples file RowLoops (λ h b t d z. row-loops file h b t) (found .1 .1) (t .instruments);
       rows-decode = decode;
       asked =
-          asked-rows file (sampleRows found) _ _
-          (all-with (λ (row : SampleRow). row .dataPlace + row .size ≤ end) (λ (row : SampleRow). row .dataPlace + row .size ≤ length file) (λ row h. omega (arith, h, w .inside)) (sampleRows found) before) decode;
+          let within : (most : ℕ) → SampleRow → Type 0 = λ most row. row .dataPlace + row .size ≤ most in
+          let inside = all-with (within end) (within (length file)) (λ row h. omega (arith, h, w .inside)) (sampleRows found) before in
+          asked-rows file (sampleRows found) _ _ inside decode;
       loops-inside =
           all-map (λ (i : InstrumentFound). SamplesTold file (i .samples)) _ instrumentView
           (λ i s. all-map (HeadTold file) LoopInside Stretch.bytes (loop-inside file) (i .samples .0) (s .heads)) (found .1 .1) (t .instruments);
@@ -290,7 +312,8 @@ accepted-files file found end b e =
 abbrev pub nowhere : Lies
 nowhere = record { place = 0; size = 0 }
 
-stands-at : (file : List ℕ) (ls : List Lies) (heads : List (List ℕ)) (number : ℕ) → number < length ls → HeadsStand file ls heads → HeadStands file (getD ls number nowhere) (getD heads number [])
+stands-at : (file : List ℕ) (ls : List Lies) (heads : List (List ℕ)) (number : ℕ) → number < length ls → HeadsStand file ls heads
+    → HeadStands file (getD ls number nowhere) (getD heads number [])
 stands-at file [] heads number h e = absurd (omega arith)
 stands-at file (x ∷ ls) [] number h e = absurd e
 stands-at file (x ∷ ls) (head ∷ heads) zero h e = e .0
@@ -333,7 +356,8 @@ module _ (file : List ℕ) (found : Found) (end : ℕ) (accepted : AcceptedFile 
       ∙ sym (cut-byte file (getD heads number nowhere .size) (row .headerPlace) k l)
 
   -- Its row has the header's loop, which lies within its values
-  pub loop-at : LoopReads headAt (row .width) (row .loopKind) (row .loopStart) (row .loopLength) × (row .loopStart + row .loopLength ≤ length (valuesOf headAt bytesAt))
+  pub loop-at : LoopReads headAt (row .width) (row .loopKind) (row .loopStart) (row .loopLength)
+      × (row .loopStart + row .loopLength ≤ length (valuesOf headAt bytesAt))
   loop-at = (
     sample-at RowLoops (sampleRows found) (headsIn (contentOf found)) (bytesIn (contentOf found)) number low (accepted .rows-loop),
     sample-at (RowDecodes file) (sampleRows found) (headsIn (contentOf found)) (bytesIn (contentOf found)) number low (accepted .rows-decode) .3,

@@ -35,7 +35,9 @@ unfolding halves
 halves-at [] i h = absurd (omega arith)
 halves-at (b ∷ bytes) zero h = refl
 halves-at (b ∷ bytes) (suc zero) h = refl
-halves-at (b ∷ bytes) (suc (suc i)) h = halves-at bytes i (omega arith) ∙ ap₂ (λ (p k : ℕ). cond (eqb p 0) (getD (b ∷ bytes) k 0 % 16) (getD (b ∷ bytes) k 0 / 16)) parity place
+halves-at (b ∷ bytes) (suc (suc i)) h =
+    halves-at bytes i (omega arith)
+    ∙ ap₂ (λ (p k : ℕ). cond (eqb p 0) (getD (b ∷ bytes) k 0 % 16) (getD (b ∷ bytes) k 0 / 16)) parity place
   where
     parity : i % 2 ≡ suc (suc i) % 2
     parity = omega arith
@@ -70,7 +72,8 @@ module _ (count : ℕ) (bytes : List ℕ) (fit : length bytes ≡ adpcmSize coun
   pub chosen-length : length (chosen count bytes) ≡ count
   unfolding chosen
   chosen-length =
-      length-map (take count (halves (drop deltaTable bytes))) (λ index. byteAt index bytes) ∙ length-take-le count (halves (drop deltaTable bytes)) halves-enough
+      length-map (take count (halves (drop deltaTable bytes))) (λ index. byteAt index bytes)
+      ∙ length-take-le count (halves (drop deltaTable bytes)) halves-enough
 
   pub chosen-at : (i : ℕ) → i < count → getD (chosen count bytes) i 0 ≡ deltaAt bytes i
   unfolding chosen
@@ -109,7 +112,8 @@ module _ (count : ℕ) (bytes : List ℕ) (room : ℕ) where
   adpcm-gave e k = gives-passed _ _ _ e λ hs d. k (hs .0) (hs .1 .0) (gives-same d)
 
 -- More room does not change what is given
-pub decoding-roomy : (kind count width : ℕ) (bytes : List ℕ) (values : List ℤ) (room : ℕ) → decodingBy kind count width bytes (length values) ≡ gives values → length values ≤ room
+pub decoding-roomy : (kind count width : ℕ) (bytes : List ℕ) (values : List ℤ) (room : ℕ)
+    → decodingBy kind count width bytes (length values) ≡ gives values → length values ≤ room
     → decodingBy kind count width bytes room ≡ gives values
 decoding-roomy kind count width bytes values room = go (eqb kind adpcm)
   where
@@ -118,7 +122,8 @@ decoding-roomy kind count width bytes values room = go (eqb kind adpcm)
 
     go : (b : Bool) → by b (length values) ≡ gives values → length values ≤ room → by b room ≡ gives values
     go true e l =
-        adpcm-gave count bytes (length values) e λ fit f q. adpcm-given count bytes room fit (omega (arith, ap length q, adpcm-length count bytes fit)) ∙ ap gives q
+        adpcm-gave count bytes (length values) e λ fit f q.
+        adpcm-given count bytes room fit (omega (arith, ap length q, adpcm-length count bytes fit)) ∙ ap gives q
     go false e l = decoding-gave width bytes (length values) e λ h p f q. decoding-given width bytes room h p (omega (arith, ap length q)) ∙ ap gives q
 
 -- A header's width is one of the two, and at 16 bits a length that is tried is even
@@ -150,11 +155,13 @@ module _ (head bytes : List ℕ) (long : length bytes ≡ dataSize head) (tests 
   unfolding valuesOf dataSize
   sample-decodes = go (isAdpcm head) refl
     where
-      go : (b : Bool) → isAdpcm head ≡ b → decodingBy (kindOf head) (lengthOf head) (widthOf head) bytes (length (valuesOf head bytes)) ≡ gives (valuesOf head bytes)
+      go : (b : Bool) → isAdpcm head ≡ b
+          → decodingBy (kindOf head) (lengthOf head) (widthOf head) bytes (length (valuesOf head bytes)) ≡ gives (valuesOf head bytes)
       go true e = let fit = rw e at long in rw e (adpcm-given (lengthOf head) bytes _ fit (omega (arith, adpcm-length (lengthOf head) bytes fit)))
       go false e =
           let fit = rw e at long in
-          rw e (decoding-given (widthOf head) bytes _ (width-test head) (width-even head (length bytes) (λ q. ap (λ (n : ℕ). n % 2) fit ∙ tests .1 .1 .0 q)) (omega arith))
+          let even = width-even head (length bytes) (λ q. ap (λ (n : ℕ). n % 2) fit ∙ tests .1 .1 .0 q) in
+          rw e (decoding-given (widthOf head) bytes _ (width-test head) even (omega arith))
 
   pub values-counted : length (valuesOf head bytes) ≡ lengthOf head / (widthOf head / 8)
   unfolding valuesOf dataSize
@@ -181,9 +188,9 @@ module _ (size place : ℕ) (s : List ℕ) (there : size ≤ length s) where
   never-later : Holds (when (isWide head) (unlike adpcm (kindOf head) (12 at place))) → readHead size place s ≡ refused (12 at place) → ⊥
   unfolding readHead
   never-later f e =
-      refused-passed _ _ (not-twelve, (not-twelve, (not-twelve, (not-twelve, (not-twelve, tt)))))
-      (sym (test-holds (present size (length s) (1 at place)) _ _ there ∙ test-holds (when (isWide head) (unlike adpcm (kindOf head) (12 at place))) _ _ f) ∙ e)
-      (λ hs d. got-never d)
+      let first = test-holds (present size (length s) (1 at place)) _ _ there in
+      let second = test-holds (when (isWide head) (unlike adpcm (kindOf head) (12 at place))) _ _ f in
+      refused-passed _ _ (not-twelve, (not-twelve, (not-twelve, (not-twelve, (not-twelve, tt))))) (sym (first ∙ second) ∙ e) (λ hs d. got-never d)
 
   twelve-only : (w a : Bool) → isWide head ≡ w → eqb (kindOf head) adpcm ≡ a → readHead size place s ≡ refused (12 at place)
       → (isWide head ≡ true) × (kindOf head ≡ adpcm)

@@ -28,7 +28,8 @@ pub gives-refuses : {A : Type 0} {x : Answer A} {a : A} {r : Refusal} → x ≡ 
 gives-refuses e d = let z : _≡_ {A = ℕ} 0 1 = cc in omega arith
 
 -- Tests that all have one refusal, and do not all hold
-pub tests-fail : {A : Type 0} (ts : List Test) (g : Got A) {r : Refusal} → All (λ (t : Test). refusalOf t ≡ r) ts → (AllHold ts → ⊥) → (checked ts >> g) ≡ refused r
+pub tests-fail : {A : Type 0} (ts : List Test) (g : Got A) {r : Refusal} → All (λ (t : Test). refusalOf t ≡ r) ts → (AllHold ts → ⊥)
+    → (checked ts >> g) ≡ refused r
 unfolding checked ensure _>>_
 tests-fail [] g a h = absurd (h tt)
 tests-fail (t ∷ ts) g {r} a h = go (λ k. tests-fail ts g (a .1) k) (passes t) refl
@@ -38,7 +39,8 @@ tests-fail (t ∷ ts) g {r} a h = go (λ k. tests-fail ts g (a .1) k) (passes t)
     go rest false e = rw e (ap refused (a .0))
 
 -- An accepted answer: its tests hold, and its steps were accepted. What is found is handed on as variables
-pub gives-got : {A B R : Type 0} (f : A → ℕ → B) (g : Got A) {b : B} → answered f g ≡ gives b → ((a : A) (n : ℕ) → g ≡ got a n → answered f (got a n) ≡ gives b → R) → R
+pub gives-got : {A B R : Type 0} (f : A → ℕ → B) (g : Got A) {b : B} → answered f g ≡ gives b
+    → ((a : A) (n : ℕ) → g ≡ got a n → answered f (got a n) ≡ gives b → R) → R
 gives-got f (got a n) e k = k a n refl e
 gives-got f (refused r) e k = absurd (let z : _≡_ {A = ℕ} 0 1 = cc in omega arith)
 
@@ -79,7 +81,8 @@ behind-gave {R = R} t answer {a} e k = go (passes t) refl e
     go true h e = k (passes-holds t h) e
     go false h e = absurd (gives-refuses e refl)
 
-pub behind-refused : {A R : Type 0} (t : Test) (answer : Answer A) {r : Refusal} → behind t answer ≡ refuses r → (refusalOf t ≡ r → R) → (answer ≡ refuses r → R) → R
+pub behind-refused : {A R : Type 0} (t : Test) (answer : Answer A) {r : Refusal} → behind t answer ≡ refuses r
+    → (refusalOf t ≡ r → R) → (answer ≡ refuses r → R) → R
 unfolding behind
 behind-refused {R = R} t answer {r} e own next = go (passes t) e
   where
@@ -121,7 +124,8 @@ pub reported-written : {A B : Type 0} (count : A → ℕ) (written : A → List 
 reported-written count written answer lent a e n = rw (e, n) (take-append-seam (written a) (drop (length (written a)) lent))
 
 -- A call's numbers show a refusal, which leaves the memory as it was
-pub refused-exactly : {A : Type 0} (fs : List (A → ℕ)) (answer : Answer A) (r : Refusal) → 1 ≤ r .number → (numbers fs answer ≡ numbers fs (refuses r)) ↔ (answer ≡ refuses r)
+pub refused-exactly : {A : Type 0} (fs : List (A → ℕ)) (answer : Answer A) (r : Refusal) → 1 ≤ r .number
+    → (numbers fs answer ≡ numbers fs (refuses r)) ↔ (answer ≡ refuses r)
 refused-exactly {A} fs answer r low = (forth answer, ap (numbers fs))
   where
     forth : (x : Answer A) → numbers fs x ≡ numbers fs (refuses r) → x ≡ refuses r
@@ -131,7 +135,8 @@ refused-exactly {A} fs answer r low = (forth answer, ap (numbers fs))
         let place : q .place ≡ r .place = cc in
         ap₂ {C = Answer A} (λ (n p : ℕ). refuses (n at p)) number place
 
-pub refused-unchanged : {A B : Type 0} (written : A → List B) (answer : Answer A) (lent : List B) → (numberOf answer ≡ 0 → ⊥) → after written answer lent ≡ lent
+pub refused-unchanged : {A B : Type 0} (written : A → List B) (answer : Answer A) (lent : List B) → (numberOf answer ≡ 0 → ⊥)
+    → after written answer lent ≡ lent
 refused-unchanged written (gives a) lent h = absurd (h refl)
 refused-unchanged written (refuses r) lent h = refl
 

@@ -12,5 +12,7 @@ use Rattle.xm.specs.Adpcm.{halves, chosen, adpcmDecoded, adpcmDecoding}
 use Rattle.xm.specs.Bench.{worked, pieces}
 
 pub bench : map worked pieces ≡ pieces
-unfolding unpacking packing decoding adpcmDecoding adpcmDecoded chosen halves _>>=_ _>>_ ensure checked readStored readCells readCell cellAt fieldsBy lengthBy ones onesIn writeStored needsNoData allZero writeCell goesPlain plainBy standsPlain plainShorter marked kepts marks kept cellsOf decoded storedNumbers pairs sums signed
+unfolding unpacking packing decoding adpcmDecoding adpcmDecoded chosen halves _>>=_ _>>_ ensure checked readStored readCells readCell cellAt fieldsBy lengthBy
+    ones onesIn writeStored needsNoData allZero writeCell goesPlain plainBy standsPlain plainShorter marked kepts marks kept cellsOf decoded storedNumbers
+    pairs sums signed
 bench = refl

@@ -13,7 +13,8 @@ use lib.Seq.{drop-drop}
 use Rattle.xm.specs.Number.{Bytes}
 use Rattle.xm.specs.Got.{got, refused, present, _at_}
 use Rattle.xm.specs.Format.{All}
-use Rattle.xm.specs.Cell.{five, lengthBy, fieldBy, fieldsBy, needed, cellAt, readCell, bit, kept, marks, kepts, marked, standsPlain, plainShorter, plainBy, goesPlain, writeCell, cellMost, GoodCell, cellFormat}
+use Rattle.xm.specs.Cell.{five, lengthBy, fieldBy, fieldsBy, needed, cellAt, readCell, bit, kept, marks, kepts, marked}
+use Rattle.xm.specs.Cell.{standsPlain, plainShorter, plainBy, goesPlain, writeCell, cellMost, GoodCell, cellFormat}
 use Rattle.xm.proofs.Number.{bytes-drop, bytes-nil, bytes-cons, bytes-tail, bytes-append}
 use Rattle.xm.proofs.Got.{test-fails, pass, passed, got-value, got-used, got-both, got-carry}
 use Rattle.xm.proofs.Format.{Back, Keeps, Held}
@@ -263,7 +264,8 @@ write-most cell h = write-case (λ (w : List ℕ). length w ≤ cellMost) cell (
 write-low : (cell : List ℕ) → length cell ≡ 5 → getD cell 0 0 < 128 → length (writeCell cell) ≤ 5
 unfolding goesPlain
 write-low cell h low =
-    write-case (λ (w : List ℕ). length w ≤ 5) cell (λ p. omega arith) (λ p. omega (arith, marked-length cell, marked-few (getD cell 0 0) (length (kepts cell)) low p))
+    write-case (λ (w : List ℕ). length w ≤ 5) cell (λ p. omega arith)
+    (λ p. omega (arith, marked-length cell, marked-few (getD cell 0 0) (length (kepts cell)) low p))
 
 pub write-full : (cell : List ℕ) → length cell ≡ 5 → 128 ≤ getD cell 0 0 → All (λ (x : ℕ). x ≡ 0 → ⊥) cell → length (writeCell cell) ≡ 6
 unfolding goesPlain
@@ -273,7 +275,8 @@ write-full cell h high f =
 write-least : (cell : List ℕ) → length cell ≡ 5 → length (writeCell cell) ≤ 1 + length (kepts cell)
 unfolding goesPlain
 write-least cell h =
-    write-case (λ (w : List ℕ). length w ≤ 1 + length (kepts cell)) cell (λ p. omega (arith, plain-many (getD cell 0 0) (length (kepts cell)) p)) (λ p. omega (arith, marked-length cell))
+    write-case (λ (w : List ℕ). length w ≤ 1 + length (kepts cell)) cell
+    (λ p. omega (arith, plain-many (getD cell 0 0) (length (kepts cell)) p)) (λ p. omega (arith, marked-length cell))
 
 -- Marks with a number t above their bits: their ones are the fields kept, and these read back
 on : ℕ → List ℕ → ℕ
@@ -329,8 +332,13 @@ marked-back s rest e =
     let lead : ℕ = 128 + marks (five s) in
     let big : 128 ≤ lead = omega arith in
     record {
-      long = rw (write-marked (five s) e) (length-marked lead big ∙ ap (λ (n : ℕ). 1 + n) (ones-in lead ∙ ap (onesIn 5) (on-five s) ∙ on-ones 4 (five s)) ∙ omega arith);
-      same = rw (write-marked (five s) e) (cell-marked (lead ∷ kepts (five s) ++ rest) big ∙ ap (λ (b : ℕ). fieldsBy 5 b (kepts (five s) ++ rest)) (on-five s) ∙ on-fields 4 (five s) rest);
+      long =
+          let ones = ones-in lead ∙ ap (onesIn 5) (on-five s) ∙ on-ones 4 (five s) in
+          rw (write-marked (five s) e) (length-marked lead big ∙ ap (λ (n : ℕ). 1 + n) ones ∙ omega arith);
+      same =
+          let behind = kepts (five s) ++ rest in
+          let fields = ap (λ (b : ℕ). fieldsBy 5 b behind) (on-five s) ∙ on-fields 4 (five s) rest in
+          rw (write-marked (five s) e) (cell-marked (lead ∷ behind) big ∙ fields);
     }
 
 written-back : (cell rest : List ℕ) → GoodCell cell → WrittenBack cell rest

@@ -41,7 +41,8 @@ header-good kind to x g = record {
   orders-plain = g .orders-plain;
 }
 
-instruments-good : (kind to : ModuleKind) (n : ℕ) (xs : List Instrument) → EachGood (instrumentFormat kind) (replicate n tt) xs → EachGood (instrumentFormat to) (replicate n tt) xs
+instruments-good : (kind to : ModuleKind) (n : ℕ) (xs : List Instrument) → EachGood (instrumentFormat kind) (replicate n tt) xs
+    → EachGood (instrumentFormat to) (replicate n tt) xs
 instruments-good kind to zero [] g = tt
 instruments-good kind to zero (x ∷ xs) g = absurd g
 instruments-good kind to (suc n) [] g = absurd g
@@ -92,9 +93,10 @@ module _ (kind to : ModuleKind) {content : Content} {file : List ℕ} (f : FileO
   pub convert-gives : (room : ℕ) → length written ≤ fileMost → length written ≤ room → converting to file room ≡ gives written
   unfolding converting
   convert-gives room h l =
+      let size = ap length found-written in
       ap (answered (λ bytes used. bytes))
       (step _ file-reads
-      (pass _ {r = got (pressed to (converted (contentOf (f .found)))) (f .end)} (omega (arith, ap length found-written), (omega (arith, ap length found-written), tt)) refl))
+      (pass _ {r = got (pressed to (converted (contentOf (f .found)))) (f .end)} (omega (arith, size), (omega (arith, size), tt)) refl))
       ∙ ap {B = Answer (List ℕ)} (λ (bytes : List ℕ). gives bytes) found-written
 
   pub convert-large : (room : ℕ) → fileMost < length written → converting to file room ≡ refuses (2 at 0)

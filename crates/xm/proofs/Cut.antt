@@ -63,7 +63,8 @@ word-padded width offset s h = rw (padded-at width offset s (omega arith), padde
 pub long-padded : (width offset : ℕ) (s : List ℕ) → offset + 4 ≤ width → longAt offset (padded width s) ≡ longAt offset s
 unfolding longAt
 long-padded width offset s h =
-    rw (padded-at width offset s (omega arith), padded-at width (offset + 1) s (omega arith), padded-at width (offset + 2) s (omega arith), padded-at width (offset + 3) s (omega arith))
+    let byte = padded-at width in
+    rw (byte offset s (omega arith), byte (offset + 1) s (omega arith), byte (offset + 2) s (omega arith), byte (offset + 3) s (omega arith))
 
 -- and from the cut on they are 0
 pub byte-cut : (size offset : ℕ) (s : List ℕ) → byteAt offset (take size s) ≡ cond (ltb offset size) (byteAt offset s) 0
@@ -88,7 +89,8 @@ take-padded (suc n) (suc width) (b ∷ s) h = cons-path refl (take-padded n widt
 
 -- Of a structure of `size` bytes, the front and what stands from an offset on
 pub front-padded : (n width size : ℕ) (s : List ℕ) → n ≤ width → n ≤ size → size ≤ length s → take n (padded width (take size s)) ≡ take n s
-front-padded n width size s h l m = take-padded n width (take size s) h ∙ padded-long n (take size s) (omega (arith, length-take size s)) ∙ take-take n size s l
+front-padded n width size s h l m =
+    take-padded n width (take size s) h ∙ padded-long n (take size s) (omega (arith, length-take size s)) ∙ take-take n size s l
 
 pub drop-take : (from size : ℕ) (s : List ℕ) → from ≤ size → drop from (take size s) ≡ take (size - from) (drop from s)
 drop-take from size s h = let n : size ≡ from + (size - from) = omega arith in ap (λ (k : ℕ). drop from (take k s)) n ∙ sym (take-drop (size - from) from s)

@@ -17,7 +17,8 @@ use Rattle.xm.specs.Number.{Bytes, word, signed}
 use Rattle.xm.specs.Got.{Got, got, refused, _>>_, Test, checked, even, holds, when, present, _at_, refusalOf, Holds}
 use Rattle.xm.specs.Format.{joined, All}
 use Rattle.xm.specs.Answer.{Answer, gives, refuses, answered}
-use Rattle.xm.specs.Delta.{pairs, storedNumbers, storedBytes, sums, decoded, residue, difference, differences, coded, fits, allFit, widthTest, decoding, coding}
+use Rattle.xm.specs.Delta.{pairs, storedNumbers, storedBytes, sums, decoded, residue, difference}
+use Rattle.xm.specs.Delta.{differences, coded, fits, allFit, widthTest, decoding, coding}
 use Rattle.xm.proofs.Number.{bytes-tail}
 use Rattle.xm.proofs.Got.{test-holds, test-fails, pass, passed, got-value}
 use Rattle.xm.proofs.Format.{cons-path}
@@ -86,7 +87,8 @@ pub values-wrapped : (width before : ℕ) (stored : List ℕ) → valuesFrom wid
 unfolding sums
 values-wrapped width before [] = refl
 values-wrapped width before (d ∷ ds) =
-    cons-path (ap (signed width) one) (sym (values-wrapped width (before % 2 ^ width + d) ds) ∙ ap (λ (n : ℕ). valuesFrom width n ds) one ∙ values-wrapped width (before + d) ds)
+    cons-path (ap (signed width) one)
+    (sym (values-wrapped width (before % 2 ^ width + d) ds) ∙ ap (λ (n : ℕ). valuesFrom width n ds) one ∙ values-wrapped width (before + d) ds)
   where
     one : (before % 2 ^ width + d) % 2 ^ width ≡ (before + d) % 2 ^ width
     one = mod-add-mod before (2 ^ width) d
@@ -113,8 +115,9 @@ unfolding sums
 values-end width sum i stored h = rw (drop-of-length-le stored h)
 
 -- And the differences of what is left of some values, for a loop that keeps the residue before
-pub differences-next : (width before i next : ℕ) (values : List ℤ) → i < length values → next ≡ residue width (getD values i (pos 0)) →
-    differences width before (map (residue width) (drop i values)) ≡ difference width before next ∷ differences width next (map (residue width) (drop (i + 1) values))
+pub differences-next : (width before i next : ℕ) (values : List ℤ) → i < length values → next ≡ residue width (getD values i (pos 0))
+    → differences width before (map (residue width) (drop i values))
+    ≡ difference width before next ∷ differences width next (map (residue width) (drop (i + 1) values))
 unfolding differences
 differences-next width before i next values h e = rw (e, add-one i, drop-cons values i (pos 0) h)
 
@@ -126,7 +129,8 @@ differences-end width before i values h = rw (drop-of-length-le values h)
 -- And whether what is left of some values fits, for a loop that keeps whether all before did
 pub fit-next : (width i : ℕ) (values : List ℤ) (fit : Bool) → i < length values →
     (fit && fits width (getD values i (pos 0)) && allFit width (drop (i + 1) values)) ≡ (fit && allFit width (drop i values))
-fit-next width i values fit h = rw (add-one i, drop-cons values i (pos 0) h) (and-assoc fit (fits width (getD values i (pos 0))) (allFit width (drop (suc i) values)))
+fit-next width i values fit h =
+    rw (add-one i, drop-cons values i (pos 0) h) (and-assoc fit (fits width (getD values i (pos 0))) (allFit width (drop (suc i) values)))
 
 -- No value is left to fit
 pub fit-end : (width i : ℕ) (values : List ℤ) (fit : Bool) → length values ≤ i → (fit && allFit width (drop i values)) ≡ fit
@@ -189,7 +193,8 @@ words-pairs (low ∷ high ∷ bytes) b e =
     cons-path (omega (arith, b .below 0)) (cons-path (omega (arith, b .below 0)) (words-pairs bytes (bytes-tail (bytes-tail b)) (omega arith)))
 
 -- A pair, by the place of its low byte
-pub pairs-at : (bytes : List ℕ) (i place : ℕ) → place ≡ 2 * i → place + 1 < length bytes → getD (pairs bytes) i 0 ≡ getD bytes place 0 + 256 * getD bytes (place + 1) 0
+pub pairs-at : (bytes : List ℕ) (i place : ℕ) → place ≡ 2 * i → place + 1 < length bytes
+    → getD (pairs bytes) i 0 ≡ getD bytes place 0 + 256 * getD bytes (place + 1) 0
 unfolding pairs
 pairs-at [] i place e h = absurd (omega arith)
 pairs-at (low ∷ []) i place e h = absurd (omega arith)
@@ -242,12 +247,14 @@ stored-below = by-width (λ w. (bytes : List ℕ) → Bytes bytes → All (λ n.
 pub decoded-coded : (width : ℕ) (values : List ℤ) → allFit width values ≡ true → decoded width (coded width values) ≡ values
 unfolding decoded coded
 decoded-coded width values f =
-    ap (valuesFrom width 0) (stored-numbers-bytes width (differences width 0 (map (residue width) values))) ∙ values-differences width 0 values (pow-pos width) f
+    ap (valuesFrom width 0) (stored-numbers-bytes width (differences width 0 (map (residue width) values)))
+    ∙ values-differences width 0 values (pow-pos width) f
 
 pub coded-decoded : (width : ℕ) (bytes : List ℕ) → Holds (widthTest width) → Bytes bytes → Paired width bytes → coded width (decoded width bytes) ≡ bytes
 unfolding decoded coded
 coded-decoded width bytes h p paired =
-    ap (storedBytes width) (differences-values width 0 (storedNumbers width bytes) (pow-pos width) (stored-below width h bytes p)) ∙ stored-bytes-numbers width bytes p paired
+    ap (storedBytes width) (differences-values width 0 (storedNumbers width bytes) (pow-pos width) (stored-below width h bytes p))
+    ∙ stored-bytes-numbers width bytes p paired
 
 -- Lengths: a number is of as many bytes as eight goes into the width
 sums-length : (before : ℕ) (stored : List ℕ) → length (sums before stored) ≡ length stored
@@ -319,14 +326,17 @@ module _ {A : Type 0} (width : ℕ) (own : Test) (needed room : ℕ) (x : List A
   call = answered (λ y used. y) (checked tests >> got x 0)
 
   call-width : (width ≡ 8 → ⊥) → (width ≡ 16 → ⊥) → call ≡ refuses (16 at 0)
-  call-width a b = ap (answered (λ y used. y)) (test-fails (widthTest width) _ _ λ h. by-width (λ w. (w ≡ 8 → ⊥) → (w ≡ 16 → ⊥) → ⊥) (λ p q. p refl) (λ p q. q refl) width h a b)
+  call-width a b =
+      ap (answered (λ y used. y))
+      (test-fails (widthTest width) _ _ λ h. by-width (λ w. (w ≡ 8 → ⊥) → (w ≡ 16 → ⊥) → ⊥) (λ p q. p refl) (λ p q. q refl) width h a b)
 
   call-own : Holds (widthTest width) → (Holds own → ⊥) → call ≡ refuses (refusalOf own)
   call-own h n = ap (answered (λ y used. y)) (test-holds (widthTest width) _ _ h ∙ test-fails own _ _ n)
 
   call-room : Holds (widthTest width) → Holds own → room < needed → call ≡ refuses (14 at 0)
   call-room h o short =
-      ap (answered (λ y used. y)) (test-holds (widthTest width) _ _ h ∙ test-holds own _ _ o ∙ test-fails (present needed room (14 at 0)) [] _ (λ f. omega arith))
+      ap (answered (λ y used. y))
+      (test-holds (widthTest width) _ _ h ∙ test-holds own _ _ o ∙ test-fails (present needed room (14 at 0)) [] _ (λ f. omega arith))
 
   call-given : Holds (widthTest width) → Holds own → needed ≤ room → call ≡ gives x
   call-given h o f = ap (answered (λ y used. y)) (pass tests (h, (o, (f, tt))) refl)
@@ -353,7 +363,8 @@ module _ (width : ℕ) (bytes : List ℕ) (room : ℕ) where
   unfolding decoding
   decoding-room = call-room width pairedTest (length (decoded width bytes)) room (decoded width bytes)
 
-  pub decoding-given : Holds (widthTest width) → Paired width bytes → length (decoded width bytes) ≤ room → decoding width bytes room ≡ gives (decoded width bytes)
+  pub decoding-given : Holds (widthTest width) → Paired width bytes → length (decoded width bytes) ≤ room
+      → decoding width bytes room ≡ gives (decoded width bytes)
   unfolding decoding
   decoding-given = call-given width pairedTest (length (decoded width bytes)) room (decoded width bytes)
 
@@ -382,7 +393,8 @@ module _ (width : ℕ) (values : List ℤ) (room : ℕ) where
   unfolding coding
   coding-room = call-room width coveredTest (length (coded width values)) room (coded width values)
 
-  pub coding-given : Holds (widthTest width) → Covered width values → length (coded width values) ≤ room → coding width values room ≡ gives (coded width values)
+  pub coding-given : Holds (widthTest width) → Covered width values → length (coded width values) ≤ room
+      → coding width values room ≡ gives (coded width values)
   unfolding coding
   coding-given = call-given width coveredTest (length (coded width values)) room (coded width values)
 

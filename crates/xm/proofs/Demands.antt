@@ -17,16 +17,22 @@ use Rattle.xm.specs.Instrument.{Instrument, InstrumentFound, instrumentV
 use Rattle.xm.specs.Module.{Found, Content, moduleFormat, fileMost, readFile, plays}
 use Rattle.xm.specs.Delta.{sums, storedNumbers, decoded, decoding, coding, countWritten, deltaMost, limitTest}
 use Rattle.xm.specs.Adpcm.{chosen, adpcmDecoded, adpcmDecoding, adpcmMost}
-use Rattle.xm.specs.Table.{Checked, checkedAs, checkResults, checking, checkNumbers, checkLoader, checkingInto, checkIntoLoader, Tables, Room, roomOf, roomTests, tablesAfter, patternRows, instrumentRows, sampleRowsIn, sampleRows, patternStride, instrumentStride, sampleStride, tuneStride, patternNumbers, instrumentNumbers, sampleNumbers, sampleTunes}
+use Rattle.xm.specs.Table.{Checked, checkedAs, checkResults, checking, checkNumbers, checkLoader, checkingInto, checkIntoLoader, Tables}
+use Rattle.xm.specs.Table.{Room, roomOf, roomTests, tablesAfter, patternRows, instrumentRows, sampleRowsIn, sampleRows, patternStride}
+use Rattle.xm.specs.Table.{instrumentStride, sampleStride, tuneStride, patternNumbers, instrumentNumbers, sampleNumbers, sampleTunes}
 use Rattle.xm.specs.Press.{pressed, pressingAs, pressing, pressLoader, contentOf, pressedLength}
-use Rattle.xm.specs.Demands.{KeepsItsWord, TablesKept, Demand₁, Demand₂, Demand₃, CheckTells, countsOf, RunningSums, AdpcmTells, PressesWhole, SameBytes, RoomFor, TablesTell, RestIgnored, RestartsRead, PlaysOrders, LoaderTells, Limited, LoadersTell, FileOf}
+use Rattle.xm.specs.Demands.{KeepsItsWord, TablesKept, Demand₁, Demand₂, Demand₃, CheckTells, countsOf, RunningSums, AdpcmTells, PressesWhole}
+use Rattle.xm.specs.Demands.{SameBytes, RoomFor, TablesTell, RestIgnored, RestartsRead, PlaysOrders, LoaderTells, Limited, LoadersTell, FileOf}
 use Rattle.xm.proofs.Got.{refused-tests, refused-bind, got-never, pass, passed, step, step-refused, bind-got}
-use Rattle.xm.proofs.Answer.{answer-gives, answer-refuses, gives-got, gives-passed, gives-bound, gives-same, gives-refuses, refuses-refused, tests-fail, behind-holds, behind-fails, behind-gave, behind-refused, SoundRefusal, read-sound, word-kept, loader-tells, accepted-gives, reported-written}
+use Rattle.xm.proofs.Answer.{answer-gives, answer-refuses, gives-got, gives-passed, gives-bound, gives-same, gives-refuses}
+use Rattle.xm.proofs.Answer.{refuses-refused, tests-fail, behind-holds, behind-fails, behind-gave, behind-refused}
+use Rattle.xm.proofs.Answer.{SoundRefusal, read-sound, word-kept, loader-tells, accepted-gives, reported-written}
 use Rattle.xm.proofs.Format.{joined-length}
 use Rattle.xm.specs.Convert.{converted, converting, convertLoader}
 use Rattle.xm.proofs.Number.{Agree}
 use Rattle.xm.proofs.Packing.{unpack-word, pack-word, unpacks-to-cells, pack-shortest, unpack-tells, pack-tells, pack-apart}
-use Rattle.xm.proofs.Delta.{valuesFrom, values-none, values-step, decoded-most, coded-most, decoding-gave, coding-gave, coding-decoding, decoding-coding}
+use Rattle.xm.proofs.Delta.{valuesFrom, values-none, values-step, decoded-most, coded-most}
+use Rattle.xm.proofs.Delta.{decoding-gave, coding-gave, coding-decoding, decoding-coding}
 use Rattle.xm.proofs.Adpcm.{chosen-at, adpcm-length, adpcm-unfit, adpcm-room, adpcm-given, adpcm-gave}
 use Rattle.xm.proofs.Fault.{FileFault, module-faults, whole-faults}
 use Rattle.xm.proofs.Sample.{SamplesTold}
@@ -42,7 +48,8 @@ unfolding checking
 file-fault file r b e = whole-faults (moduleFormat (kindAt file)) (module-faults (kindAt file)) file r b (refuses-refused _ _ e)
 
 end-inside : (file : List ℕ) (found : Found) (end : ℕ) → Bytes file → readFile file ≡ got found end → (end ≤ length file) × (length file ≤ fileMost)
-end-inside file found end b e = whole-read (moduleFormat (kindAt file)) file found end e λ size e. (module-keeps (kindAt file) .keeps 0 file found end b e .inside, size)
+end-inside file found end b e =
+    whole-read (moduleFormat (kindAt file)) file found end e λ size e. (module-keeps (kindAt file) .keeps 0 file found end b e .inside, size)
 
 samples-counted : (file : List ℕ) (is : List InstrumentFound) → All (λ (i : InstrumentFound). SamplesTold file (i .samples)) is
     → length (joined sampleRowsIn is) ≡ length (joined (λ (x : Instrument). x .samples .0) (map instrumentView is))
@@ -52,7 +59,8 @@ samples-counted file (i ∷ is) t =
     ∙ ap₂ _+_ (rows-length (i .samples .0) (i .samples .1) (t .0 .sizes) ∙ sym (length-map (i .samples .0) Stretch.bytes)) (samples-counted file is (t .1))
     ∙ sym (length-append (map Stretch.bytes (i .samples .0)) (joined (λ (x : Instrument). x .samples .0) (map instrumentView is)))
 
-found-counts : (file : List ℕ) (found : Found) (end : ℕ) → Bytes file → readFile file ≡ got found end → checkNumbers file ≡ 0 ∷ 0 ∷ end ∷ countsOf (contentOf found)
+found-counts : (file : List ℕ) (found : Found) (end : ℕ) → Bytes file → readFile file ≡ got found end
+    → checkNumbers file ≡ 0 ∷ 0 ∷ end ∷ countsOf (contentOf found)
 unfolding checking
 found-counts file found end b e =
     whole-read (moduleFormat (kindAt file)) file found end e λ size q.
@@ -92,6 +100,11 @@ own-sound file r b e =
 front-length : {B : Type 0} (written lent : List B) → length written ≤ length lent → length (inFront written lent) ≡ length lent
 front-length written lent h = length-append written (drop (length written) lent) ∙ omega (arith, length-drop (length written) lent)
 
+rows-front : {R B : Type 0} (stride : ℕ) (numbers : R → List B) → ((row : R) → length (numbers row) ≡ stride)
+    → (rows : List R) (lent : List B) → stride * length rows ≤ length lent
+    → length (inFront (joined numbers rows) lent) ≡ length lent
+rows-front stride numbers wide rows lent h = front-length (joined numbers rows) lent (omega (arith, joined-length stride numbers wide rows))
+
 record Lengths (answer : Answer Checked) (lent : Tables) : Type 0 where
   patterns : length (tablesAfter answer lent .patterns) ≡ length (lent .patterns)
   instruments : length (tablesAfter answer lent .instruments) ≡ length (lent .instruments)
@@ -103,10 +116,10 @@ unfolding tablesAfter
 lengths (gives c) lent h =
     let r = h c refl in
     record {
-      patterns = front-length (joined patternNumbers (patternRows (c .found))) (lent .patterns) (omega (arith, joined-length patternStride patternNumbers (λ row. refl) (patternRows (c .found)), r .0));
-      instruments = front-length (joined instrumentNumbers (instrumentRows (c .found))) (lent .instruments) (omega (arith, joined-length instrumentStride instrumentNumbers (λ row. refl) (instrumentRows (c .found)), r .1 .0));
-      samples = front-length (joined sampleNumbers (sampleRows (c .found))) (lent .samples) (omega (arith, joined-length sampleStride sampleNumbers (λ row. refl) (sampleRows (c .found)), r .1 .1 .0));
-      tunes = front-length (joined sampleTunes (sampleRows (c .found))) (lent .tunes) (omega (arith, joined-length tuneStride sampleTunes (λ row. refl) (sampleRows (c .found)), r .1 .1 .0));
+      patterns = rows-front patternStride patternNumbers (λ row. refl) (patternRows (c .found)) (lent .patterns) (omega (arith, r .0));
+      instruments = rows-front instrumentStride instrumentNumbers (λ row. refl) (instrumentRows (c .found)) (lent .instruments) (omega (arith, r .1 .0));
+      samples = rows-front sampleStride sampleNumbers (λ row. refl) (sampleRows (c .found)) (lent .samples) (omega (arith, r .1 .1 .0));
+      tunes = rows-front tuneStride sampleTunes (λ row. refl) (sampleRows (c .found)) (lent .tunes) (omega (arith, r .1 .1 .0));
     }
 lengths (refuses r) lent h = record { patterns = refl; instruments = refl; samples = refl; tunes = refl }
 
@@ -188,7 +201,8 @@ limited most count own = record {
   within = λ h. behind-holds (limitTest most count) own (omega arith);
 }
 
-module _ {B : Type 0} (most : ℕ) (small : 2 * most < 2 ^ 32) (count : ℕ) (own : ℕ → Answer (List B)) (fault : (room : ℕ) (r : Refusal) → own room ≡ refuses r → OwnFault r)
+module _ {B : Type 0} (most : ℕ) (small : 2 * most < 2 ^ 32) (count : ℕ) (own : ℕ → Answer (List B))
+    (fault : (room : ℕ) (r : Refusal) → own room ≡ refuses r → OwnFault r)
     (fits : (room : ℕ) (xs : List B) → own room ≡ gives xs → (length xs ≤ room) × (length xs ≤ 2 * count)) where
   limited-fault : (room : ℕ) (r : Refusal) → behind (limitTest most count) (own room) ≡ refuses r → OwnFault r
   limited-fault room r e = behind-refused (limitTest most count) (own room) e (λ same. subst OwnFault same (omega arith)) (fault room r)
@@ -198,9 +212,12 @@ module _ {B : Type 0} (most : ℕ) (small : 2 * most < 2 ^ 32) (count : ℕ) (ow
       word-kept _ (λ room. behind (limitTest most count) (own room)) (λ room r e. limited-fault room r e .sound)
       (λ room xs e. behind-gave (limitTest most count) (own room) e λ l e. fits room xs e .0)
 
-  limited-loads : (room : ℕ) → LoaderTells length (behind (limitTest most count) (own room)) (loaderNumber countWritten (behind (limitTest most count) (own room)))
+  limited-loads : (room : ℕ)
+      → let answer = behind (limitTest most count) (own room) in
+      LoaderTells length answer (loaderNumber countWritten answer)
   limited-loads room =
-      loader-tells length (behind (limitTest most count) (own room)) (loaderNumber countWritten (behind (limitTest most count) (own room))) refl
+      let answer = behind (limitTest most count) (own room) in
+      loader-tells length answer (loaderNumber countWritten answer) refl
       (λ xs e. behind-gave (limitTest most count) (own room) e λ l e. omega (arith, l, fits room xs e .1))
       (λ r e. let f = limited-fault room r e in (f .sound .numbered .0, omega (arith, f .small)))
 
@@ -211,7 +228,8 @@ running-sums width before [] = ends
     ends = rw (values-none width before) tt
 running-sums width before (d ∷ ds) = rw (values-step width before d ds) (refl, running-sums width ((before + d) % 2 ^ width) ds)
 
-decoded-sums : (width : ℕ) (bytes : List ℕ) (values : List ℤ) (room : ℕ) → decoding width bytes room ≡ gives values → RunningSums width 0 (storedNumbers width bytes) values
+decoded-sums : (width : ℕ) (bytes : List ℕ) (values : List ℤ) (room : ℕ) → decoding width bytes room ≡ gives values
+    → RunningSums width 0 (storedNumbers width bytes) values
 unfolding decoded
 decoded-sums width bytes values room e = decoding-gave width bytes room e λ h p l q. rw (← q) (running-sums width 0 (storedNumbers width bytes))
 
@@ -240,7 +258,8 @@ press-file file room bytes b e =
     gives-bound _ (readFile file) _ e λ found end er e. gives-passed _ _ _ e λ hs e.
     let kind = kindAt file in
     let h = end-inside file found end b er in
-    let s = pressed-shortest (moduleFormat kind) (module-back kind) (module-keeps kind) (record { plain = b; found = found; end = end; reads = er; same = refl }) in
+    let s = pressed-shortest (moduleFormat kind) (module-back kind) (module-keeps kind)
+    (record { plain = b; found = found; end = end; reads = er; same = refl }) in
     let q = ap length (gives-same e) in
     (omega (arith, hs .0), omega arith)
 
@@ -258,14 +277,17 @@ convert-fault to file room r b e =
     refused-bind (readFile file) _ (refuses-refused _ _ e) (own-sound file r b)
     λ found end er e. refused-tests OwnFault _ _ e (omega arith) λ hs e. absurd (got-never e)
 
-convert-file : (to : ModuleKind) (file : List ℕ) (room : ℕ) (bytes : List ℕ) → converting to file room ≡ gives bytes → (length bytes ≤ room) × (length bytes ≤ fileMost)
+convert-file : (to : ModuleKind) (file : List ℕ) (room : ℕ) (bytes : List ℕ) → converting to file room ≡ gives bytes
+    → (length bytes ≤ room) × (length bytes ≤ fileMost)
 unfolding converting
 convert-file to file room bytes e =
     gives-bound _ (readFile file) _ e λ found end er e. gives-passed _ _ _ e λ hs e.
     let q = ap length (gives-same e) in (omega (arith, hs .1 .0), omega (arith, hs .0))
 
 convert-word : (to : ModuleKind) (file : List ℕ) → Bytes file → KeepsItsWord (λ (bytes : List ℕ). bytes) (converting to file)
-convert-word to file b = word-kept _ (converting to file) (λ room r e. convert-fault to file room r b e .sound) (λ room bytes e. convert-file to file room bytes e .0)
+convert-word to file b =
+    word-kept _ (converting to file) (λ room r e. convert-fault to file room r b e .sound)
+    (λ room bytes e. convert-file to file room bytes e .0)
 
 convert-loads : (to : ModuleKind) (file : List ℕ) (room : ℕ) → Bytes file → LoaderTells length (converting to file room) (convertLoader to file room)
 convert-loads to file room b =
@@ -281,7 +303,8 @@ demand₁ = record {
   pack = pack-word;
   decode = decode-word;
   code = code-word;
-  decode-limited = λ width bytes. limited-word deltaMost (omega arith) (length bytes) (decoding width bytes) (decode-fault width bytes) (decode-fits width bytes);
+  decode-limited = λ width bytes.
+      limited-word deltaMost (omega arith) (length bytes) (decoding width bytes) (decode-fault width bytes) (decode-fits width bytes);
   code-limited = λ width values. limited-word deltaMost (omega arith) (length values) (coding width values) (code-fault width values) (code-fits width values);
   adpcm = adpcm-word;
   adpcm-limited = λ count bytes. limited-word adpcmMost (omega arith) count (adpcmDecoding count bytes) (adpcm-fault count bytes) (adpcm-fits count bytes);

@@ -41,7 +41,13 @@ pub record Faults {H I A : Type 0} (F : Format H I A) (h : H) : Type 0 where
   pub faults : (place : ℕ) (s : List ℕ) (r : Refusal) → Bytes s → F .read h place s ≡ refused r → Fault place s r
 
 fault-later : (place n : ℕ) (s : List ℕ) (r : Refusal) → n ≤ length s → Fault (place + n) (drop n s) r → Fault place s r
-fault-later place n s r l f = record { low = f .low; high = f .high; not-nine = f .not-nine; from = omega (arith, f .from); to = omega (arith, f .to, length-drop n s) }
+fault-later place n s r l f = record {
+  low = f .low;
+  high = f .high;
+  not-nine = f .not-nine;
+  from = omega (arith, f .from);
+  to = omega (arith, f .to, length-drop n s);
+}
 
 -- Formats put together
 over-faults : {H K I A : Type 0} (f : K → H) {F : Format H I A} (k : K) → Faults F (f k) → Faults (over f F) k
@@ -59,7 +65,8 @@ module _ {H I A K J B : Type 0} (next : H → A → K) {F : Format H I A} {G : F
   }
 
 module _ {H I A : Type 0} (F : Format H I A) where
-  each-fault : (hs : List H) → All (λ (h : H). Keeps F h × Faults F h) hs → (place : ℕ) (s : List ℕ) (r : Refusal) → Bytes s → eachRead F hs place s ≡ refused r → Fault place s r
+  each-fault : (hs : List H) → All (λ (h : H). Keeps F h × Faults F h) hs → (place : ℕ) (s : List ℕ) (r : Refusal) → Bytes s
+      → eachRead F hs place s ≡ refused r → Fault place s r
   each-fault [] b place s r p e = absurd (got-never e)
   each-fault (h ∷ hs) b place s r p e =
       refused-bind (F .read h place s) _ e (b .0 .1 .faults place s r p) λ i n ei e₁.
@@ -97,8 +104,10 @@ pattern-faults channels = record {
       refused-tests (Fault place s) _ _ e (omega arith) λ hs e₁.
       refused-bind _ _ e₁
       (λ ep.
-      let f = stored-faults channels (wordAt 5 s) (place + longAt 0 s) (part (longAt 0 s) (wordAt 7 s) s) r (bytes-take (wordAt 7 s) (bytes-drop (longAt 0 s) p)) ep in
-      let l = length-take-le (wordAt 7 s) (drop (longAt 0 s) s) (omega (arith, length-drop (longAt 0 s) s, hs .1 .1 .1 .0)) in
+      let L = longAt 0 s in
+      let S = wordAt 7 s in
+      let f = stored-faults channels (wordAt 5 s) (place + L) (part L S s) r (bytes-take S (bytes-drop L p)) ep in
+      let l = length-take-le S (drop L s) (omega (arith, length-drop L s, hs .1 .1 .1 .0)) in
       record { low = f .low; high = f .high; not-nine = f .not-nine; from = omega (arith, f .from); to = omega (arith, f .to, l, hs .1 .1 .1 .0) })
       (λ q m eq e₂. absurd (got-never e₂));
 }
@@ -113,7 +122,8 @@ data-faults head = record { faults = λ place s r p e. refused-tests (Fault plac
 
 cut-faults : (k size : ℕ) → Faults (cutSamplesFormat size) (replicate k size)
 cut-faults k size =
-    then-faults (λ sizes heads. heads) (many-keeps (cutHeadFormat size) k (cut-keeps size)) (many-faults (cutHeadFormat size) k (cut-keeps size) (head-faults size))
+    then-faults (λ sizes heads. heads) (many-keeps (cutHeadFormat size) k (cut-keeps size))
+    (many-faults (cutHeadFormat size) k (cut-keeps size) (head-faults size))
     (λ heads g. each-faults dataFormat heads (all (λ head. (data-keeps head, data-faults head)) heads))
 
 samples-faults : (k size : ℕ) → Faults samplesFormat (replicate k size)
@@ -135,8 +145,10 @@ instrument-faults stripped = record {
       refused-tests (Fault place s) _ _ e (omega arith) λ hs e₁.
       refused-bind _ _ e₁
       (λ ev.
-      fault-later place (longAt 0 s) s r (hs .1 .1 .0)
-      (samples-faults (wordAt 27 (fieldsOf stripped s)) (longAt 29 (fieldsOf stripped s)) .faults (place + longAt 0 s) (drop (longAt 0 s) s) r (bytes-drop (longAt 0 s) p) ev))
+      let I = longAt 0 s in
+      let fields = fieldsOf stripped s in
+      fault-later place I s r (hs .1 .1 .0)
+      (samples-faults (wordAt 27 fields) (longAt 29 fields) .faults (place + I) (drop I s) r (bytes-drop I p) ev))
       (λ v m ev e₂. absurd (got-never e₂));
 }
 
@@ -157,7 +169,8 @@ pub record FileFault (file : List ℕ) (r : Refusal) : Type 0 where
   pub place : r .place ≤ length file
   pub small : r .place ≤ fileMost
 
-pub whole-faults : {I A : Type 0} (F : Format (Unit {0}) I A) → Faults F tt → (file : List ℕ) (r : Refusal) → Bytes file → readWhole F file ≡ refused r → FileFault file r
+pub whole-faults : {I A : Type 0} (F : Format (Unit {0}) I A) → Faults F tt → (file : List ℕ) (r : Refusal)
+    → Bytes file → readWhole F file ≡ refused r → FileFault file r
 unfolding readWhole
 whole-faults F b file r p e =
     refused-tests (FileFault file) _ _ e (omega arith) λ hs e₁.

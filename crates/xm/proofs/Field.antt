@@ -8,7 +8,8 @@ use native.Mathlib.Omega.{arith}
 use lib.ListN.{length, getD, take, drop, length-append, length-drop}
 use lib.Seq.{drop-append-seam, drop-drop, drop-cons, take-add, take-at, length-take-le, getD-append-seam}
 use Rattle.xm.specs.Number.{Bytes, byteAt, wordAt, longAt, part, byte, word, long}
-use Rattle.xm.proofs.Number.{bytes-drop, bytes-nil, bytes-cons, bytes-append, bytes-take, word-small, long-small, word-drop, long-drop, Agree, agree-byte, agree-word, agree-long, agree-part}
+use Rattle.xm.proofs.Number.{bytes-drop, bytes-nil, bytes-cons, bytes-append, bytes-take, word-small, long-small}
+use Rattle.xm.proofs.Number.{word-drop, long-drop, Agree, agree-byte, agree-word, agree-long, agree-part}
 use Rattle.xm.proofs.Format.{pair-path, cons-path}
 
 -- What a field reads at an offset, what it writes, and the values that fit
@@ -76,7 +77,8 @@ four-bytes a b c d p q r t = cons-path (omega arith) (cons-path (omega arith) (c
 pub long-forth : (offset : ℕ) (s : List ℕ) → Bytes s → offset + 4 ≤ length s → long (longAt offset s) ≡ part offset 4 s
 unfolding longAt
 long-forth offset s b h =
-    four-bytes (getD s offset 0) (getD s (offset + 1) 0) (getD s (offset + 2) 0) (getD s (offset + 3) 0) (b .below offset) (b .below (offset + 1)) (b .below (offset + 2)) (b .below (offset + 3))
+    four-bytes (getD s offset 0) (getD s (offset + 1) 0) (getD s (offset + 2) 0) (getD s (offset + 3) 0)
+    (b .below offset) (b .below (offset + 1)) (b .below (offset + 2)) (b .below (offset + 3))
     ∙ sym (one-more offset (offset + 1) 3 s refl (omega arith)
     ∙ cons-path refl (one-more (offset + 1) (offset + 2) 2 s (omega arith) (omega arith)
     ∙ cons-path refl (one-more (offset + 2) (offset + 3) 1 s (omega arith) (omega arith)

@@ -25,7 +25,11 @@ joined-append f (x ∷ xs) ys = ap (λ (l : List _). f x ++ l) (joined-append f 
 
 pub joined-length : {A B : Type 0} (k : ℕ) (f : A → List B) → ((x : A) → length (f x) ≡ k) → (xs : List A) → length (joined f xs) ≡ k * length xs
 joined-length k f h [] = sym (mul-zero k)
-joined-length k f h (x ∷ xs) = length-append (f x) (joined f xs) ∙ ap₂ _+_ (h x) (joined-length k f h xs) ∙ add-comm k (k * length xs) ∙ sym (mul-suc k (length xs))
+joined-length k f h (x ∷ xs) =
+    length-append (f x) (joined f xs)
+    ∙ ap₂ _+_ (h x) (joined-length k f h xs)
+    ∙ add-comm k (k * length xs)
+    ∙ sym (mul-suc k (length xs))
 
 pub flat-append : {A : Type 0} (xss yss : List (List A)) → flat (xss ++ yss) ≡ flat xss ++ flat yss
 flat-append xss yss = joined-append (λ xs. xs) xss yss
@@ -127,7 +131,8 @@ module _ {H I A K J B : Type 0} (next : H → A → K) {F : Format H I A} {G : F
         bind-got (F .read h place s) _ e λ i k ei e₁. bind-got (G .read (next h (F .view i)) (place + k) (drop k s)) _ e₁ λ j m ej e₂.
         got-carry (λ (r : I × J) (t : ℕ). Adjoin place (then F next G .regions r) (place + t)) e₂
         (rw (← add-assoc place k m)
-        (adjoin-append place (place + k) (place + k + m) (F .regions i) (G .regions j) (b .adjoins place s i k ei) (c (F .view i) .adjoins (place + k) (drop k s) j m ej)));
+        (adjoin-append place (place + k) (place + k + m) (F .regions i) (G .regions j)
+        (b .adjoins place s i k ei) (c (F .view i) .adjoins (place + k) (drop k s) j m ej)));
   }
 
   pub then-firm : {h : H} → Firm F h → ((a : A) → Firm G (next h a)) → Firm (then F next G) h
@@ -143,7 +148,8 @@ module _ {H I A K J B : Type 0} (next : H → A → K) {F : Format H I A} {G : F
       → Tells (then F next G) h (λ file v. P file (v .0) × Q file (v .1))
   then-tells {h} {P} {Q} b c = record {
     tells = λ place file v n p e.
-        bind-got (F .read h place (drop place file)) _ e λ i k ei e₁. bind-got (G .read (next h (F .view i)) (place + k) (drop k (drop place file))) _ e₁ λ j m ej e₂.
+        bind-got (F .read h place (drop place file)) _ e λ i k ei e₁.
+        bind-got (G .read (next h (F .view i)) (place + k) (drop k (drop place file))) _ e₁ λ j m ej e₂.
         got-carry (λ (r : I × J) (u : ℕ). P file (r .0) × Q file (r .1)) e₂
         (b .tells place file i k p ei, c (F .view i) .tells (place + k) file j m p (rw (drop-drop k place file) at ej));
   }
@@ -214,7 +220,8 @@ module _ {H I A : Type 0} (F : Format H I A) where
       bind-got (F .read h place s) _ e λ i k ei e₁. bind-got (eachRead F hs (place + k) (drop k s)) _ e₁ λ js m ej e₂.
       got-carry (λ (r : List I) (t : ℕ). Adjoin place (joined (F .regions) r) (place + t)) e₂
       (rw (← add-assoc place k m)
-      (adjoin-append place (place + k) (place + k + m) (F .regions i) (joined (F .regions) js) (b .0 .adjoins place s i k ei) (each-adjoin hs (b .1) (place + k) (drop k s) js m ej)))
+      (adjoin-append place (place + k) (place + k + m) (F .regions i) (joined (F .regions) js)
+      (b .0 .adjoins place s i k ei) (each-adjoin hs (b .1) (place + k) (drop k s) js m ej)))
 
   each-firmly : (hs : List H) → All (Firm F) hs → (place : ℕ) (s t : List ℕ) (is : List I) (n : ℕ) → eachRead F hs place s ≡ got is n → Agree n s t
       → eachRead F hs place t ≡ got is n

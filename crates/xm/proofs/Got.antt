@@ -7,7 +7,8 @@ use native.Mathlib.Omega.{arith}
 use lib.Dec.{leb, eqb}
 use borrow.Author.Tests.{leb-true, le-leb, eqb-true, eq-eqb, eqb-false, ne-eqb}
 use Rattle.xm.specs.Format.{All}
-use Rattle.xm.specs.Got.{Refusal, Got, got, refused, accepted, Told, _>>=_, _>>_, Test, present, atLeast, atMost, within, exactly, unlike, even, holds, when, passes, allPass, refusalOf, Holds, AllHold, ensure, checked}
+use Rattle.xm.specs.Got.{Refusal, Got, got, refused, accepted, Told, _>>=_, _>>_, Test, present, atLeast, atMost, within}
+use Rattle.xm.specs.Got.{exactly, unlike, even, holds, when, passes, allPass, refusalOf, Holds, AllHold, ensure, checked}
 
 pub not-both : {A : Type 0} {x : A} {n : ℕ} {r : Refusal} → _≡_ {A = Got A} (refused r) (got x n) → ⊥
 not-both e = let z : _≡_ {A = ℕ} 0 1 = cc in omega arith
@@ -104,7 +105,8 @@ pub got-told : {A : Type 0} (P : A → Type 0) {g : Got A} {a : A} {n : ℕ} →
 got-told P e p = rw e p
 
 -- A hypothesis that a reading was accepted: its tests hold, and the step was accepted. What is found is handed on as variables
-passed-one : {A R : Type 0} (b : Bool) (r : Refusal) (ts : List Test) (g : Got A) {x : A} {n : ℕ} → (ensure b r >> checked ts >> g) ≡ got x n → (b ≡ true → (checked ts >> g) ≡ got x n → R) → R
+passed-one : {A R : Type 0} (b : Bool) (r : Refusal) (ts : List Test) (g : Got A) {x : A} {n : ℕ} → (ensure b r >> checked ts >> g) ≡ got x n
+    → (b ≡ true → (checked ts >> g) ≡ got x n → R) → R
 unfolding ensure _>>_
 passed-one true r ts g e k = k refl e
 passed-one false r ts g e k = absurd (not-both e)
@@ -114,7 +116,8 @@ unfolding checked
 passed [] g e k = k tt (sym (tests-none g) ∙ e)
 passed (t ∷ ts) g e k = passed-one (passes t) (refusalOf t) ts g e λ h e₁. passed ts g e₁ λ hs e₂. k (passes-holds t h, hs) e₂
 
-pub bind-got : {A B R : Type 0} (g : Got A) (k : A × ℕ → Got B) {y : B} {m : ℕ} → (g >>= k) ≡ got y m → ((a : A) (n : ℕ) → g ≡ got a n → k (a, n) ≡ got y m → R) → R
+pub bind-got : {A B R : Type 0} (g : Got A) (k : A × ℕ → Got B) {y : B} {m : ℕ} → (g >>= k) ≡ got y m
+    → ((a : A) (n : ℕ) → g ≡ got a n → k (a, n) ≡ got y m → R) → R
 unfolding _>>=_
 bind-got (got a n) k e r = r a n refl e
 bind-got (refused nr) k e r = absurd (not-both e)
@@ -135,9 +138,6 @@ pub got-carry : {A : Type 0} (P : A → ℕ → Type 0) {x y : A} {n m : ℕ} �
 got-carry P e h = subst₂ P (got-value e) (got-used e) h
 
 -- A hypothesis that a reading was refused: by a step or by what follows it, by one of its tests or by what follows them
-refusal-same : {A B : Type 0} {r q : Refusal} → _≡_ {A = Got B} (refused r) (refused q) → _≡_ {A = Got A} (refused r) (refused q)
-refusal-same e = cc
-
 pub got-never : {A : Type 0} {x : A} {n : ℕ} {r : Refusal} → _≡_ {A = Got A} (got x n) (refused r) → ⊥
 got-never e = not-both (sym e)
 
@@ -145,7 +145,7 @@ pub refused-bind : {A B R : Type 0} (g : Got A) (k : A × ℕ → Got B) {r : Re
     → ((a : A) (n : ℕ) → g ≡ got a n → k (a, n) ≡ refused r → R) → R
 unfolding _>>=_
 refused-bind (got a n) k e p q = q a n refl e
-refused-bind (refused r′) k e p q = p (refusal-same e)
+refused-bind (refused r′) k e p q = p cc
 
 pub same-refusal : {A : Type 0} {r q : Refusal} → _≡_ {A = Got A} (refused r) (refused q) → r ≡ q
 same-refusal e = cc

@@ -10,7 +10,9 @@ use lib.Seq.{length-take-le}
 use Rattle.xm.specs.Number.{Bytes, byteAt, wordAt, longAt, part}
 use Rattle.xm.specs.ModuleKind.{ModuleKind, normal, stripped}
 use Rattle.xm.specs.Got.{got, AllHold, present, atLeast, exactly, _at_}
-use Rattle.xm.specs.Header.{mark, version, sizeFrom, leastHeader, ordersMost, headerEnd, countTests, headerTests, Header, HeaderFound, GoodHeader, restartInside, restartOf, headerOf, readHeader, idText, writeHeader, headerFormat, padding, noTracker, trackerAt, GoodTracker}
+use Rattle.xm.specs.Header.{mark, version, sizeFrom, leastHeader, ordersMost, headerEnd, countTests, headerTests}
+use Rattle.xm.specs.Header.{Header, HeaderFound, GoodHeader, restartInside, restartOf, headerOf, readHeader}
+use Rattle.xm.specs.Header.{idText, writeHeader, headerFormat, padding, noTracker, trackerAt, GoodTracker}
 use Rattle.xm.specs.Region.{Adjoin}
 use Rattle.xm.proofs.Number.{bytes-drop, bytes-take, bytes-by, bytes-zeros, word-small, Agree}
 use Rattle.xm.proofs.Got.{pass, passed, got-both, got-carry}
@@ -87,34 +89,16 @@ unfolding trackerIn
 tracker-kept normal name g = refl
 tracker-kept stripped name g = sym g
 
--- The header's fields in their order, with so many orders
-abbrev Row : Type 0
-Row =
-    List ℕ
-    × (List ℕ
-    × (ℕ
-    × (List ℕ
-    × (ℕ
-    × (ℕ
-    × (ℕ
-    × (ℕ
-    × (ℕ
-    × (ℕ
-    × (ℕ
-    × (ℕ
-    × (ℕ
-    × (ℕ
-    × (List ℕ × (List ℕ × Unit {0})))))))))))))))
+-- The header's fields in their order, with so many orders: those from the song length on, and all
+abbrev Later : Type 0
+Later = ℕ × (ℕ × (ℕ × (ℕ × (ℕ × (ℕ × (ℕ × (ℕ × (List ℕ × (List ℕ × Unit {0})))))))))
 
-abbrev layout : (orders padding : ℕ) → Field Row
-layout n m =
-    textField 17
-    ⊗ textField 20
-    ⊗ byteField
-    ⊗ textField 20
-    ⊗ wordField
-    ⊗ longField
-    ⊗ wordField
+abbrev Row : Type 0
+Row = List ℕ × (List ℕ × (ℕ × (List ℕ × (ℕ × (ℕ × Later)))))
+
+abbrev laterFields : (orders padding : ℕ) → Field Later
+laterFields n m =
+    wordField
     ⊗ wordField
     ⊗ wordField
     ⊗ wordField
@@ -126,10 +110,17 @@ layout n m =
     ⊗ textField m
     ⊗ noField
 
+abbrev layout : (orders padding : ℕ) → Field Row
+layout n m = textField 17 ⊗ textField 20 ⊗ byteField ⊗ textField 20 ⊗ wordField ⊗ longField ⊗ laterFields n m
+
 -- stand at the paper's offsets
+abbrev laterOffsets : (orders padding : ℕ) → List ℕ → Later
+laterOffsets n m s =
+    let ends : List ℕ × (List ℕ × Unit {0}) = (part 80 n s, (part (80 + n) m s, tt)) in
+    (wordAt 64 s, (wordAt 66 s, (wordAt 68 s, (wordAt 70 s, (wordAt 72 s, (wordAt 74 s, (wordAt 76 s, (wordAt 78 s, ends))))))))
+
 abbrev offsets : (orders padding : ℕ) → List ℕ → Row
-offsets n m s =
-    (take 17 s, (part 17 20 s, (byteAt 37 s, (part 38 20 s, (wordAt 58 s, (longAt 60 s, (wordAt 64 s, (wordAt 66 s, (wordAt 68 s, (wordAt 70 s, (wordAt 72 s, (wordAt 74 s, (wordAt 76 s, (wordAt 78 s, (part 80 n s, (part (80 + n) m s, tt))))))))))))))))
+offsets n m s = (take 17 s, (part 17 20 s, (byteAt 37 s, (part 38 20 s, (wordAt 58 s, (longAt 60 s, laterOffsets n m s))))))
 
 -- What the tests and the content are of such fields
 abbrev sizeIn : Row → ℕ
@@ -167,20 +158,39 @@ TestsIn kind r n =
     ∷ countTests (c .songLength) (c .patterns) (c .channels) (c .instruments) 0
     ++ (present (sizeIn r + sizeFrom) n (1 at 0) ∷ []))
 
+abbrev writtenLater : ModuleKind → Header → Later
+writtenLater kind x =
+    let ends : List ℕ × (List ℕ × Unit {0}) = (x .orders, (replicate (padding kind (x .songLength)) 0, tt)) in
+    (x .songLength, (x .restart, (x .channels, (x .patterns, (x .instruments, (x .flags, (x .tempo, (x .bpm, ends))))))))
+
 written : ModuleKind → Header → Row
 written kind x =
-    (idText kind, (x .moduleName, (mark kind, (x .trackerName, (version kind, (leastHeader kind (x .songLength), (x .songLength, (x .restart, (x .channels, (x .patterns, (x .instruments, (x .flags, (x .tempo, (x .bpm, (x .orders, (replicate (padding kind (x .songLength)) 0, tt))))))))))))))))
+    let size = leastHeader kind (x .songLength) in
+    (idText kind, (x .moduleName, (mark kind, (x .trackerName, (version kind, (size, writtenLater kind x))))))
 
 content-of : (kind : ModuleKind) (n m : ℕ) (s : List ℕ) → n ≡ wordAt 64 s → contentIn kind (offsets n m s) ≡ headerOf kind s
 content-of kind n m s e =
     ap₂ (λ (t : List ℕ) (k : ℕ). contentWith (restartOf (wordAt 64 s) (wordAt 66 s)) t (offsets k m s)) (tracker-in kind s) e
 
 module _ (kind : ModuleKind) (x : Header) (g : GoodHeader kind x) where
+  zeros-fit : textField (padding kind (x .songLength)) .Fits (replicate (padding kind (x .songLength)) 0)
+  zeros-fit = (length-replicate (padding kind (x .songLength)) 0, bytes-zeros (padding kind (x .songLength)))
+
+  orders-fit : textField (x .songLength) .Fits (x .orders)
+  orders-fit = (g .orders-size, g .orders-plain)
+
+  later-fits : laterFields (x .songLength) (padding kind (x .songLength)) .Fits (writtenLater kind x)
+  later-fits =
+      let c = g .counts in
+      let restart : x .restart < 65536 = omega (arith, g .restart-low) in
+      (omega arith, (restart, (omega arith, (omega arith, (omega arith, (g .flags-high, (g .tempo-high, (g .bpm-high, (orders-fit, (zeros-fit, tt))))))))))
+
   written-fits : layout (x .songLength) (padding kind (x .songLength)) .Fits (written kind x)
   unfolding written
   written-fits =
-      let c = g .counts in
-      ((id-size kind, id-plain kind), ((g .name-size, g .name-plain), (mark-byte kind, (tracker-fits kind (x .trackerName) (g .tracker-good), (version-word kind, (omega (arith, least-high kind (x .songLength) (c .0 .1)), (omega arith, (omega (arith, g .restart-low), (omega arith, (omega arith, (omega arith, (g .flags-high, (g .tempo-high, (g .bpm-high, ((g .orders-size, g .orders-plain), ((length-replicate (padding kind (x .songLength)) 0, bytes-zeros (padding kind (x .songLength))), tt))))))))))))))))
+      let tracker = tracker-fits kind (x .trackerName) (g .tracker-good) in
+      let size : leastHeader kind (x .songLength) < 4294967296 = omega (arith, least-high kind (x .songLength) (g .counts .0 .1)) in
+      ((id-size kind, id-plain kind), ((g .name-size, g .name-plain), (mark-byte kind, (tracker, (version-word kind, (size, later-fits))))))
 
   written-reads : (rest : List ℕ) → offsets (x .songLength) (padding kind (x .songLength)) (writeHeader kind x ++ rest) ≡ written kind x
   unfolding writeHeader written
@@ -206,7 +216,8 @@ module _ (kind : ModuleKind) (x : Header) (g : GoodHeader kind x) where
     reads-content =
         sym (content-of kind (x .songLength) (padding kind (x .songLength)) file (sym song))
         ∙ ap (contentIn kind) (written-reads rest)
-        ∙ ap₂ (λ (r : ℕ) (t : List ℕ). contentWith r t (written kind x)) (restart-keeps (x .songLength) (x .restart) (g .restart-low)) (tracker-kept kind (x .trackerName) (g .tracker-good))
+        ∙ ap₂ (λ (r : ℕ) (t : List ℕ). contentWith r t (written kind x))
+        (restart-keeps (x .songLength) (x .restart) (g .restart-low)) (tracker-kept kind (x .trackerName) (g .tracker-good))
 
     reads-tests : AllHold (headerTests kind place file)
     unfolding written
@@ -227,7 +238,8 @@ module _ (kind : ModuleKind) (x : Header) (g : GoodHeader kind x) where
     unfolding readHeader header-found
     reads-all =
         pass (headerTests kind place file) reads-tests
-        (got-both (ap₂ (λ (n : ℕ) (h : Header). record { kind = kind; place = place; size = n; content = h }) reads-end reads-content) (reads-end ∙ sym header-size))
+        (got-both (ap₂ (λ (n : ℕ) (h : Header). record { kind = kind; place = place; size = n; content = h }) reads-end reads-content)
+        (reads-end ∙ sym header-size))
 
 header-plain : (kind : ModuleKind) (x : Header) → GoodHeader kind x → Bytes (writeHeader kind x)
 unfolding writeHeader written
@@ -253,7 +265,9 @@ good-content kind s b h =
       flags-high = word-small 74 b;
       tempo-high = word-small 76 b;
       bpm-high = word-small 78 b;
-      orders-size = length-take-le (wordAt 64 s) (drop 80 s) (omega (arith, length-drop 80 s, least-low kind (wordAt 64 s) (c .0 .1), h .1 .1 .1 .0, c .1 .1 .1 .1 .0));
+      orders-size =
+          length-take-le (wordAt 64 s) (drop 80 s)
+          (omega (arith, length-drop 80 s, least-low kind (wordAt 64 s) (c .0 .1), h .1 .1 .1 .0, c .1 .1 .1 .1 .0));
       orders-plain = bytes-take (wordAt 64 s) (bytes-drop 80 b);
     }
 
@@ -267,11 +281,13 @@ header-keeps kind = record {
       (record { inside = h .1 .1 .1 .1 .1 .1 .1 .1 .0; good = g; short = omega (arith, header-size kind (headerOf kind s) g, h .1 .1 .1 .0) });
 }
 
-same-tests : (kind : ModuleKind) (s t : List ℕ) (n : ℕ) → AllHold (headerTests kind 0 s) → headerEnd s ≤ n → Agree n s t → (offsets (wordAt 64 s) 0 s ≡ offsets (wordAt 64 s) 0 t)
-    → AllHold (headerTests kind 0 t)
+same-tests : (kind : ModuleKind) (s t : List ℕ) (n : ℕ) → AllHold (headerTests kind 0 s) → headerEnd s ≤ n → Agree n s t
+    → (offsets (wordAt 64 s) 0 s ≡ offsets (wordAt 64 s) 0 t) → AllHold (headerTests kind 0 t)
 same-tests kind s t n h l a z =
+    let c = h .1 .1 .1 .1 in
+    let there : 80 ≤ length t = omega (arith, a .long, h .1 .1 .1 .0, least-low kind (wordAt 64 s) (c .0 .1)) in
     subst (λ (r : Row). TestsIn kind r (length t)) z
-    (omega (arith, a .long, h .1 .1 .1 .0, least-low kind (wordAt 64 s) (h .1 .1 .1 .1 .0 .1)), (h .1 .0, (h .1 .1 .0, (h .1 .1 .1 .0, (h .1 .1 .1 .1 .0, (h .1 .1 .1 .1 .1 .0, (h .1 .1 .1 .1 .1 .1 .0, (h .1 .1 .1 .1 .1 .1 .1 .0, (omega (arith, a .long), tt)))))))))
+    (there, (h .1 .0, (h .1 .1 .0, (h .1 .1 .1 .0, (c .0, (c .1 .0, (c .1 .1 .0, (c .1 .1 .1 .0, (omega (arith, a .long), tt)))))))))
 
 pub header-firm : (kind : ModuleKind) → Firm (headerFormat kind) tt
 unfolding readHeader
@@ -292,5 +308,7 @@ header-firm kind = record {
 pub header-adjoins : (kind : ModuleKind) → Adjoins (headerFormat kind) tt
 unfolding readHeader
 header-adjoins kind = record {
-  adjoins = λ place s i n e. passed _ _ e λ h e. got-carry (λ (r : HeaderFound) (t : ℕ). Adjoin place (headerFormat kind .regions r) (place + t)) e (refl, refl);
+  adjoins = λ place s i n e.
+      passed _ _ e λ h e.
+      got-carry (λ (r : HeaderFound) (t : ℕ). Adjoin place (headerFormat kind .regions r) (place + t)) e (refl, refl);
 }

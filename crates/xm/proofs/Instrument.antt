@@ -13,9 +13,11 @@ use Rattle.xm.specs.Number.{Bytes, byteAt, wordAt, longAt, part, byte, w
 use Rattle.xm.specs.Got.{got, AllHold, present, atLeast, atMost, when, _at_}
 use Rattle.xm.specs.Format.{each, joined, flat, EachGood, All}
 use Rattle.xm.specs.Sample.{leastHead, Samples, SamplesFound, samplesFormat, Stretch, readHead, headFormat}
-use Rattle.xm.specs.Instrument.{leastInstrument, samplesMost, instrumentTests, Instrument, InstrumentFound, voiceSize, voiceOf, readInstrument, writeVoice, countOf, writeInstrument, GoodVoice, GoodInstrument, instrumentView, instrumentFormat, fieldsOf}
+use Rattle.xm.specs.Instrument.{leastInstrument, samplesMost, instrumentTests, Instrument, InstrumentFound, voiceSize, voiceOf, readInstrument}
+use Rattle.xm.specs.Instrument.{writeVoice, countOf, writeInstrument, GoodVoice, GoodInstrument, instrumentView, instrumentFormat, fieldsOf}
 use Rattle.xm.specs.Region.{Adjoin}
-use Rattle.xm.proofs.Number.{bytes-drop, bytes-take, bytes-append, bytes-nil, bytes-cons, bytes-zeros, Agree, agree-byte, agree-word, agree-long, agree-part, agree-drop}
+use Rattle.xm.proofs.Number.{bytes-drop, bytes-take, bytes-append, bytes-nil, bytes-cons, bytes-zeros}
+use Rattle.xm.proofs.Number.{Agree, agree-byte, agree-word, agree-long, agree-part, agree-drop}
 use Rattle.xm.proofs.Got.{no-true, pass, step, passed, bind-got, got-used, got-both, got-carry, got-value}
 use Rattle.xm.proofs.Format.{Back, ReadsBack, Keeps, Held, Adjoins, Firm, Tells, each-length, flat-append, read-length}
 use Rattle.xm.specs.ModuleKind.{ModuleKind, normal}
@@ -40,7 +42,8 @@ TestsOf I k H n = AllHold (
     ∷ [])
 
 written-tests : (k H n : ℕ) → k ≤ samplesMost → (1 ≤ k → H ≡ leastHead) → leastInstrument k + k * leastHead ≤ n → TestsOf (leastInstrument k) k H n
-written-tests zero H n few h l = (omega arith, (omega arith, (omega arith, ((λ q. absurd (no-true q)), (omega arith, ((λ q. absurd (no-true q)), ((λ q. absurd (no-true q)), tt)))))))
+written-tests zero H n few h l =
+    (omega arith, (omega arith, (omega arith, ((λ q. absurd (no-true q)), (omega arith, ((λ q. absurd (no-true q)), ((λ q. absurd (no-true q)), tt)))))))
 written-tests (suc k) H n few h l =
     let e = h (omega arith) in
     (omega arith, (omega arith, (few, ((λ q. omega arith), (omega arith, ((λ q. omega arith), ((λ q. rw e l), tt)))))))
@@ -65,7 +68,9 @@ voice-size (suc k) voice g = simp (length-append, g .0) (omega arith)
 voice-plain : (k : ℕ) (voice : List ℕ) → GoodVoice k voice → Bytes (writeVoice k voice)
 unfolding writeVoice
 voice-plain zero voice g = bytes-nil
-voice-plain (suc k) voice g = (longField ⊗ textField voiceSize ⊗ textField 22 ⊗ noField) .plain (leastHead, (voice, (replicate 22 0, tt))) (omega arith, (g, ((refl, bytes-zeros 22), tt)))
+voice-plain (suc k) voice g =
+    (longField ⊗ textField voiceSize ⊗ textField 22 ⊗ noField) .plain (leastHead, (voice, (replicate 22 0, tt)))
+    (omega arith, (g, ((refl, bytes-zeros 22), tt)))
 
 front-size : (x : Instrument) → length (x .name) ≡ 22 → GoodVoice (countOf x) (x .voice) → length (front x) ≡ leastInstrument (countOf x)
 unfolding front
@@ -74,7 +79,8 @@ front-size x n g = simp (length-append, n) (omega (arith, voice-size (countOf x)
 write-front : (x : Instrument) → writeInstrument normal x ≡ front x ++ samplesFormat .write (x .samples)
 unfolding writeInstrument front
 write-front x =
-    flat-append (long (leastInstrument (countOf x)) ∷ x .name ∷ byte (x .type) ∷ word (countOf x) ∷ writeVoice (countOf x) (x .voice) ∷ []) (samplesFormat .write (x .samples) ∷ [])
+    flat-append (long (leastInstrument (countOf x)) ∷ x .name ∷ byte (x .type) ∷ word (countOf x) ∷ writeVoice (countOf x) (x .voice) ∷ [])
+    (samplesFormat .write (x .samples) ∷ [])
     ∙ ap (λ (l : List ℕ). front x ++ l) (append-nil (samplesFormat .write (x .samples)))
 
 heads-size : (k : ℕ) (heads : List (List ℕ)) → EachGood headFormat (replicate k leastHead) heads → length (joined (λ (h : List ℕ). h) heads) ≡ k * leastHead
@@ -113,7 +119,9 @@ module _ (name : List ℕ) (type : ℕ) (voice samples rest : List ℕ) (named :
   unfolding writeVoice
   front-reads zero few v =
       let r : Row (Unit {0}) = (29, (name, (type, (0, (tt, samples ++ []))))) in
-      let w = layout noField (length (samples ++ [])) .back [] r rest (omega arith, (named, (typed, (omega arith, (tt, (refl, bytes-append plain bytes-nil)))))) in
+      let w =
+      layout noField (length (samples ++ [])) .back [] r rest
+      (omega arith, (named, (typed, (omega arith, (tt, (refl, bytes-append plain bytes-nil)))))) in
       record {
         size = ap (λ (r : Row (Unit {0})). r .0) w;
         named = ap (λ (r : Row (Unit {0})). r .1 .0) w;
@@ -135,7 +143,8 @@ module _ (name : List ℕ) (type : ℕ) (voice samples rest : List ℕ) (named :
         voiced = ap (λ (r : Row VoiceRow). r .1 .1 .1 .1 .0 .1 .0) w;
       }
 
-pub found-path : {place size size′ type type′ : ℕ} {name name′ voice voice′ : List ℕ} {samples : SamplesFound} → size ≡ size′ → name ≡ name′ → type ≡ type′ → voice ≡ voice′
+pub found-path : {place size size′ type type′ : ℕ} {name name′ voice voice′ : List ℕ} {samples : SamplesFound}
+    → size ≡ size′ → name ≡ name′ → type ≡ type′ → voice ≡ voice′
     → _≡_ {A = InstrumentFound} (record { place = place; size = size; name = name; type = type; voice = voice; samples = samples })
     (record { place = place; size = size′; name = name′; type = type′; voice = voice′; samples = samples })
 found-path p q r t = cc
@@ -152,7 +161,9 @@ module _ (x : Instrument) (g : GoodInstrument x) (place : ℕ) (rest : List ℕ)
 
   fields : FrontReads file count (x .name) (x .type) (x .voice)
   unfolding writeInstrument
-  fields = front-reads (x .name) (x .type) (x .voice) (samplesFormat .write (x .samples)) rest (g .name-size, g .name-plain) (g .type-byte) samples-plain count (g .few) (g .voice-good)
+  fields =
+      front-reads (x .name) (x .type) (x .voice) (samplesFormat .write (x .samples)) rest
+      (g .name-size, g .name-plain) (g .type-byte) samples-plain count (g .few) (g .voice-good)
 
   pub instrument-size : length (writeInstrument normal x) ≡ leastInstrument count + length (samplesFormat .write (x .samples))
   instrument-size =
@@ -168,8 +179,10 @@ module _ (x : Instrument) (g : GoodInstrument x) (place : ℕ) (rest : List ℕ)
   reads-tests : AllHold (instrumentTests normal place file)
   reads-tests =
       let f = fields in
+      let both = length-append (joined (λ (h : List ℕ). h) (x .samples .0)) (joined (λ (h : List ℕ). h) (x .samples .1)) in
       let l : leastInstrument count + count * leastHead ≤ length file =
-      omega (arith, length-append (writeInstrument normal x) rest, instrument-size, length-append (joined (λ (h : List ℕ). h) (x .samples .0)) (joined (λ (h : List ℕ). h) (x .samples .1)), heads-size count (x .samples .0) (g .samples-good .0)) in
+      let heads = heads-size count (x .samples .0) (g .samples-good .0) in
+      omega (arith, length-append (writeInstrument normal x) rest, instrument-size, both, heads) in
       subst (λ (I : ℕ). TestsOf I (wordAt 27 file) (longAt 29 file) (length file)) (sym (f .size))
       (subst (λ (k : ℕ). TestsOf (leastInstrument count) k (longAt 29 file) (length file)) (sym (f .count))
       (written-tests count (longAt 29 file) (length file) (g .few) (f .head) l))
@@ -188,12 +201,16 @@ module _ (x : Instrument) (g : GoodInstrument x) (place : ℕ) (rest : List ℕ)
   unfolding readInstrument instrument-found
   reads-all =
       let f = fields in
-      let r : samplesFormat .read (replicate (wordAt 27 file) (longAt 29 file)) (place + longAt 0 file) (drop (longAt 0 file) file) ≡ got (reads-samples .found) (length (samplesFormat .write (x .samples))) =
+      let n = length (samplesFormat .write (x .samples)) in
+      let I = longAt 0 file in
+      let r : samplesFormat .read (replicate (wordAt 27 file) (longAt 29 file)) (place + I) (drop I file) ≡ got (reads-samples .found) n =
       ap₂ (λ (k I : ℕ). samplesFormat .read (replicate k (longAt 29 file)) (place + I) (drop I file)) (f .count) (f .size)
       ∙ ap₂ (λ (hs : List ℕ) (s : List ℕ). samplesFormat .read hs (place + leastInstrument count) s) (same-sizes count (f .head)) samples-at
       ∙ reads-samples .reads in
       pass (instrumentTests normal place file) reads-tests
-      (step _ r (got-both (found-path (f .size) (f .named) (f .typed) (ap (λ (k : ℕ). voiceOf k file) (f .count) ∙ f .voiced)) (ap (λ (n : ℕ). n + length (samplesFormat .write (x .samples))) (f .size) ∙ sym instrument-size)))
+      (step _ r (got-both
+      (found-path (f .size) (f .named) (f .typed) (ap (λ (k : ℕ). voiceOf k file) (f .count) ∙ f .voiced))
+      (ap (λ (I : ℕ). I + n) (f .size) ∙ sym instrument-size)))
 
 instrument-plain : (x : Instrument) → GoodInstrument x → Bytes (writeInstrument normal x)
 unfolding writeInstrument
@@ -238,7 +255,8 @@ normal-keeps = record {
       let w = samples-kept k (longAt 29 s) (h .1 .1 .1 .1 .1 .0) .keeps (place + I) (drop I s) v m (bytes-drop I b) ev in
       let z : length (samplesFormat .view v .0) ≡ k =
       each-length headFormat (replicate k (longAt 29 s)) (samplesFormat .view v .0) (w .good .0) ∙ length-replicate k (longAt 29 s) in
-      let g : GoodInstrument (instrumentView (record { place = place; size = I; name = part 4 22 s; type = byteAt 26 s; voice = voiceOf k s; samples = v })) = record {
+      let found : InstrumentFound = record { place = place; size = I; name = part 4 22 s; type = byteAt 26 s; voice = voiceOf k s; samples = v } in
+      let g : GoodInstrument (instrumentView found) = record {
         name-size = length-take-le 22 (drop 4 s) (omega (arith, length-drop 4 s, h .0));
         name-plain = bytes-take 22 (bytes-drop 4 b);
         type-byte = b .below 26;
@@ -287,16 +305,19 @@ heads-used (suc k) H place s is n e =
 
 pub samples-used : (k H place : ℕ) (s : List ℕ) (v : SamplesFound) (n : ℕ) → samplesFormat .read (replicate k H) place s ≡ got v n → k * H ≤ n
 samples-used k H place s v n e =
-    bind-got _ _ e λ i m ei e₁. bind-got _ _ e₁ λ j u ej e₂. got-carry (λ (r : SamplesFound) (t : ℕ). k * H ≤ t) e₂ (omega (arith, heads-used k H place s i m ei))
+    bind-got _ _ e λ i m ei e₁. bind-got _ _ e₁ λ j u ej e₂.
+    got-carry (λ (r : SamplesFound) (t : ℕ). k * H ≤ t) e₂ (omega (arith, heads-used k H place s i m ei))
 
 same-tests : (I k : ℕ) (s t : List ℕ) (n m : ℕ) → TestsOf I k (longAt 29 s) (length s) → k * longAt 29 s ≤ m → I + m ≤ n → Agree n s t
     → TestsOf I k (longAt 29 t) (length t)
 same-tests I zero s t n m h u l a =
-    (omega (arith, a .long, h .1 .0), (h .1 .0, (h .1 .1 .0, ((λ q. absurd (no-true q)), (omega (arith, a .long), ((λ q. absurd (no-true q)), ((λ q. absurd (no-true q)), tt)))))))
+    let there : leastInstrument 0 ≤ length t = omega (arith, a .long, h .1 .0) in
+    (there, (h .1 .0, (h .1 .1 .0, ((λ q. absurd (no-true q)), (omega (arith, a .long), ((λ q. absurd (no-true q)), ((λ q. absurd (no-true q)), tt)))))))
 same-tests I (suc k) s t n m h u l a =
     let e : longAt 29 t ≡ longAt 29 s = sym (agree-long a 29 (omega (arith, least-size I (suc k) (longAt 29 s) (length s) h))) in
     let d : I + suc k * longAt 29 t ≤ length t = rw e (omega (arith, a .long)) in
-    (omega (arith, a .long, h .1 .0), (h .1 .0, (h .1 .1 .0, (h .1 .1 .1 .0, (omega (arith, a .long), ((λ q. rw e (h .1 .1 .1 .1 .1 .0 q)), ((λ q. d), tt)))))))
+    let there : leastInstrument 0 ≤ length t = omega (arith, a .long, h .1 .0) in
+    (there, (h .1 .0, (h .1 .1 .0, (h .1 .1 .1 .0, (omega (arith, a .long), ((λ q. rw e (h .1 .1 .1 .1 .1 .0 q)), ((λ q. d), tt)))))))
 
 pub normal-firm : Firm (instrumentFormat normal) tt
 unfolding readInstrument
@@ -337,24 +358,29 @@ instrument-tells kind = record {
 }
 
 -- The sample headers found are of H bytes each
-heads-sized : (k H place : ℕ) (s : List ℕ) (is : List Stretch) (n : ℕ) → each headFormat .read (replicate k H) place s ≡ got is n → All (λ (h : Stretch). h .size ≡ H) is
+heads-sized : (k H place : ℕ) (s : List ℕ) (is : List Stretch) (n : ℕ) → each headFormat .read (replicate k H) place s ≡ got is n
+    → All (λ (h : Stretch). h .size ≡ H) is
 unfolding readHead
 heads-sized zero H place s is n e = got-carry (λ (r : List Stretch) (u : ℕ). All (λ (h : Stretch). h .size ≡ H) r) e tt
 heads-sized (suc k) H place s is n e =
     bind-got _ _ e λ i m ei e₁. bind-got _ _ e₁ λ js j ej e₂.
     passed _ _ ei λ h ei.
-    got-carry (λ (r : List Stretch) (u : ℕ). All (λ (h : Stretch). h .size ≡ H) r) e₂ (ap Stretch.size (sym (got-value ei)), heads-sized k H (place + m) (drop m s) js j ej)
+    got-carry (λ (r : List Stretch) (u : ℕ). All (λ (h : Stretch). h .size ≡ H) r) e₂
+    (ap Stretch.size (sym (got-value ei)), heads-sized k H (place + m) (drop m s) js j ej)
 
-pub samples-sizes : (k H place : ℕ) (s : List ℕ) (v : SamplesFound) (n : ℕ) → samplesFormat .read (replicate k H) place s ≡ got v n → All (λ (h : Stretch). h .size ≡ H) (v .0)
+pub samples-sizes : (k H place : ℕ) (s : List ℕ) (v : SamplesFound) (n : ℕ) → samplesFormat .read (replicate k H) place s ≡ got v n
+    → All (λ (h : Stretch). h .size ≡ H) (v .0)
 samples-sizes k H place s v n e =
-    bind-got _ _ e λ i m ei e₁. bind-got _ _ e₁ λ j u ej e₂. got-carry (λ (r : SamplesFound) (t : ℕ). All (λ (h : Stretch). h .size ≡ H) (r .0)) e₂ (heads-sized k H place s i m ei)
+    bind-got _ _ e λ i m ei e₁. bind-got _ _ e₁ λ j u ej e₂.
+    got-carry (λ (r : SamplesFound) (t : ℕ). All (λ (h : Stretch). h .size ≡ H) (r .0)) e₂ (heads-sized k H place s i m ei)
 
 pub all-low : (low H : ℕ) (is : List Stretch) → low ≤ H → All (λ (h : Stretch). h .size ≡ H) is → All (λ (h : Stretch). low ≤ h .size) is
 all-low low H [] l a = tt
 all-low low H (i ∷ is) l a = (omega (arith, a .0), all-low low H is l (a .1))
 
 -- so in a normal file of 40 or more
-samples-wide : (k H : ℕ) (v : SamplesFound) → (ltb 0 k ≡ true → leastHead ≤ H) → length (v .0) ≡ k → All (λ (h : Stretch). h .size ≡ H) (v .0) → All (λ (h : Stretch). leastHead ≤ h .size) (v .0)
+samples-wide : (k H : ℕ) (v : SamplesFound) → (ltb 0 k ≡ true → leastHead ≤ H) → length (v .0) ≡ k
+    → All (λ (h : Stretch). h .size ≡ H) (v .0) → All (λ (h : Stretch). leastHead ≤ h .size) (v .0)
 samples-wide k H ([], ds) l c a = tt
 samples-wide k H (i ∷ is, ds) l c a = all-low leastHead H (i ∷ is) (l (lt-ltb 0 k (omega (arith, c)))) a
 
@@ -367,7 +393,8 @@ normal-wide = record {
       let k = wordAt 27 s in
       let H = longAt 29 s in
       let c : length (v .0) ≡ k = bind-got _ _ ev λ i u ei e₁. bind-got _ _ e₁ λ j t ej e₂.
-      got-carry (λ (r : SamplesFound) (q : ℕ). length (r .0) ≡ k) e₂ (read-length headFormat (replicate k H) (place + longAt 0 s) (drop (longAt 0 s) s) i u ei ∙ length-replicate k H) in
+      got-carry (λ (r : SamplesFound) (q : ℕ). length (r .0) ≡ k) e₂
+      (read-length headFormat (replicate k H) (place + longAt 0 s) (drop (longAt 0 s) s) i u ei ∙ length-replicate k H) in
       got-carry (λ (r : InstrumentFound) (u : ℕ). All (λ (h : Stretch). leastHead ≤ h .size) (r .samples .0)) e
       (samples-wide k H v (h .1 .1 .1 .1 .1 .0) c (samples-sizes k H (place + longAt 0 s) (drop (longAt 0 s) s) v m ev));
 }

@@ -26,9 +26,11 @@ header-kind : (kind : ModuleKind) (place : ℕ) (s : List ℕ) (i : HeaderFound)
 unfolding readHeader
 header-kind kind place s i n e = passed _ _ e λ h e. got-carry (λ (r : HeaderFound) (u : ℕ). (r .kind ≡ kind) × Fits kind s) e (refl, (h .1 .0, h .1 .1 .0))
 
-module-kind : (kind : ModuleKind) (file : List ℕ) (found : Found) (end : ℕ) → moduleFormat kind .read tt 0 file ≡ got found end → (found .0 .kind ≡ kind) × Fits kind file
+module-kind : (kind : ModuleKind) (file : List ℕ) (found : Found) (end : ℕ) → moduleFormat kind .read tt 0 file ≡ got found end
+    → (found .0 .kind ≡ kind) × Fits kind file
 module-kind kind file found end e =
-    bind-got _ _ e λ i k ei e₁. bind-got _ _ e₁ λ v m ev e₂. got-carry (λ (r : Found) (u : ℕ). (r .0 .kind ≡ kind) × Fits kind file) e₂ (header-kind kind 0 file i k ei)
+    bind-got _ _ e λ i k ei e₁. bind-got _ _ e₁ λ v m ev e₂.
+    got-carry (λ (r : Found) (u : ℕ). (r .0 .kind ≡ kind) × Fits kind file) e₂ (header-kind kind 0 file i k ei)
 
 pub kind-found : (kind : ModuleKind) (file : List ℕ) (found : Found) (end : ℕ) → moduleFormat kind .read tt 0 file ≡ got found end → found .0 .kind ≡ kind
 kind-found kind file found end e = module-kind kind file found end e .0

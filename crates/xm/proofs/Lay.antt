@@ -110,7 +110,8 @@ module _ {A : Type 0} {lent goal out : List A} {to : ℕ} {rest : List A} (l : L
   laid-long e = omega (arith, l .count, ap length e)
 
 -- The first piece is written; and the last one, in front of a lent part
-pub laid-first : {A : Type 0} (lent goal piece later : List A) {out : List A} {next : ℕ} → goal ≡ piece ++ later → length goal ≤ length lent → next ≡ length piece
+pub laid-first : {A : Type 0} (lent goal piece later : List A) {out : List A} {next : ℕ}
+    → goal ≡ piece ++ later → length goal ≤ length lent → next ≡ length piece
     → out ≡ inFront piece lent → Laid lent goal out next later
 laid-first lent goal piece later {out} {next} e h n w = laid-more (laid-none lent goal h) piece later out next e (omega arith) w
 

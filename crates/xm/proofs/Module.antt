@@ -14,7 +14,8 @@ use Rattle.xm.specs.Instrument.{InstrumentFound, instrumentFormat}
 use Rattle.xm.specs.Module.{patternsFor, instrumentsFor, bodyFormat, Found, moduleFormat, fileMost, readWhole}
 use Rattle.xm.proofs.Number.{Agree}
 use Rattle.xm.proofs.Got.{pass, passed, bind-got, got-carry}
-use Rattle.xm.proofs.Format.{Back, Keeps, Adjoins, Firm, Tells, over-back, over-keeps, over-adjoins, over-firm, over-tells, then-back, then-keeps, then-adjoins, then-firm, then-tells, many-back, many-keeps, many-adjoins, many-firm, many-tells}
+use Rattle.xm.proofs.Format.{Back, Keeps, Adjoins, Firm, Tells, over-back, over-keeps, over-adjoins, over-firm, over-tells, then-back}
+use Rattle.xm.proofs.Format.{then-keeps, then-adjoins, then-firm, then-tells, many-back, many-keeps, many-adjoins, many-firm, many-tells}
 use Rattle.xm.proofs.Header.{header-back, header-keeps, header-adjoins, header-firm}
 use Rattle.xm.proofs.PatternInFile.{PatternTold, pattern-back, pattern-keeps, pattern-adjoins, pattern-firm, pattern-tells}
 use Rattle.xm.proofs.Sample.{SamplesTold}
@@ -73,7 +74,8 @@ module _ (kind : ModuleKind) {P : List ℕ → InstrumentFound → Type 0} (told
       got-carry (λ (r : Found) (u : ℕ). All (PatternTold (r .0 .content .channels) file) (r .1 .0) × All (P file) (r .1 .1)) e₂
       (body-tells (i .content) .tells k file v m b (rw (zero-add k) at ev))
 
-pub module-tells : (kind : ModuleKind) (file : List ℕ) (found : Found) (end : ℕ) → Bytes file → moduleFormat kind .read tt 0 file ≡ got found end → ModuleTold file found
+pub module-tells : (kind : ModuleKind) (file : List ℕ) (found : Found) (end : ℕ) → Bytes file → moduleFormat kind .read tt 0 file ≡ got found end
+    → ModuleTold file found
 module-tells kind file found end b e =
     let t = module-told kind (instrument-tells kind) file found end b e in record { patterns = t .0; instruments = t .1 }
 
@@ -83,7 +85,8 @@ module _ {I A : Type 0} (F : Format (Unit {0}) I A) where
   unfolding readWhole
   whole-reads file found end h e = pass _ (h, tt) e
 
-  pub whole-read : {R : Type 0} (file : List ℕ) (found : I) (end : ℕ) → readWhole F file ≡ got found end → (length file ≤ fileMost → F .read tt 0 file ≡ got found end → R) → R
+  pub whole-read : {R : Type 0} (file : List ℕ) (found : I) (end : ℕ) → readWhole F file ≡ got found end
+      → (length file ≤ fileMost → F .read tt 0 file ≡ got found end → R) → R
   unfolding readWhole
   whole-read file found end e k = passed _ _ e λ h e. k (h .0) e
 

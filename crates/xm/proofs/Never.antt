@@ -15,7 +15,8 @@ use Rattle.xm.specs.Got.{Refusal, Got, refused, _>>_, Test, checked, pre
 use Rattle.xm.specs.Format.{Format, over, then, each, eachRead, All}
 use Rattle.xm.specs.Cell.{cellFormat, readCell}
 use Rattle.xm.specs.Stored.{readCells, readStored}
-use Rattle.xm.specs.Header.{Header, HeaderFound, mark, version, markAt, versionAt, sizeAt, songLengthAt, ordersFrom, leastHeader, countTests, patternsAt, channelsAt, instrumentsAt, headerEnd, headerFormat, readHeader}
+use Rattle.xm.specs.Header.{Header, HeaderFound, mark, version, markAt, versionAt, sizeAt, songLengthAt, ordersFrom}
+use Rattle.xm.specs.Header.{leastHeader, countTests, patternsAt, channelsAt, instrumentsAt, headerEnd, headerFormat, readHeader}
 use Rattle.xm.specs.PatternInFile.{patternFormat, readPattern}
 use Rattle.xm.specs.Sample.{headFormat, readHead, dataFormat, readData, samplesFormat}
 use Rattle.xm.specs.Instrument.{fieldsOf, instrumentFormat, readInstrument}
@@ -38,16 +39,19 @@ pub record Never {H I A : Type 0} (F : Format H I A) (h : H) (number : ℕ) : Ty
 over-never : {H K I A : Type 0} (f : K → H) {F : Format H I A} (k : K) (number : ℕ) → Never F (f k) number → Never (over f F) k number
 over-never f k number b = record { never = b .never }
 
-then-never : {H I A K J B : Type 0} (next : H → A → K) {F : Format H I A} {G : Format K J B} (number : ℕ) {h : H} → Never F h number → ((a : A) → Never G (next h a) number)
+then-never : {H I A K J B : Type 0} (next : H → A → K) {F : Format H I A} {G : Format K J B} (number : ℕ) {h : H}
+    → Never F h number → ((a : A) → Never G (next h a) number)
     → Never (then F next G) h number
 then-never next {F} {G} number {h} b c = record {
   never = λ place s r e.
       refused-bind (F .read h place s) _ e (b .never place s r) λ i n ei e₁.
-      refused-bind (G .read (next h (F .view i)) (place + n) (drop n s)) _ e₁ (c (F .view i) .never (place + n) (drop n s) r) (λ j m ej e₂. absurd (got-never e₂));
+      refused-bind (G .read (next h (F .view i)) (place + n) (drop n s)) _ e₁ (c (F .view i) .never (place + n) (drop n s) r)
+      (λ j m ej e₂. absurd (got-never e₂));
 }
 
 module _ {H I A : Type 0} (F : Format H I A) (number : ℕ) where
-  each-other : (hs : List H) → All (λ (h : H). Never F h number) hs → (place : ℕ) (s : List ℕ) (r : Refusal) → eachRead F hs place s ≡ refused r → Other number r
+  each-other : (hs : List H) → All (λ (h : H). Never F h number) hs → (place : ℕ) (s : List ℕ) (r : Refusal)
+      → eachRead F hs place s ≡ refused r → Other number r
   each-other [] b place s r e = absurd (got-never e)
   each-other (h ∷ hs) b place s r e =
       refused-bind (F .read h place s) _ e (b .0 .never place s r) λ i n ei e₁.
@@ -94,13 +98,16 @@ module _ (number : ℕ) (u : Free number) where
   pattern-never channels = record {
     never = λ place s r e.
         refused-tests (Other number) _ _ e (u .one, (u .six, (u .six, (u .one, tt)))) λ hs e₁.
-        refused-bind _ _ e₁ (stored-never channels (wordAt 5 s) (place + longAt 0 s) (part (longAt 0 s) (wordAt 7 s) s) r) (λ q m eq e₂. absurd (got-never e₂));
+        refused-bind _ _ e₁ (stored-never channels (wordAt 5 s) (place + longAt 0 s) (part (longAt 0 s) (wordAt 7 s) s) r)
+        (λ q m eq e₂. absurd (got-never e₂));
   }
 
   head-never : (size : ℕ) → Never headFormat size number
   unfolding readHead
   head-never size = record {
-    never = λ place s r e. refused-tests (Other number) _ _ e (u .one, (u .twelve, (u .thirteen, (u .thirteen, (u .thirteen, (u .thirteen, (u .thirteen, tt))))))) λ hs e₁. absurd (got-never e₁);
+    never = λ place s r e.
+        refused-tests (Other number) _ _ e (u .one, (u .twelve, (u .thirteen, (u .thirteen, (u .thirteen, (u .thirteen, (u .thirteen, tt)))))))
+        λ hs e₁. absurd (got-never e₁);
   }
 
   data-never : (head : List ℕ) → Never dataFormat head number
@@ -108,24 +115,30 @@ module _ (number : ℕ) (u : Free number) where
   data-never head = record { never = λ place s r e. refused-tests (Other number) _ _ e (u .one, tt) λ hs e₁. absurd (got-never e₁) }
 
   samples-never : (k size : ℕ) → Never samplesFormat (replicate k size) number
-  samples-never k size = then-never (λ sizes heads. heads) number (many-never headFormat number k (head-never size)) (λ heads. each-never dataFormat number heads (all data-never heads))
+  samples-never k size =
+      then-never (λ sizes heads. heads) number (many-never headFormat number k (head-never size))
+      (λ heads. each-never dataFormat number heads (all data-never heads))
 
 instrument-never : (kind : ModuleKind) (number : ℕ) → FreeIn kind number → Never (instrumentFormat kind) tt number
 unfolding readInstrument
 instrument-never normal number u = record {
   never = λ place s r e.
       refused-tests (Other number) _ _ e (u .0 .one, (u .0 .ten, (u .0 .ten, (u .0 .ten, (u .0 .one, (u .1, (u .0 .one, tt))))))) λ hs e₁.
-      refused-bind _ _ e₁ (samples-never number (u .0) (wordAt 27 s) (longAt 29 s) .never (place + longAt 0 s) (drop (longAt 0 s) s) r) (λ v m ev e₂. absurd (got-never e₂));
+      refused-bind _ _ e₁ (samples-never number (u .0) (wordAt 27 s) (longAt 29 s) .never (place + longAt 0 s) (drop (longAt 0 s) s) r)
+      (λ v m ev e₂. absurd (got-never e₂));
 }
 instrument-never stripped number u = record {
   never = λ place s r e.
       refused-tests (Other number) _ _ e (u .one, (u .ten, (u .one, (u .ten, (u .one, tt))))) λ hs e₁.
-      refused-bind _ _ e₁ (samples-never number u (wordAt 27 (fieldsOf stripped s)) (longAt 29 (fieldsOf stripped s)) .never (place + longAt 0 s) (drop (longAt 0 s) s) r) (λ v m ev e₂. absurd (got-never e₂));
+      let fields = fieldsOf stripped s in
+      refused-bind _ _ e₁ (samples-never number u (wordAt 27 fields) (longAt 29 fields) .never (place + longAt 0 s) (drop (longAt 0 s) s) r)
+      (λ v m ev e₂. absurd (got-never e₂));
 }
 
 body-never : (kind : ModuleKind) (number : ℕ) → FreeIn kind number → (x : Header) → Never (bodyFormat kind) x number
 body-never kind number u x =
-    then-never instrumentsFor number (over-never patternsFor x number (many-never patternFormat number (x .patterns) (pattern-never number (free kind number u) (x .channels))))
+    let patterns = many-never patternFormat number (x .patterns) (pattern-never number (free kind number u) (x .channels)) in
+    then-never instrumentsFor number (over-never patternsFor x number patterns)
     (λ patterns. many-never (instrumentFormat kind) number (x .instruments) (instrument-never kind number u))
 
 -- The tests of a header behind its mark and version
@@ -137,12 +150,20 @@ later kind place s =
 
 -- A file that has its first 80 bytes and a pair of mark and version, and is refused
 module _ (kind : ModuleKind) (file : List ℕ) (small : length file ≤ fileMost) (long : ordersFrom ≤ length file) (f : Fits kind file) where
-  first-three : (g : Got HeaderFound) → (checked (present ordersFrom (length file) (1 at 0) ∷ exactly (mark kind) (markAt file) (3 at 0) ∷ exactly (version kind) (versionAt file) (3 at 0) ∷ later kind 0 file) >> g)
-      ≡ (checked (later kind 0 file) >> g)
+  abbrev hasOrders : Test
+  hasOrders = present ordersFrom (length file) (1 at 0)
+
+  abbrev isMarked : Test
+  isMarked = exactly (mark kind) (markAt file) (3 at 0)
+
+  abbrev isVersion : Test
+  isVersion = exactly (version kind) (versionAt file) (3 at 0)
+
+  first-three : (g : Got HeaderFound) → (checked (hasOrders ∷ isMarked ∷ isVersion ∷ later kind 0 file) >> g) ≡ (checked (later kind 0 file) >> g)
   first-three g =
-      test-holds (present ordersFrom (length file) (1 at 0)) (exactly (mark kind) (markAt file) (3 at 0) ∷ exactly (version kind) (versionAt file) (3 at 0) ∷ later kind 0 file) g long
-      ∙ test-holds (exactly (mark kind) (markAt file) (3 at 0)) (exactly (version kind) (versionAt file) (3 at 0) ∷ later kind 0 file) g (f .0)
-      ∙ test-holds (exactly (version kind) (versionAt file) (3 at 0)) (later kind 0 file) g (f .1)
+      test-holds hasOrders (isMarked ∷ isVersion ∷ later kind 0 file) g long
+      ∙ test-holds isMarked (isVersion ∷ later kind 0 file) g (f .0)
+      ∙ test-holds isVersion (later kind 0 file) g (f .1)
 
   checking-read : (r : Refusal) → checking file ≡ refuses r → moduleFormat kind .read tt 0 file ≡ refused r
   unfolding checking readWhole
@@ -152,27 +173,29 @@ module _ (kind : ModuleKind) (file : List ℕ) (small : length file ≤ fileMost
   unfolding checking readWhole
   read-checking r e = answer-refuses checkedAs (kind-reads kind file f ∙ pass _ (small, tt) e)
 
-  refused-later : (number : ℕ) → FreeIn kind number → (r : Refusal) → checking file ≡ refuses r → (readHeader kind 0 file ≡ refused r → Other number r) → Other number r
+  refused-later : (number : ℕ) → FreeIn kind number → (r : Refusal) → checking file ≡ refuses r
+      → (readHeader kind 0 file ≡ refused r → Other number r) → Other number r
   refused-later number u r e head =
       refused-bind (readHeader kind 0 file) _ (checking-read r e) head λ i n ei e₁.
-      refused-bind (bodyFormat kind .read (i .content) (0 + n) (drop n file)) _ e₁ (body-never kind number u (i .content) .never (0 + n) (drop n file) r) (λ v m ev e₂. absurd (got-never e₂))
+      refused-bind (bodyFormat kind .read (i .content) (0 + n) (drop n file)) _ e₁ (body-never kind number u (i .content) .never (0 + n) (drop n file) r)
+      (λ v m ev e₂. absurd (got-never e₂))
 
   -- is not refused by 3, and by 4 exactly when its header is too small
   never-three : FreeIn kind 3 → checking file ≡ refuses (3 at 0) → ⊥
   unfolding readHeader
   never-three u e =
       refused-later 3 u (3 at 0) e
-      (λ eh. refused-tests (Other 3) (later kind 0 file) _ (sym (first-three _) ∙ eh)
-      ((λ q. omega arith), ((λ q. omega arith), ((λ q. omega arith), ((λ q. omega arith), ((λ q. omega arith), ((λ q. omega arith), tt)))))) λ hs e₁. absurd (got-never e₁))
+      (λ eh. refused-tests (Other 3) (later kind 0 file) _ (sym (first-three _) ∙ eh) (omega arith) λ hs e₁. absurd (got-never e₁))
       refl
 
   never-four : FreeIn kind 4 → leastHeader kind (songLengthAt file) ≤ sizeAt file → checking file ≡ refuses (4 at 0) → ⊥
   unfolding readHeader
   never-four u l e =
       refused-later 4 u (4 at 0) e
-      (λ eh. refused-tests (Other 4) (countTests (songLengthAt file) (patternsAt file) (channelsAt file) (instrumentsAt file) 0 ++ (present (headerEnd file) (length file) (1 at 0) ∷ [])) _
-      (sym (first-three _ ∙ test-holds _ _ _ l) ∙ eh)
-      ((λ q. omega arith), ((λ q. omega arith), ((λ q. omega arith), ((λ q. omega arith), ((λ q. omega arith), tt))))) λ hs e₁. absurd (got-never e₁))
+      (λ eh.
+      let counts = countTests (songLengthAt file) (patternsAt file) (channelsAt file) (instrumentsAt file) 0 in
+      refused-tests (Other 4) (counts ++ (present (headerEnd file) (length file) (1 at 0) ∷ [])) _ (sym (first-three _ ∙ test-holds _ _ _ l) ∙ eh)
+      (omega arith) λ hs e₁. absurd (got-never e₁))
       refl
 
   small-four : sizeAt file < leastHeader kind (songLengthAt file) → checking file ≡ refuses (4 at 0)
@@ -195,7 +218,8 @@ free-in normal number h l = (free-of number h l, λ q. omega arith)
 free-in stripped number h l = free-of number h l
 
 -- 3 is given where neither pair fits
-neither-three : (file : List ℕ) → length file ≤ fileMost → ordersFrom ≤ length file → ((kind : ModuleKind) → Fits kind file → ⊥) → checking file ≡ refuses (3 at 0)
+neither-three : (file : List ℕ) → length file ≤ fileMost → ordersFrom ≤ length file → ((kind : ModuleKind) → Fits kind file → ⊥)
+    → checking file ≡ refuses (3 at 0)
 unfolding checking readWhole readHeader
 neither-three file small long none = answer-refuses checkedAs (as-normal ∙ pass _ (small, tt) (step-refused _ (by (eqb (markAt file) (mark normal)) refl)))
   where
@@ -205,10 +229,14 @@ neither-three file small long none = answer-refuses checkedAs (as-normal ∙ pas
     normal-kind false u p q = refl
 
     as-normal : readFile file ≡ readWhole (moduleFormat normal) file
-    as-normal = ap (λ (k : ModuleKind). readWhole (moduleFormat k) file) (kind-stripped file ∙ normal-kind (eqb (markAt file) (mark stripped)) (eqb (versionAt file) (version stripped)) refl refl)
+    as-normal =
+        ap (λ (k : ModuleKind). readWhole (moduleFormat k) file)
+        (kind-stripped file ∙ normal-kind (eqb (markAt file) (mark stripped)) (eqb (versionAt file) (version stripped)) refl refl)
 
     by : (t : Bool) → eqb (markAt file) (mark normal) ≡ t → readHeader normal 0 file ≡ refused (3 at 0)
-    by true p = test-holds _ _ _ long ∙ test-holds _ _ _ (eqb-true (markAt file) (mark normal) p) ∙ test-fails _ _ _ (λ q. none normal (eqb-true (markAt file) (mark normal) p, q))
+    by true p =
+        let marked = eqb-true (markAt file) (mark normal) p in
+        test-holds _ _ _ long ∙ test-holds _ _ _ marked ∙ test-fails _ _ _ (λ q. none normal (marked, q))
     by false p = test-holds _ _ _ long ∙ test-fails _ _ _ (λ q. eqb-false (markAt file) (mark normal) p q)
 
 -- 11 is never given of a stripped file
@@ -227,9 +255,7 @@ header-eleven : Never (headerFormat stripped) tt 11
 unfolding readHeader
 header-eleven = record {
   never = λ place s r e.
-      refused-tests (Other 11) _ _ e
-      ((λ q. omega arith), ((λ q. omega arith), ((λ q. omega arith), ((λ q. omega arith), ((λ q. omega arith), ((λ q. omega arith), ((λ q. omega arith), ((λ q. omega arith), ((λ q. omega arith), tt)))))))))
-      λ hs e₁. absurd (got-never e₁);
+      refused-tests (Other 11) _ _ e (omega arith) λ hs e₁. absurd (got-never e₁);
 }
 
 module-eleven : Never (moduleFormat stripped) tt 11
@@ -238,19 +264,27 @@ module-eleven = then-never (λ u x. x) 11 header-eleven (body-never stripped 11 
 eleven-never : (file : List ℕ) → Fits stripped file → (place : ℕ) → checking file ≡ refuses (11 at place) → ⊥
 unfolding checking readWhole
 eleven-never file f place e =
-    refused-tests (Other 11) _ _ (sym (kind-reads stripped file f) ∙ refuses-refused checkedAs (readFile file) e) ((λ q. omega arith), tt) (λ hs e₁. module-eleven .never 0 file (11 at place) e₁) refl
+    refused-tests (Other 11) _ _ (sym (kind-reads stripped file f) ∙ refuses-refused checkedAs (readFile file) e) ((λ q. omega arith), tt)
+    (λ hs e₁. module-eleven .never 0 file (11 at place) e₁) refl
 
 pub kinds-refused : (file : List ℕ) → KindsRefused file
 kinds-refused file = record {
-  three-exactly = λ small long. ((λ q kind f. never-three kind file small long f (free-in kind 3 (omega arith) (omega arith)) q), neither-three file small long);
+  three-exactly = λ small long. (
+    λ q kind f. never-three kind file small long f (free-in kind 3 (omega arith) (omega arith)) q,
+    neither-three file small long,
+  );
   four-exactly = λ small long f. four normal small long f;
   four-stripped = λ small long f. four stripped small long f;
   eleven-never = eleven-never file;
 }
   where
-    four : (kind : ModuleKind) → length file ≤ fileMost → ordersFrom ≤ length file → Fits kind file → (checking file ≡ refuses (4 at 0)) ↔ (sizeAt file < leastHeader kind (songLengthAt file))
+    four : (kind : ModuleKind) → length file ≤ fileMost → ordersFrom ≤ length file → Fits kind file
+        → (checking file ≡ refuses (4 at 0)) ↔ (sizeAt file < leastHeader kind (songLengthAt file))
     four kind small long f = (below (leb (leastHeader kind (songLengthAt file)) (sizeAt file)) refl, small-four kind file small long f)
       where
-        below : (t : Bool) → leb (leastHeader kind (songLengthAt file)) (sizeAt file) ≡ t → checking file ≡ refuses (4 at 0) → sizeAt file < leastHeader kind (songLengthAt file)
-        below true p q = absurd (never-four kind file small long f (free-in kind 4 (omega arith) (omega arith)) (leb-true (leastHeader kind (songLengthAt file)) (sizeAt file) p) q)
+        below : (t : Bool) → leb (leastHeader kind (songLengthAt file)) (sizeAt file) ≡ t → checking file ≡ refuses (4 at 0)
+            → sizeAt file < leastHeader kind (songLengthAt file)
+        below true p q =
+            let enough = leb-true (leastHeader kind (songLengthAt file)) (sizeAt file) p in
+            absurd (never-four kind file small long f (free-in kind 4 (omega arith) (omega arith)) enough q)
         below false p q = leb-false (leastHeader kind (songLengthAt file)) (sizeAt file) p

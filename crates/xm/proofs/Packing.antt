@@ -14,16 +14,20 @@ use Rattle.xm.specs.Answer.{gives, refuses, result, inFront}
 use Rattle.xm.specs.Cell.{cellMost, cellFormat}
 use Rattle.xm.specs.Stored.{Pattern, emptyRows, readStored, allZero, needsNoData, writeStored, GoodPattern, cellsOf}
 use Rattle.xm.specs.PatternInFile.{dataMost, writePattern}
-use Rattle.xm.specs.Packing.{argumentTests, cellBytes, rowsRead, unpacking, unpackLoader, patternOf, packing, storedLength, packNumbers, packAfter, packLoader}
+use Rattle.xm.specs.Packing.{argumentTests, cellBytes, rowsRead, unpacking, unpackLoader}
+use Rattle.xm.specs.Packing.{patternOf, packing, storedLength, packNumbers, packAfter, packLoader}
 use Rattle.xm.specs.Demands.{KeepsItsWord, accepts, StoredFormOf, WellFormed, UnpacksToCells, PackedShortest, Fifteen, EmptyPatterns, LoaderTells}
 use Rattle.xm.proofs.Number.{bytes-nil, bytes-append, bytes-drop, bytes-by}
 use Rattle.xm.proofs.Got.{not-both, test-holds, test-fails, pass, step, step-refused, refused-bind, refused-tests}
 use Rattle.xm.proofs.Format.{cons-path}
 use Rattle.xm.proofs.Cell.{five-bytes}
-use Rattle.xm.proofs.Stored.{pattern-path, Fives, Full, flat-length, cells-flat, flat-cells, cells-length, cells-fives, good-count, good-fives, empty-flat, rows-good, rows-none, none-rows, write-none, write-cells, product-some, stored-none, stored-plain, stored-back, StoredKept, stored-keeps, stored-rows, stored-most, stored-full}
+use Rattle.xm.proofs.Stored.{pattern-path, Fives, Full, flat-length, cells-flat, flat-cells, cells-length, cells-fives, good-count}
+use Rattle.xm.proofs.Stored.{good-fives, empty-flat, rows-good, rows-none, none-rows, write-none, write-cells, product-some}
+use Rattle.xm.proofs.Stored.{stored-none, stored-plain, stored-back, StoredKept, stored-keeps, stored-rows, stored-most, stored-full}
 use Rattle.xm.proofs.Row.{cells-least}
 use Rattle.xm.proofs.Fault.{fault-numbered, stored-faults}
-use Rattle.xm.proofs.Answer.{answer-gives, answer-refuses, gives-passed, gives-bound, gives-same, refuses-refused, gives-refuses, tests-fail, refused-passed, SoundRefusal, read-sound, word-kept, loader-tells, accepted-gives, reported-written}
+use Rattle.xm.proofs.Answer.{answer-gives, answer-refuses, gives-passed, gives-bound, gives-same, refuses-refused, gives-refuses, tests-fail}
+use Rattle.xm.proofs.Answer.{refused-passed, SoundRefusal, read-sound, word-kept, loader-tells, accepted-gives, reported-written}
 
 -- The arguments are in range, as the tests for 16 say
 abbrev pub UnpackRange : (rows channels : ℕ) (stored : List ℕ) → Type 0
@@ -98,7 +102,8 @@ pub record PackGives (rows channels : ℕ) (cells : List ℕ) (room : ℕ) (p : 
   pub small : length (writeStored p) ≤ dataMost
   pub fits : length (writeStored p) ≤ room
 
-pub pack-given : (rows channels : ℕ) (cells : List ℕ) (room : ℕ) (p : Pattern) → packing rows channels cells room ≡ gives p → PackGives rows channels cells room p
+pub pack-given : (rows channels : ℕ) (cells : List ℕ) (room : ℕ) (p : Pattern) → packing rows channels cells room ≡ gives p
+    → PackGives rows channels cells room p
 unfolding packing
 pack-given rows channels cells room p e =
     gives-passed _ _ _ e λ range e. gives-passed _ _ _ e λ sizes e.
@@ -150,10 +155,12 @@ module _ (channels : ℕ) (p : Pattern) (most : channels ≤ 64) (g : GoodPatter
   good-pattern = pattern-path refl (flat-cells (p .rows * channels) (p .cells) count fives)
 
 -- No stored form is shorter than what is written, and what is written is one if it is not too long
-pub form-least : (channels : ℕ) (p : Pattern) → 1 ≤ channels → (row : ℕ) (bytes : List ℕ) → StoredFormOf channels p row bytes → length (writeStored p) ≤ length bytes
+pub form-least : (channels : ℕ) (p : Pattern) → 1 ≤ channels → (row : ℕ) (bytes : List ℕ) → StoredFormOf channels p row bytes
+    → length (writeStored p) ≤ length bytes
 form-least channels p some row bytes f = stored-keeps channels row 0 bytes p (f .used) (f .plain) some (f .low) (f .high) (f .reads) .short
 
-pub form-written : (channels : ℕ) (p : Pattern) → GoodPattern channels p → length (writeStored p) ≤ dataMost → StoredFormOf channels p (p .rows) (writeStored p)
+pub form-written : (channels : ℕ) (p : Pattern) → GoodPattern channels p → length (writeStored p) ≤ dataMost
+    → StoredFormOf channels p (p .rows) (writeStored p)
 form-written channels p g small = record {
   low = g .low;
   high = g .high;
@@ -164,7 +171,8 @@ form-written channels p g small = record {
 }
 
 -- Demand 3 for a pattern
-pub pack-shortest : (rows channels : ℕ) (cells : List ℕ) (room : ℕ) → WellFormed rows channels cells → PackedShortest rows channels cells room (patternOf rows channels cells)
+pub pack-shortest : (rows channels : ℕ) (cells : List ℕ) (room : ℕ) → WellFormed rows channels cells
+    → PackedShortest rows channels cells room (patternOf rows channels cells)
 pack-shortest rows channels cells room well = record {
   too-large-exactly = (
     λ e row bytes f. let big = pack-fifteen rows channels cells room e .1 in omega (arith, least row bytes f, f .small),
@@ -208,7 +216,8 @@ pack-shortest rows channels cells room well = record {
     no-room not15 = pack-room rows channels cells room range (small-by not15)
 
 -- 15 never occurs while six bytes a cell are few enough, and occurs if there are more of them and all cells are full
-pub fifteen-never : (rows channels : ℕ) (cells : List ℕ) (room : ℕ) → 256 * channels * cellMost ≤ dataMost → packing rows channels cells room ≡ refuses (15 at 0) → ⊥
+pub fifteen-never : (rows channels : ℕ) (cells : List ℕ) (room : ℕ) → 256 * channels * cellMost ≤ dataMost
+    → packing rows channels cells room ≡ refuses (15 at 0) → ⊥
 fifteen-never rows channels cells room h e =
     let s = pack-fifteen rows channels cells room e in
     omega (
@@ -234,7 +243,7 @@ full-good (suc n) = (record { size = refl; plain = bytes-by fullCell refl }, ful
 
 full-fields : (n : ℕ) → All Full (replicate n fullCell)
 full-fields zero = tt
-full-fields (suc n) = ((omega arith, ((λ e. omega arith), ((λ e. omega arith), ((λ e. omega arith), ((λ e. omega arith), ((λ e. omega arith), tt)))))), full-fields n)
+full-fields (suc n) = (omega arith, full-fields n)
 
 module _ (rows channels : ℕ) (arguments : AllHold (argumentTests rows channels)) where
   full-pattern : GoodPattern channels (fullPattern rows channels)
@@ -271,7 +280,8 @@ packed-back rows channels cells room enough p b e h =
     let k = pack-given rows channels cells room p e in
     let range = k .range in
     let g = pattern-good rows channels cells (well-formed range b) in
-    let reads : readStored channels rows 0 (writeStored p) ≡ got p (length (writeStored p)) = rw (k .same) at (stored-back channels 0 (patternOf rows channels cells) g) in
+    let reads : readStored channels rows 0 (writeStored p) ≡ got p (length (writeStored p)) =
+    rw (k .same) at (stored-back channels 0 (patternOf rows channels cells) g) in
     unpack-gives rows channels (writeStored p) enough (range .0, (range .1 .0, (k .small, tt))) reads (rw (packed-cells rows channels cells room p e) h)
 
 -- What a pattern given by unpacking says: it was read, it is good, and it is written in no more bytes; so it packs again
@@ -281,19 +291,22 @@ pub record UnpackGives (rows channels : ℕ) (stored : List ℕ) (room : ℕ) (p
   pub reads : readStored channels rows 0 stored ≡ got p used
   pub fits : length (cellBytes p) ≤ room
 
-pub unpack-given : (rows channels : ℕ) (stored : List ℕ) (room : ℕ) (p : Pattern) → unpacking rows channels stored room ≡ gives p → UnpackGives rows channels stored room p
+pub unpack-given : (rows channels : ℕ) (stored : List ℕ) (room : ℕ) (p : Pattern) → unpacking rows channels stored room ≡ gives p
+    → UnpackGives rows channels stored room p
 unfolding unpacking
 unpack-given rows channels stored room p e =
     gives-passed _ _ _ e λ range e. gives-bound _ _ _ e λ q n reads e. gives-passed _ _ _ e λ fits e.
     let same : q ≡ p = gives-same e in
     record { range = range; used = n; reads = rw same at reads; fits = rw same at (fits .0) }
 
-pub unpack-kept : (rows channels : ℕ) (stored : List ℕ) (room : ℕ) (p : Pattern) → Bytes stored → unpacking rows channels stored room ≡ gives p → StoredKept channels stored p
+pub unpack-kept : (rows channels : ℕ) (stored : List ℕ) (room : ℕ) (p : Pattern) → Bytes stored → unpacking rows channels stored room ≡ gives p
+    → StoredKept channels stored p
 unpack-kept rows channels stored room p b e =
     let k = unpack-given rows channels stored room p e in
     stored-keeps channels rows 0 stored p (k .used) b (k .range .1 .0 .0) (k .range .0 .0) (k .range .0 .1) (k .reads)
 
-pub good-packs : (channels : ℕ) (p : Pattern) (room : ℕ) → channels ≤ 64 → GoodPattern channels p → PackRoom p room → packing (p .rows) channels (cellBytes p) room ≡ gives p
+pub good-packs : (channels : ℕ) (p : Pattern) (room : ℕ) → channels ≤ 64 → GoodPattern channels p → PackRoom p room
+    → packing (p .rows) channels (cellBytes p) room ≡ gives p
 good-packs channels p room most g h =
     let same = good-pattern channels p most g in
     let w = good-well channels p most g in
@@ -327,14 +340,16 @@ module _ (rows channels : ℕ) (arguments : AllHold (argumentTests rows channels
 
   empty-unpacks : (room : ℕ) → rows * channels * 5 ≤ room → unpacking rows channels [] room ≡ gives (emptyRows channels rows)
   empty-unpacks room h =
-      unpack-gives rows channels [] room (arguments .0, (arguments .1 .0, (omega arith, tt))) (stored-none channels rows 0 [] refl) (omega (arith, ap length empty-bytes, zeros-length))
+      unpack-gives rows channels [] room (arguments .0, (arguments .1 .0, (omega arith, tt))) (stored-none channels rows 0 [] refl)
+      (omega (arith, ap length empty-bytes, zeros-length))
 
   empty-packs : (room : ℕ) → packing rows channels zeros room ≡ gives (emptyRows channels rows)
   empty-packs room =
       let same = good-pattern channels (emptyRows channels rows) (arguments .1 .0 .1) empty-pattern in
       let well = good-well channels (emptyRows channels rows) (arguments .1 .0 .1) empty-pattern in
       rw (← empty-bytes)
-      (pack-gives rows channels (cellBytes (emptyRows channels rows)) room (well-range well) (omega (arith, ap storedLength same, empty-written)) (omega (arith, ap storedLength same, empty-written))
+      (pack-gives rows channels (cellBytes (emptyRows channels rows)) room (well-range well)
+      (omega (arith, ap storedLength same, empty-written)) (omega (arith, ap storedLength same, empty-written))
       ∙ ap gives same)
 
 none-only : (channels : ℕ) (p : Pattern) → GoodPattern channels p → writeStored p ≡ [] → p ≡ emptyRows channels (p .rows)
@@ -345,7 +360,9 @@ none-only channels p g e = go (needsNoData p) refl
     go false q =
         let n = p .rows * channels in
         let least = cells-least (p .cells) (good-fives n (p .cells) (g .good)) in
-        absurd (omega (arith, ap length (sym (write-cells p q) ∙ e), least, good-count n (p .cells) (g .good), product-some (p .rows) channels (g .low) (g .some)))
+        let count = good-count n (p .cells) (g .good) in
+        let some = product-some (p .rows) channels (g .low) (g .some) in
+        absurd (omega (arith, ap length (sym (write-cells p q) ∙ e), least, count, some))
 
 -- and the cells of one are empty, by whatever bytes they were stored
 one-content : (rows channels : ℕ) (stored : List ℕ) (room : ℕ) (p : Pattern) → Bytes stored → unpacking rows channels stored room ≡ gives p
@@ -355,14 +372,18 @@ one-content rows channels stored room p b e z =
     let k = unpack-given rows channels stored room p e in
     let arguments : AllHold (argumentTests rows channels) = (k .range .0, (k .range .1 .0, tt)) in
     let none : needsNoData p ≡ true = ap allZero (z ∙ sym (empty-bytes rows channels arguments)) ∙ rows-none channels rows in
-    let same = none-rows channels p (unpack-kept rows channels stored room p b e .good) none ∙ ap (emptyRows channels) (stored-rows channels rows 0 stored p (k .used) (k .reads)) in
+    let same =
+    none-rows channels p (unpack-kept rows channels stored room p b e .good) none
+    ∙ ap (emptyRows channels) (stored-rows channels rows 0 stored p (k .used) (k .reads)) in
     empty-unpacks rows channels arguments room (omega (arith, k .fits, ap length z, zeros-length rows channels arguments)) ∙ ap gives (sym same)
 
 pub empty-patterns : EmptyPatterns
 unfolding zeros writePattern
 empty-patterns = record {
   unpacked = λ rows channels room h. empty-unpacks rows channels h room;
-  packed = λ rows channels room h. rw (empty-packs rows channels h room) (cons-path refl (cons-path refl (cons-path (omega (arith, empty-written rows channels h)) (cons-path (omega arith) refl))));
+  packed = λ rows channels room h.
+      rw (empty-packs rows channels h room)
+      (cons-path refl (cons-path refl (cons-path (omega (arith, empty-written rows channels h)) (cons-path (omega arith) refl))));
   written = λ rows channels. rw (write-none (emptyRows channels rows) (rows-none channels rows)) refl;
   only = none-only;
   one-content = one-content;
@@ -373,7 +394,8 @@ pub record CallFault (r : Refusal) : Type 0 where
   pub sound : SoundRefusal r
   pub place : r .place ≤ dataMost
 
-pub unpack-faults : (rows channels : ℕ) (stored : List ℕ) (room : ℕ) (r : Refusal) → Bytes stored → unpacking rows channels stored room ≡ refuses r → CallFault r
+pub unpack-faults : (rows channels : ℕ) (stored : List ℕ) (room : ℕ) (r : Refusal) → Bytes stored → unpacking rows channels stored room ≡ refuses r
+    → CallFault r
 unfolding unpacking
 unpack-faults rows channels stored room r b e =
     refused-tests CallFault _ _ (refuses-refused _ _ e) (omega arith) λ range e.
@@ -433,8 +455,9 @@ pack-apart rows channels cells room p e =
     rw n (omega arith, omega arith)
 
 -- Demand 2 of a pattern
-pub unpacks-to-cells : (rows channels : ℕ) (cells out lent : List ℕ) → Bytes cells → accepts (packNumbers rows channels cells (length out)) → length cells ≤ length lent
-    → UnpacksToCells rows channels cells lent (packNumbers rows channels cells (length out)) (packAfter rows channels cells out)
+pub unpacks-to-cells : (rows channels : ℕ) (cells out lent : List ℕ) → Bytes cells
+    → let reported = packNumbers rows channels cells (length out) in
+    accepts reported → length cells ≤ length lent → UnpacksToCells rows channels cells lent reported (packAfter rows channels cells out)
 unpacks-to-cells rows channels cells out lent b accepted h =
     accepted-gives (packing rows channels cells (length out)) (λ r e. pack-faults rows channels cells (length out) r e .sound .numbered .0) accepted λ p e.
     let back : unpacking rows channels (writeStored p) (length lent) ≡ gives p = packed-back rows channels cells (length out) (length lent) p b e h in

@@ -68,7 +68,8 @@ module _ (channels : ℕ) (p : Pattern) (g : GoodStored channels p) where
         let L : longAt 0 file ≡ leastPattern = ap (λ (r : Row). r .0) fields in
         let rows : wordAt 5 file ≡ p .rows = ap (λ (r : Row). r .1 .1 .0) fields in
         let S : wordAt 7 file ≡ length (writeStored p) = ap (λ (r : Row). r .1 .1 .1 .0) fields in
-        let stored : part (longAt 0 file) (wordAt 7 file) file ≡ writeStored p = ap₂ (λ (o n : ℕ). part o n file) L S ∙ ap (λ (r : Row). r .1 .1 .1 .1 .0) fields in
+        let stored : part (longAt 0 file) (wordAt 7 file) file ≡ writeStored p =
+        ap₂ (λ (o n : ℕ). part o n file) L S ∙ ap (λ (r : Row). r .1 .1 .1 .1 .0) fields in
         let r : readStored channels (wordAt 5 file) (place + longAt 0 file) (part (longAt 0 file) (wordAt 7 file) file) ≡ got p (length (writeStored p)) =
         ap₂ (λ (n o : ℕ). readStored channels n (place + o) (part (longAt 0 file) (wordAt 7 file) file)) rows L
         ∙ ap (readStored channels (p .rows) (place + leastPattern)) stored
@@ -88,7 +89,8 @@ pattern-keeps channels c = record {
   keeps = λ place s i n b e.
       passed _ _ e λ h e. bind-got _ _ e λ p m ep e.
       let d = part (longAt 0 s) (wordAt 7 s) s in
-      let w = stored-keeps channels (wordAt 5 s) (place + longAt 0 s) d p m (bytes-take (wordAt 7 s) (bytes-drop (longAt 0 s) b)) c (h .1 .1 .0 .0) (h .1 .1 .0 .1) ep in
+      let plain = bytes-take (wordAt 7 s) (bytes-drop (longAt 0 s) b) in
+      let w = stored-keeps channels (wordAt 5 s) (place + longAt 0 s) d p m plain c (h .1 .1 .0 .0) (h .1 .1 .0 .1) ep in
       let l : length d ≡ wordAt 7 s = length-take-le (wordAt 7 s) (drop (longAt 0 s) s) (omega (arith, length-drop (longAt 0 s) s, h .1 .1 .1 .0)) in
       let g : GoodStored channels p = record { pattern = w .good; room = omega (arith, w .short, word-small 7 b) } in
       got-carry (λ (r : PatternFound) (t : ℕ). Held patternFormat channels place s r t) e
@@ -104,7 +106,8 @@ unfolding readPattern
 pattern-adjoins channels = record {
   adjoins = λ place s i n e.
       passed _ _ e λ h e. bind-got _ _ e λ p m ep e.
-      got-carry (λ (r : PatternFound) (t : ℕ). Adjoin place (patternFormat .regions r) (place + t)) e (refl, (refl, add-assoc place (longAt 0 s) (wordAt 7 s)));
+      got-carry (λ (r : PatternFound) (t : ℕ). Adjoin place (patternFormat .regions r) (place + t)) e
+      (refl, (refl, add-assoc place (longAt 0 s) (wordAt 7 s)));
 }
 
 pub pattern-firm : (channels : ℕ) → Firm patternFormat channels
@@ -117,9 +120,12 @@ pattern-firm channels = record {
       let L : longAt 0 t ≡ longAt 0 s = sym (agree-long a 0 (omega (arith, h .1 .0))) in
       let rows : wordAt 5 t ≡ wordAt 5 s = sym (agree-word a 5 (omega (arith, h .1 .0))) in
       let S : wordAt 7 t ≡ wordAt 7 s = sym (agree-word a 7 (omega (arith, h .1 .0))) in
-      let d : part (longAt 0 t) (wordAt 7 t) t ≡ part (longAt 0 s) (wordAt 7 s) s = ap₂ (λ (o k : ℕ). part o k t) L S ∙ sym (agree-part a (longAt 0 s) (wordAt 7 s) (omega arith)) in
+      let d : part (longAt 0 t) (wordAt 7 t) t ≡ part (longAt 0 s) (wordAt 7 s) s =
+      ap₂ (λ (o k : ℕ). part o k t) L S ∙ sym (agree-part a (longAt 0 s) (wordAt 7 s) (omega arith)) in
       let r : readStored channels (wordAt 5 t) (place + longAt 0 t) (part (longAt 0 t) (wordAt 7 t) t) ≡ got p m =
-      ap₂ (λ (k o : ℕ). readStored channels k (place + o) (part (longAt 0 t) (wordAt 7 t) t)) rows L ∙ ap (readStored channels (wordAt 5 s) (place + longAt 0 s)) d ∙ ep in
+      ap₂ (λ (k o : ℕ). readStored channels k (place + o) (part (longAt 0 t) (wordAt 7 t) t)) rows L
+      ∙ ap (readStored channels (wordAt 5 s) (place + longAt 0 s)) d
+      ∙ ep in
       pass (patternTests place t)
       (rw (L, rows, S) (omega (arith, a .long, h .1 .0), (h .1 .0, (h .1 .1 .0, (omega (arith, a .long), tt)))))
       (step _ r (got-both (found-path L S) (ap₂ (λ (o k : ℕ). o + k) L S)))) refl;
@@ -142,7 +148,8 @@ pattern-tells channels = record {
         small = omega (arith, word-small 7 (bytes-drop place b));
         used = m;
         reads =
-            ap (λ (rows : ℕ). readStored channels rows (place + longAt 0 s) (part (place + longAt 0 s) (wordAt 7 s) file)) (stored-rows channels (wordAt 5 s) _ _ p m ep)
+            ap (λ (rows : ℕ). readStored channels rows (place + longAt 0 s) (part (place + longAt 0 s) (wordAt 7 s) file))
+            (stored-rows channels (wordAt 5 s) _ _ p m ep)
             ∙ rw (← part-drop place (longAt 0 s) (wordAt 7 s) file) ep;
       });
 }

@@ -55,7 +55,9 @@ module _ {I A : Type 0} (F : Format (Unit {0}) I A) (back : Back F tt) (keeps : 
     pub press-gives : (room : ℕ) → length (F .write x) ≤ room → pressingAs F file room ≡ gives (F .write x)
     unfolding pressingAs
     press-gives room h =
-        ap (answered (λ bytes used. bytes)) (step _ (f .reads) (pass _ {r = got (F .write (F .view (f .found))) (f .end)} (omega (arith, ap (λ (y : A). length (F .write y)) (f .same)), tt) refl))
+        let size = ap (λ (y : A). length (F .write y)) (f .same) in
+        ap (answered (λ bytes used. bytes))
+        (step _ (f .reads) (pass _ {r = got (F .write (F .view (f .found))) (f .end)} (omega (arith, size), tt) refl))
         ∙ ap {B = Answer (List ℕ)} (λ (y : A). gives (F .write y)) (f .same)
 
     pub press-narrow : (room : ℕ) → room < length (F .write x) → pressingAs F file room ≡ refuses (14 at 0)
@@ -86,11 +88,14 @@ module _ {I A : Type 0} (F : Format (Unit {0}) I A) (back : Back F tt) (keeps : 
   pressed-ends f = refl
 
   -- demand 2: what stands in the output is the file written
-  pub pressed-into : {x : A} {file : List ℕ} → FileOf F x file → (out : List ℕ) → accepts (pressNumbersAs F file (length out)) → pressedInto F file out ≡ F .write x
+  pub pressed-into : {x : A} {file : List ℕ} → FileOf F x file → (out : List ℕ) → accepts (pressNumbersAs F file (length out))
+      → pressedInto F file out ≡ F .write x
   pressed-into {x} {file} f out n = go (decLe (length (F .write x)) (length out))
     where
       go : Dec (length (F .write x) ≤ length out) → pressedInto F file out ≡ F .write x
-      go (yes h) = reported-written pressedLength (λ bytes. bytes) (pressingAs F file (length out)) out (F .write x) (press-gives f (length out) h) (omega arith)
+      go (yes h) =
+          let n = length out in
+          reported-written pressedLength (λ bytes. bytes) (pressingAs F file n) out (F .write x) (press-gives f n h) (omega arith)
       go (no h) = absurd (let z : _≡_ {A = ℕ} 14 0 = ap numberOf (sym (press-narrow f (length out) (omega (arith, h)))) ∙ n in omega arith)
 
   pub pressed-back : PressReadsBack F

@@ -28,7 +28,8 @@ adjoin-high a e [] k c h = absurd (omega arith)
 adjoin-high a e (r ∷ rs) zero c h = adjoin-end (r .place + r .size) e rs (c .1)
 adjoin-high a e (r ∷ rs) (suc k) c h = adjoin-high (r .place + r .size) e rs k (c .1) (omega arith)
 
-adjoin-apart : (a e : ℕ) (rs : List Region) (j k : ℕ) → Adjoin a rs e → j < k → k < length rs → regionAt rs j .place + regionAt rs j .size ≤ regionAt rs k .place
+adjoin-apart : (a e : ℕ) (rs : List Region) (j k : ℕ) → Adjoin a rs e → j < k → k < length rs
+    → regionAt rs j .place + regionAt rs j .size ≤ regionAt rs k .place
 adjoin-apart a e [] j k c h l = absurd (omega arith)
 adjoin-apart a e (r ∷ rs) j zero c h l = absurd (omega arith)
 adjoin-apart a e (r ∷ rs) zero (suc k) c h l = adjoin-low (r .place + r .size) e rs k (c .1) (omega arith)

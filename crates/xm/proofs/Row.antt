@@ -16,7 +16,8 @@ use Rattle.xm.specs.Stored.{Pattern, readRow, readCells, readStored, all
 use Rattle.xm.specs.Row.{cellsIn, sizeBy}
 use Rattle.xm.proofs.Got.{not-both, accepted-got, got-accepted, bind-got, got-value, got-used}
 use Rattle.xm.proofs.Format.{cons-path}
-use Rattle.xm.proofs.Cell.{bit-none, bit-some, kept-length, marked-length, length-some, cell-length, cell-read, write-plain, write-marked, write-some, write-short, plain-many}
+use Rattle.xm.proofs.Cell.{bit-none, bit-some, kept-length, marked-length, length-some, cell-length}
+use Rattle.xm.proofs.Cell.{cell-read, write-plain, write-marked, write-some, write-short, plain-many}
 use Rattle.xm.proofs.Stored.{Fives, zero-append, write-none, write-cells}
 
 -- What an accepted row says: which cells it has, that each takes a byte or more, and that they are written in no more bytes
@@ -67,7 +68,8 @@ shifted-got base (got b m) e = e
 shifted-got base (refused r) e = absurd (not-both e)
 
 module _ (base : ℕ) where
-  shifted-bind : {A B : Type 0} (g : Got A) (k later : A × ℕ → Got B) → ((a : A) (n : ℕ) → later (a, n) ≡ shifted base (k (a, n))) → (shifted base g >>= later) ≡ shifted base (g >>= k)
+  shifted-bind : {A B : Type 0} (g : Got A) (k later : A × ℕ → Got B) → ((a : A) (n : ℕ) → later (a, n) ≡ shifted base (k (a, n)))
+      → (shifted base g >>= later) ≡ shifted base (g >>= k)
   unfolding shifted _>>=_
   shifted-bind (got a n) k later h = h a n
   shifted-bind (refused r) k later h = refl
@@ -121,7 +123,8 @@ module _ (base : ℕ) where
   stored-shifted channels rows (b ∷ d) = cells-shifted rows (b ∷ d) channels
 
 -- So an accepted reading is accepted anywhere
-pub row-anywhere : (count place other : ℕ) (s : List ℕ) (cells : List (List ℕ)) (used : ℕ) → readRow count place s ≡ got cells used → readRow count other s ≡ got cells used
+pub row-anywhere : (count place other : ℕ) (s : List ℕ) (cells : List (List ℕ)) (used : ℕ) → readRow count place s ≡ got cells used
+    → readRow count other s ≡ got cells used
 unfolding shifted
 row-anywhere count place other s cells used e =
     from other ∙ ap (shifted other) (shifted-got place (readRow count 0 s) (sym (from place) ∙ e))
@@ -129,10 +132,12 @@ row-anywhere count place other s cells used e =
     from : (base : ℕ) → readRow count base s ≡ shifted base (readRow count 0 s)
     from base = ap (λ (p : ℕ). readRow count p s) (sym (add-zero base)) ∙ row-shifted base count 0 s
 
-pub stored-anywhere : (channels rows place other : ℕ) (d : List ℕ) (p : Pattern) (used : ℕ) → readStored channels rows place d ≡ got p used → readStored channels rows other d ≡ got p used
+pub stored-anywhere : (channels rows place other : ℕ) (d : List ℕ) (p : Pattern) (used : ℕ) → readStored channels rows place d ≡ got p used
+    → readStored channels rows other d ≡ got p used
 unfolding shifted
 stored-anywhere channels rows place other d p used e =
-    stored-shifted other channels rows d ∙ ap (shifted other) (shifted-got place (readStored channels rows 0 d) (sym (stored-shifted place channels rows d) ∙ e))
+    stored-shifted other channels rows d
+    ∙ ap (shifted other) (shifted-got place (readStored channels rows 0 d) (sym (stored-shifted place channels rows d) ∙ e))
 
 -- Two numbers that are no less than two others: their sums are equal exactly if both are
 sum-least : (i j a b : ℕ) → i ≤ a → j ≤ b → eqb (a + b) (i + j) ≡ (eqb a i && eqb b j)
@@ -163,7 +168,8 @@ cell-zero cell h = go (goesPlain cell) refl
   where
     go : (t : Bool) → goesPlain cell ≡ t → eqb (length (writeCell cell)) 1 ≡ allZero cell
     go true e =
-        rw (write-plain cell e, h) (sym (ne-eqb (length (kepts cell)) 0 (λ z. omega (arith, plain-many (getD cell 0 0) (length (kepts cell)) e))) ∙ kepts-zero cell)
+        let many = plain-many (getD cell 0 0) (length (kepts cell)) e in
+        rw (write-plain cell e, h) (sym (ne-eqb (length (kepts cell)) 0 (λ z. omega (arith, many))) ∙ kepts-zero cell)
     go false e = rw (write-marked cell e, marked-length cell) (sum-least 1 0 1 (length (kepts cell)) (omega arith) (omega arith) ∙ kepts-zero cell)
 
 -- Cells take a byte each at least, and are all empty exactly if they take no more

@@ -11,7 +11,8 @@ use lib.Seq.{length-take-le, take-at}
 use Rattle.xm.specs.Number.{part}
 use Rattle.xm.specs.Got.{got, refused, AllHold, present, unlike, when, _at_, Got, _>>=_}
 use Rattle.xm.specs.Format.{each, All, EachGood, joined}
-use Rattle.xm.specs.Sample.{leastHead, headBytes, kindOf, isWide, adpcm, dataSize, headTests, Stretch, readHead, headFormat, readData, dataFormat, SamplesFound, samplesFormat, cutHeadFormat, cutSamplesFormat, smallestHead}
+use Rattle.xm.specs.Sample.{leastHead, headBytes, kindOf, isWide, adpcm, dataSize, headTests, Stretch, readHead, headFormat}
+use Rattle.xm.specs.Sample.{readData, dataFormat, SamplesFound, samplesFormat, cutHeadFormat, cutSamplesFormat, smallestHead}
 use Rattle.xm.specs.ModuleKind.{padded, trimmed}
 use Rattle.xm.specs.Region.{Adjoin}
 use Rattle.xm.specs.Demands.{NumbersFit, ThirteenExactly}
@@ -19,7 +20,8 @@ use Rattle.xm.proofs.Number.{bytes-take, agree-take}
 use Rattle.xm.proofs.Got.{got-never, test-holds, pass, passed, bind-got, got-by, got-value, got-carry}
 use Rattle.xm.proofs.Answer.{tests-fail}
 use Rattle.xm.proofs.Cut.{padded-length, padded-bytes, padded-all, padded-trimmed, trimmed-le, cut-same}
-use Rattle.xm.proofs.Format.{Back, Keeps, Held, Adjoins, Firm, Tells, then-back, then-keeps, then-adjoins, then-firm, then-tells, each-back, each-keeps, each-adjoins, each-firm, each-tells, many-back, many-keeps, many-adjoins, many-firm, many-tells, all}
+use Rattle.xm.proofs.Format.{Back, Keeps, Held, Adjoins, Firm, Tells, then-back, then-keeps, then-adjoins, then-firm, then-tells, each-back}
+use Rattle.xm.proofs.Format.{each-keeps, each-adjoins, each-firm, each-tells, many-back, many-keeps, many-adjoins, many-firm, many-tells, all}
 
 -- 13, behind 12
 module _ (size place : ℕ) (s : List ℕ) (there : size ≤ length s) (narrow : isWide (headBytes size s) ≡ true → kindOf (headBytes size s) ≡ adpcm → ⊥) where
@@ -34,7 +36,8 @@ module _ (size place : ℕ) (s : List ℕ) (there : size ≤ length s) (narrow :
   thirteen-so = (
     λ e f. got-never (sym (pass _ (there, fits-pass f) refl) ∙ e),
     λ n.
-        test-holds (present size (length s) (1 at place)) _ _ there ∙ test-holds (when (isWide (headBytes size s)) (unlike adpcm (kindOf (headBytes size s)) (12 at place))) _ _ narrow
+        test-holds (present size (length s) (1 at place)) _ _ there
+        ∙ test-holds (when (isWide (headBytes size s)) (unlike adpcm (kindOf (headBytes size s)) (12 at place))) _ _ narrow
         ∙ tests-fail _ _ (refl, (refl, (refl, (refl, (refl, tt))))) (λ t. n (pass-fits (narrow, t))),
   )
 
@@ -135,7 +138,10 @@ cut-keeps size = record {
       got-carry (λ (r : Stretch) (t : ℕ). Held (cutHeadFormat size) size place s r t) e
       (record {
         inside = h .0;
-        good = record { good = record { size = z; plain = padded-bytes leastHead (bytes-take size b); tests = h .1 }; cut = omega (arith, padded-trimmed leastHead (take size s), take-le size s) };
+        good = record {
+          good = record { size = z; plain = padded-bytes leastHead (bytes-take size b); tests = h .1 };
+          cut = omega (arith, padded-trimmed leastHead (take size s), take-le size s);
+        };
         short = take-le size (headBytes size s);
       });
 }
@@ -181,7 +187,9 @@ pub data-tells : (head : List ℕ) → Tells dataFormat head DataTold
 unfolding readData
 data-tells head = record {
   tells = λ place file i n b e.
-      passed _ _ e λ h e. got-carry (λ (r : Stretch) (u : ℕ). DataTold file r) e (record { bytes = refl; long = length-take-le (dataSize head) (drop place file) (h .0) });
+      passed _ _ e λ h e.
+      got-carry (λ (r : Stretch) (u : ℕ). DataTold file r) e
+      (record { bytes = refl; long = length-take-le (dataSize head) (drop place file) (h .0) });
 }
 
 -- All headers, and then the data of each
@@ -218,7 +226,8 @@ heads-alike kept place (h ∷ hs) s = go (readHead h place s) (λ n. heads-alike
 
 pub samples-alike : (kept place : ℕ) (hs : List ℕ) (s : List ℕ) → cutSamplesFormat kept .read hs place s ≡ samplesFormat .read hs place s
 samples-alike kept place hs s =
-    ap (λ (g : Got (List Stretch)). g >>= (λ (i, n). each dataFormat .read (map Stretch.bytes i) (place + n) (drop n s) >>= (λ (j, m). got (i, j) (n + m)))) (heads-alike kept place hs s)
+    ap (λ (g : Got (List Stretch)). g >>= (λ (i, n). each dataFormat .read (map Stretch.bytes i) (place + n) (drop n s) >>= (λ (j, m). got (i, j) (n + m))))
+    (heads-alike kept place hs s)
 
 -- The smallest H: no more than any that cuts off nothing but zeros, and such a one itself
 pub smallest-least : (kept : ℕ) (hs : List ℕ) (heads : List (List ℕ)) → EachGood (cutHeadFormat kept) hs heads → smallestHead heads ≤ kept
@@ -243,7 +252,8 @@ cut-heads zero kept (x ∷ xs) g h = absurd g
 cut-heads (suc k) kept [] g h = absurd g
 cut-heads (suc k) kept (x ∷ xs) g h = (record { good = g .0; cut = omega arith }, cut-heads k kept xs (g .1) (omega arith))
 
-pub whole-heads : (k kept : ℕ) (heads : List (List ℕ)) → EachGood (cutHeadFormat kept) (replicate k kept) heads → EachGood headFormat (replicate (length heads) leastHead) heads
+pub whole-heads : (k kept : ℕ) (heads : List (List ℕ)) → EachGood (cutHeadFormat kept) (replicate k kept) heads
+    → EachGood headFormat (replicate (length heads) leastHead) heads
 whole-heads zero kept [] g = tt
 whole-heads zero kept (x ∷ xs) g = absurd g
 whole-heads (suc k) kept [] g = absurd g
@@ -254,7 +264,8 @@ pub heads-mono : (kept size : ℕ) (heads : List (List ℕ)) → kept ≤ size �
 heads-mono kept size [] h = omega arith
 heads-mono kept size (x ∷ xs) h = simp length-append (omega (arith, length-take kept x, length-take size x, heads-mono kept size xs h))
 
-pub cut-heads-size : (k kept : ℕ) (heads : List (List ℕ)) → kept ≤ leastHead → EachGood (cutHeadFormat kept) (replicate k kept) heads → length (joined (take kept) heads) ≡ k * kept
+pub cut-heads-size : (k kept : ℕ) (heads : List (List ℕ)) → kept ≤ leastHead → EachGood (cutHeadFormat kept) (replicate k kept) heads
+    → length (joined (take kept) heads) ≡ k * kept
 cut-heads-size zero kept [] l g = sym (zero-mul kept)
 cut-heads-size zero kept (x ∷ xs) l g = absurd g
 cut-heads-size (suc k) kept [] l g = absurd g
@@ -289,7 +300,8 @@ both-tell : (k size : ℕ) → Tells samplesFormat (replicate k size) (λ file v
 both-tell k size =
     then-tells (λ sizes heads. heads) (many-tells headFormat k (head-tells size)) (λ heads. each-tells dataFormat heads (all data-tells heads))
 
-samples-sized : (k size place : ℕ) (s : List ℕ) (v : SamplesFound) (n : ℕ) → samplesFormat .read (replicate k size) place s ≡ got v n → Sized (samplesFormat .view v .0) (v .1)
+samples-sized : (k size place : ℕ) (s : List ℕ) (v : SamplesFound) (n : ℕ) → samplesFormat .read (replicate k size) place s ≡ got v n
+    → Sized (samplesFormat .view v .0) (v .1)
 samples-sized k size place s v n e =
     bind-got _ _ e λ i m ei e₁. bind-got _ _ e₁ λ j u ej e₂.
     got-carry (λ (r : SamplesFound) (t : ℕ). Sized (samplesFormat .view r .0) (r .1)) e₂ (data-sized (each headFormat .view i) (place + m) (drop m s) j u ej)

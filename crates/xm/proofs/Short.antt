@@ -12,7 +12,8 @@ use lib.ListN.{length, getD, take, drop, length-append}
 use lib.Seq.{length-take-le, getD-take}
 use Rattle.xm.specs.Cell.{five, fieldsBy, needed, cellAt, kept, bit, marks, kepts, marked, plainBy, goesPlain, writeCell}
 use Rattle.xm.specs.Short.{shortestBy, shortBy, isShort}
-use Rattle.xm.proofs.Cell.{five-same, bit-most, bit-none, kept-none, kept-some, kept-length, kepts-most, marks-small, marked-length, ones-five, length-some, length-plain, length-marked, cell-plain, cell-marked, cell-length, write-plain, write-marked, plain-many}
+use Rattle.xm.proofs.Cell.{five-same, bit-most, bit-none, kept-none, kept-some, kept-length, kepts-most, marks-small, marked-length, ones-five}
+use Rattle.xm.proofs.Cell.{length-some, length-plain, length-marked, cell-plain, cell-marked, cell-length, write-plain, write-marked, plain-many}
 
 -- The length of the shortest form
 pub shortest-by : (cell : List ℕ) → length cell ≡ 5 → shortestBy (getD cell 0 0) (length (kepts cell)) ≡ length (writeCell cell)
@@ -24,7 +25,8 @@ shortest-by cell h = go (plainBy (getD cell 0 0) (length (kepts cell))) refl
     go false e = sym (ap length (write-marked cell e) ∙ marked-length cell)
 
 -- The test, of the numbers that a pass found
-pub short-by : (s : List ℕ) (lead used fields shortest : ℕ) → lead ≡ getD s 0 0 → used ≡ needed s → fields ≡ length (kepts (cellAt s)) → shortest ≡ length (writeCell (cellAt s))
+pub short-by : (s : List ℕ) (lead used fields shortest : ℕ)
+    → lead ≡ getD s 0 0 → used ≡ needed s → fields ≡ length (kepts (cellAt s)) → shortest ≡ length (writeCell (cellAt s))
     → shortBy lead used fields shortest ≡ isShort s
 unfolding isShort
 short-by s lead used fields shortest el eu ef es = rw (el, eu, ef, es)
@@ -63,7 +65,8 @@ fields-kept (suc count) bits s =
     go : (t : Bool) → eqb (bits % 2) 0 ≡ t → length (kepts rest) ≤ more → (length (kepts rest) ≡ more → Full count (bits / 2) (drop (bits % 2) s))
         → (length (kept (cond t 0 (getD s 0 0)) ++ kepts rest) ≤ bits % 2 + more)
         × (length (kept (cond t 0 (getD s 0 0)) ++ kepts rest) ≡ bits % 2 + more
-        → (kept (cond t 0 (getD s 0 0)) ++ kepts rest ≡ take (bits % 2 + more) s) × (bit (cond t 0 (getD s 0 0)) + 2 * marks rest ≡ bits % 2 + 2 * low count (bits / 2)))
+        → (kept (cond t 0 (getD s 0 0)) ++ kepts rest ≡ take (bits % 2 + more) s)
+        × (bit (cond t 0 (getD s 0 0)) + 2 * marks rest ≡ bits % 2 + 2 * low count (bits / 2)))
     go true e most full =
         let z : bits % 2 ≡ 0 = eqb-true (bits % 2) 0 e in
         let k : kept 0 ++ kepts rest ≡ kepts rest = ap (λ (l : List ℕ). l ++ kepts rest) (kept-none 0 refl) in
@@ -183,7 +186,9 @@ module _ (s : List ℕ) (fits : needed s ≤ length s) where
 
       passes : getD s 0 0 < 160 → getD s 0 0 / 128 + length (kepts (cellAt s)) ≡ needed s
           → shortBy (getD s 0 0) (needed s) (length (kepts (cellAt s))) (length (writeCell (cellAt s))) ≡ true
-      passes l e = rw (lt-ltb (getD s 0 0) 160 l, eq-eqb (getD s 0 0 / 128 + length (kepts (cellAt s))) (needed s) e, eq-eqb (length (writeCell (cellAt s))) (needed s) long)
+      passes l e =
+          let fields = eq-eqb (getD s 0 0 / 128 + length (kepts (cellAt s))) (needed s) e in
+          rw (lt-ltb (getD s 0 0) 160 l, fields, eq-eqb (length (writeCell (cellAt s))) (needed s) long)
 
       go : (t : Bool) → ltb (getD s 0 0) 128 ≡ t → (u : Bool) → goesPlain (cellAt s) ≡ u
           → shortBy (getD s 0 0) (needed s) (length (kepts (cellAt s))) (length (writeCell (cellAt s))) ≡ true
@@ -195,7 +200,8 @@ module _ (s : List ℕ) (fits : needed s ≤ length s) where
           absurd (omega (arith, lead, ap (λ (l : List ℕ). getD l 0 0) (write-marked (cellAt s) q), lead-marked (cellAt s)))
       go false p true q =
           let l = ltb-false (getD s 0 0) 128 p in
-          absurd (omega (arith, kept-stored s l, long, ap length (write-plain (cellAt s) q), cell-length s, plain-many (getD (cellAt s) 0 0) (length (kepts (cellAt s))) q))
+          let many = plain-many (getD (cellAt s) 0 0) (length (kepts (cellAt s))) q in
+          absurd (omega (arith, kept-stored s l, long, ap length (write-plain (cellAt s) q), cell-length s, many))
       go false p false q =
           let l = ltb-false (getD s 0 0) 128 p in
           let w = write-marked (cellAt s) q in

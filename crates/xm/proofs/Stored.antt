@@ -148,7 +148,8 @@ unfolding writeStored
 write-cells p e = rw e
 
 -- Each property of no bytes and of the cells' bytes is one of what is written
-write-case : (P : List ℕ → Type 0) (p : Pattern) → (needsNoData p ≡ true → P []) → (needsNoData p ≡ false → P (joined writeCell (p .cells))) → P (writeStored p)
+write-case : (P : List ℕ → Type 0) (p : Pattern) → (needsNoData p ≡ true → P []) → (needsNoData p ≡ false → P (joined writeCell (p .cells)))
+    → P (writeStored p)
 unfolding writeStored
 write-case P p none some = go (needsNoData p) refl
   where
@@ -201,7 +202,8 @@ cells-back channels place p g =
 pub product-some : (a b : ℕ) → 1 ≤ a → 1 ≤ b → 1 ≤ a * b
 product-some a b h k = omega (arith, mul-le-mul h k)
 
-pub stored-back : (channels place : ℕ) (p : Pattern) → GoodPattern channels p → readStored channels (p .rows) place (writeStored p) ≡ got p (length (writeStored p))
+pub stored-back : (channels place : ℕ) (p : Pattern) → GoodPattern channels p
+    → readStored channels (p .rows) place (writeStored p) ≡ got p (length (writeStored p))
 stored-back channels place p g =
     write-case (λ (d : List ℕ). readStored channels (p .rows) place d ≡ got p (length d)) p
     (λ e. stored-none channels (p .rows) place [] refl ∙ got-both (sym (none-rows channels p g e)) refl)
@@ -231,7 +233,10 @@ pub stored-keeps : (channels rows place : ℕ) (d : List ℕ) (p : Pattern) (n :
 unfolding readStored
 stored-keeps channels rows place [] p n b some low high e =
     got-carry (λ (q : Pattern) (u : ℕ). StoredKept channels [] q) e
-    (record { good = rows-good channels rows some low high; short = omega (arith, ap length (write-none (emptyRows channels rows) (rows-none channels rows))) })
+    (record {
+      good = rows-good channels rows some low high;
+      short = omega (arith, ap length (write-none (emptyRows channels rows) (rows-none channels rows)));
+    })
 stored-keeps channels rows place (x ∷ d) p n b some low high e = cells-keep channels rows place (x ∷ d) p n b some low high e
 
 -- All of the data is used, and the rows are the row number
@@ -262,5 +267,6 @@ unfolding readStored
 stored-rows channels rows place [] p n e = ap Pattern.rows (sym (got-value e))
 stored-rows channels rows place (b ∷ d) p n e = cells-read channels rows place (b ∷ d) p n e .same
 
-pub stored-empty : (channels rows place : ℕ) (d : List ℕ) (p : Pattern) (n : ℕ) → length d ≡ 0 → readStored channels rows place d ≡ got p n → p ≡ emptyRows channels rows
+pub stored-empty : (channels rows place : ℕ) (d : List ℕ) (p : Pattern) (n : ℕ) → length d ≡ 0 → readStored channels rows place d ≡ got p n
+    → p ≡ emptyRows channels rows
 stored-empty channels rows place d p n h e = got-value (sym e ∙ stored-none channels rows place d h)

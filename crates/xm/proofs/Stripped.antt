@@ -11,14 +11,17 @@ use Rattle.xm.specs.ModuleKind.{ModuleKind, normal, stripped, padded, be
 use Rattle.xm.specs.Got.{got, AllHold, present, atLeast, atMost, when, _at_}
 use Rattle.xm.specs.Format.{joined, flat, EachGood}
 use Rattle.xm.specs.Sample.{leastHead, Samples, SamplesFound, samplesFormat, cutSamplesFormat, cutHeadFormat, smallestHead, headFormat}
-use Rattle.xm.specs.Instrument.{leastStripped, samplesMost, voiceSize, voiceOf, fieldsOf, instrumentTests, Instrument, InstrumentFound, readInstrument, writeFields, writeInstrument, GoodVoice, GoodInstrument, instrumentView, instrumentFormat}
+use Rattle.xm.specs.Instrument.{leastStripped, samplesMost, voiceSize, voiceOf, fieldsOf, instrumentTests, Instrument, InstrumentFound}
+use Rattle.xm.specs.Instrument.{readInstrument, writeFields, writeInstrument, GoodVoice, GoodInstrument, instrumentView, instrumentFormat}
 use Rattle.xm.specs.Demands.{SmallestIn, SmallestSizes}
 use Rattle.xm.proofs.Number.{bytes-drop, bytes-take, bytes-append, bytes-nil, bytes-cons, agree-long, agree-take, agree-drop}
 use Rattle.xm.proofs.Got.{pass, step, passed, bind-got, got-both, got-carry}
 use Rattle.xm.proofs.Format.{cons-path, Back, ReadsBack, Keeps, Held, Firm, each-length}
 use Rattle.xm.proofs.Field.{Field, byteField, wordField, longField, textField, _⊗_, word-plain, long-plain, long-back}
-use Rattle.xm.proofs.Cut.{padded-length, padded-bytes, padded-append, padded-all, padded-drop, padded-trimmed, trimmed-padded, trimmed-bytes, trimmed-le, trimmed-mono, trimmed-four}
-use Rattle.xm.proofs.Sample.{samples-firm, cut-samples-back, cut-samples-keeps, samples-alike, smallest-least, smallest-fits, cut-heads, whole-heads, heads-mono, cut-heads-size}
+use Rattle.xm.proofs.Cut.{padded-length, padded-bytes, padded-append, padded-all, padded-drop, padded-trimmed}
+use Rattle.xm.proofs.Cut.{trimmed-padded, trimmed-bytes, trimmed-le, trimmed-mono, trimmed-four}
+use Rattle.xm.proofs.Sample.{samples-firm, cut-samples-back, cut-samples-keeps, samples-alike, smallest-least}
+use Rattle.xm.proofs.Sample.{smallest-fits, cut-heads, whole-heads, heads-mono, cut-heads-size}
 use Rattle.xm.proofs.Instrument.{found-path, samples-used, samples-sizes, all-low, normal-back, normal-keeps, normal-firm}
 
 -- The fields behind I: name, type, k, H, bytes 33 to 240
@@ -91,10 +94,12 @@ module _ (x : Instrument) (g : GoodInstrument x) where
   row : Fields
   row = (x .name, (x .type, (count, (least, padded voiceSize (x .voice)))))
 
+  voice-fits : (length (padded voiceSize (x .voice)) ≡ voiceSize) × Bytes (padded voiceSize (x .voice))
+  voice-fits = (padded-length voiceSize (x .voice), padded-bytes voiceSize (voice-bytes count (x .voice) (g .voice-good)))
+
   row-fits : fields .Fits row
   unfolding row
-  row-fits =
-      ((g .name-size, g .name-plain), (g .type-byte, (omega (arith, g .few), (omega (arith, least-fits), (padded-length voiceSize (x .voice), padded-bytes voiceSize (voice-bytes count (x .voice) (g .voice-good)))))))
+  row-fits = ((g .name-size, g .name-plain), (g .type-byte, (omega (arith, g .few), (omega (arith, least-fits), voice-fits))))
 
   fields-padded : padded 237 (writeFields x) ≡ fields .put row
   unfolding writeFields row
@@ -114,13 +119,16 @@ module _ (x : Instrument) (g : GoodInstrument x) where
 
   pub stripped-size : length (writeInstrument stripped x) ≡ size + length samplesBytes
   stripped-size =
-      ap length (sym (append-nil (writeInstrument stripped x)) ∙ write-parts [] ∙ ap (λ (l : List ℕ). long size ++ writeFields x ++ l) (append-nil samplesBytes))
+      let no-rest = ap (λ (l : List ℕ). long size ++ writeFields x ++ l) (append-nil samplesBytes) in
+      ap length (sym (append-nil (writeInstrument stripped x)) ∙ write-parts [] ∙ no-rest)
       ∙ length-append (long size ++ writeFields x) samplesBytes
       ∙ ap (λ (n : ℕ). n + length samplesBytes) (length-append (long size) (writeFields x))
 
   samples-most : count * least ≤ length samplesBytes
   samples-most =
-      omega (arith, length-append (joined (take least) (x .samples .0)) (joined (λ (b : List ℕ). b) (x .samples .1)), cut-heads-size count least (x .samples .0) least-fits heads-cut)
+      let heads = x .samples .0 in
+      let bytes = joined (λ (b : List ℕ). b) (x .samples .1) in
+      omega (arith, length-append (joined (take least) heads) bytes, cut-heads-size count least heads least-fits heads-cut)
 
   -- is read back
   module _ (place : ℕ) (rest : List ℕ) where
@@ -171,8 +179,9 @@ module _ (x : Instrument) (g : GoodInstrument x) where
         let f = fieldsOf stripped file in
         let k : wordAt 27 f ≡ count = ap (λ (r : Fields). r .1 .1 .0) row-reads in
         let H : longAt 29 f ≡ least = ap (λ (r : Fields). r .1 .1 .1 .0) row-reads in
-        let r : samplesFormat .read (replicate (wordAt 27 f) (longAt 29 f)) (place + longAt 0 file) (drop (longAt 0 file) file) ≡ got (reads-samples .found) (length samplesBytes) =
-        ap₂ (λ (k H : ℕ). samplesFormat .read (replicate k H) (place + longAt 0 file) (drop (longAt 0 file) file)) k H
+        let I = longAt 0 file in
+        let r : samplesFormat .read (replicate (wordAt 27 f) (longAt 29 f)) (place + I) (drop I file) ≡ got (reads-samples .found) (length samplesBytes) =
+        ap₂ (λ (k H : ℕ). samplesFormat .read (replicate k H) (place + I) (drop I file)) k H
         ∙ ap (λ (I : ℕ). samplesFormat .read (replicate count least) (place + I) (drop I file)) size-reads
         ∙ ap (samplesFormat .read (replicate count least) (place + size)) samples-at
         ∙ sym (samples-alike least (place + size) (replicate count least) (samplesBytes ++ rest))
@@ -224,7 +233,9 @@ tail-short : (k kept H : ℕ) (s : List ℕ) → (k ≡ 0 → kept ≡ 0) → ke
     → length (trimmed (long kept ++ voiceOf k s)) ≤ length (trimmed (long H ++ part 33 voiceSize s))
 tail-short zero kept H s none l low high = omega (arith, ap (λ (n : ℕ). length (trimmed (long n ++ []))) (none refl), ap length no-tail)
 tail-short (suc k) kept H s none l low high =
-    omega (arith, ap (λ (n : List ℕ). length (trimmed (n ++ part 33 voiceSize s))) (long-low kept low), trimmed-four kept (H % 256) (H / 256 % 256) (H / 65536 % 256) (H / 16777216) (part 33 voiceSize s) (omega arith))
+    let voice = part 33 voiceSize s in
+    let four = trimmed-four kept (H % 256) (H / 256 % 256) (H / 65536 % 256) (H / 16777216) voice (omega arith) in
+    omega (arith, ap (λ (n : List ℕ). length (trimmed (n ++ voice))) (long-low kept low), four)
 
 module _ (s : List ℕ) (b : Bytes s) (inside : longAt 0 s ≤ length s) (low : leastStripped ≤ longAt 0 s) where
   abbrev from : List ℕ
@@ -246,20 +257,27 @@ module _ (s : List ℕ) (b : Bytes s) (inside : longAt 0 s ≤ length s) (low : 
       ∙ padded-drop 4 237 (take (longAt 0 s) s)
 
   fields-short : (kept : ℕ) → (wordAt 27 from ≡ 0 → kept ≡ 0) → kept ≤ longAt 29 from → kept < 256
-      → leastStripped + length (trimmed (part 4 22 from ++ (byte (byteAt 26 from) ++ (word (wordAt 27 from) ++ (long kept ++ voiceOf (wordAt 27 from) from))))) ≤ longAt 0 s
+      → let k = wordAt 27 from in
+      leastStripped + length (trimmed (part 4 22 from ++ (byte (byteAt 26 from) ++ (word k ++ (long kept ++ voiceOf k from))))) ≤ longAt 0 s
   fields-short kept none l high =
       let name = part 4 22 from in
       let type = byte (byteAt 26 from) in
       let k = word (wordAt 27 from) in
+      let short = long kept ++ voiceOf (wordAt 27 from) from in
+      let whole = long (longAt 29 from) ++ part 33 voiceSize from in
       let tail = tail-short (wordAt 27 from) kept (longAt 29 from) from none l high (from-fits .1 .1 .1 .0) in
-      let t₁ = trimmed-mono k (long kept ++ voiceOf (wordAt 27 from) from) (long (longAt 29 from) ++ part 33 voiceSize from) tail in
-      let t₂ = trimmed-mono type (k ++ (long kept ++ voiceOf (wordAt 27 from) from)) (k ++ (long (longAt 29 from) ++ part 33 voiceSize from)) t₁ in
-      let t₃ = trimmed-mono name (type ++ (k ++ (long kept ++ voiceOf (wordAt 27 from) from))) (type ++ (k ++ (long (longAt 29 from) ++ part 33 voiceSize from))) t₂ in
-      omega (arith, ap (λ (l : List ℕ). length (trimmed l)) put-back, padded-trimmed 237 (drop 4 (take (longAt 0 s) s)), length-drop 4 (take (longAt 0 s) s), length-take-le (longAt 0 s) s inside)
+      let t₁ = trimmed-mono k short whole tail in
+      let t₂ = trimmed-mono type (k ++ short) (k ++ whole) t₁ in
+      let t₃ = trimmed-mono name (type ++ (k ++ short)) (type ++ (k ++ whole)) t₂ in
+      let own = take (longAt 0 s) s in
+      let same = ap (λ (l : List ℕ). length (trimmed l)) put-back in
+      omega (arith, same, padded-trimmed 237 (drop 4 own), length-drop 4 own, length-take-le (longAt 0 s) s inside)
 
 -- An instrument that passed its tests, with its samples
 module _ (place : ℕ) (s : List ℕ) (b : Bytes s) (h : AllHold (instrumentTests stripped place s)) (v : SamplesFound) (m : ℕ)
-    (ev : samplesFormat .read (replicate (wordAt 27 (fieldsOf stripped s)) (longAt 29 (fieldsOf stripped s))) (place + longAt 0 s) (drop (longAt 0 s) s) ≡ got v m) where
+    (ev :
+    let f = fieldsOf stripped s in
+    samplesFormat .read (replicate (wordAt 27 f) (longAt 29 f)) (place + longAt 0 s) (drop (longAt 0 s) s) ≡ got v m) where
   abbrev k : ℕ
   k = wordAt 27 (fieldsOf stripped s)
 
@@ -270,11 +288,14 @@ module _ (place : ℕ) (s : List ℕ) (b : Bytes s) (h : AllHold (instrumentTest
   heads = samplesFormat .view v .0
 
   abbrev found : InstrumentFound
-  found = record { place = place; size = longAt 0 s; name = part 4 22 (fieldsOf stripped s); type = byteAt 26 (fieldsOf stripped s); voice = voiceOf k (fieldsOf stripped s); samples = v }
+  found =
+      let f = fieldsOf stripped s in
+      record { place = place; size = longAt 0 s; name = part 4 22 f; type = byteAt 26 f; voice = voiceOf k f; samples = v }
 
   samples-held : Held (cutSamplesFormat H) (replicate k H) (place + longAt 0 s) (drop (longAt 0 s) s) v m
   samples-held =
-      cut-samples-keeps k H .keeps (place + longAt 0 s) (drop (longAt 0 s) s) v m (bytes-drop (longAt 0 s) b) (samples-alike H (place + longAt 0 s) (replicate k H) (drop (longAt 0 s) s) ∙ ev)
+      let I = longAt 0 s in
+      cut-samples-keeps k H .keeps (place + I) (drop I s) v m (bytes-drop I b) (samples-alike H (place + I) (replicate k H) (drop I s) ∙ ev)
 
   heads-count : length heads ≡ k
   heads-count = each-length (cutHeadFormat H) (replicate k H) heads (samples-held .good .0) ∙ length-replicate k H
@@ -302,10 +323,13 @@ module _ (place : ℕ) (s : List ℕ) (b : Bytes s) (h : AllHold (instrumentTest
   unfolding writeFields
   size-low =
       let f = fieldsOf stripped s in
-      let same : length (trimmed (flat (part 4 22 f ∷ byte (byteAt 26 f) ∷ word (length heads) ∷ long (smallestHead heads) ∷ voiceOf k f ∷ [])))
-      ≡ length (trimmed (part 4 22 f ++ (byte (byteAt 26 f) ++ (word k ++ (long (smallestHead heads) ++ voiceOf k f))))) =
-      ap₂ (λ (c : ℕ) (t : List ℕ). length (trimmed (part 4 22 f ++ (byte (byteAt 26 f) ++ (word c ++ (long (smallestHead heads) ++ t)))))) heads-count (append-nil (voiceOf k f)) in
-      omega (arith, same, fields-short s b (h .1 .1 .0) (h .1 .0) (smallestHead heads) (λ q. none-least heads (heads-count ∙ q)) head-low (omega (arith, smallest-fits (length heads) heads heads-good)))
+      let least = smallestHead heads in
+      let same : length (trimmed (flat (part 4 22 f ∷ byte (byteAt 26 f) ∷ word (length heads) ∷ long least ∷ voiceOf k f ∷ [])))
+      ≡ length (trimmed (part 4 22 f ++ (byte (byteAt 26 f) ++ (word k ++ (long least ++ voiceOf k f))))) =
+      ap₂ (λ (c : ℕ) (t : List ℕ). length (trimmed (part 4 22 f ++ (byte (byteAt 26 f) ++ (word c ++ (long least ++ t))))))
+      heads-count (append-nil (voiceOf k f)) in
+      let fits : least < 256 = omega (arith, smallest-fits (length heads) heads heads-good) in
+      omega (arith, same, fields-short s b (h .1 .1 .0) (h .1 .0) least (λ q. none-least heads (heads-count ∙ q)) head-low fits)
 
   found-held : Held (instrumentFormat stripped) tt place s found (longAt 0 s + m)
   found-held =
@@ -361,7 +385,8 @@ stripped-firm = record {
       let H = longAt 29 f in
       let size : longAt 0 t ≡ I = sym (agree-long a 0 (omega (arith, h .1 .0))) in
       let same : fieldsOf stripped t ≡ f = ap (λ (n : ℕ). padded 241 (take n t)) size ∙ ap (padded 241) (sym (agree-take a I (omega arith))) in
-      let r : samplesFormat .read (replicate (wordAt 27 (fieldsOf stripped t)) (longAt 29 (fieldsOf stripped t))) (place + longAt 0 t) (drop (longAt 0 t) t) ≡ got v m =
+      let g = fieldsOf stripped t in
+      let r : samplesFormat .read (replicate (wordAt 27 g) (longAt 29 g)) (place + longAt 0 t) (drop (longAt 0 t) t) ≡ got v m =
       ap₂ (λ (f : List ℕ) (I : ℕ). samplesFormat .read (replicate (wordAt 27 f) (longAt 29 f)) (place + I) (drop I t)) same size
       ∙ samples-firm k H .firm (place + I) (drop I s) (drop I t) v m ev (agree-drop a I m (omega arith)) in
       pass (instrumentTests stripped place t)

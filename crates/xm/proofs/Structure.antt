@@ -18,9 +18,11 @@ use Rattle.xm.specs.Answer.{gives, refuses, answered}
 use Rattle.xm.specs.Header.{HeaderFound, channelsAt, headerEnd, kindAt, readHeader}
 use Rattle.xm.specs.PatternInFile.{leastPattern, headSizeAt, dataSizeAt, PatternFound, readPattern, patternFormat}
 use Rattle.xm.specs.Sample.{Stretch, sizeOfFirst, stretchRegion, readHead, headFormat}
-use Rattle.xm.specs.Instrument.{instrumentSizeAt, countAt, headerSizeAt, fieldsOf, instrumentTests, InstrumentFound, voiceOf, readInstrument, instrumentFormat}
+use Rattle.xm.specs.Instrument.{instrumentSizeAt, countAt, headerSizeAt, fieldsOf, instrumentTests}
+use Rattle.xm.specs.Instrument.{InstrumentFound, voiceOf, readInstrument, instrumentFormat}
 use Rattle.xm.specs.Module.{Found, patternsFor, instrumentsFor, moduleFormat, regionsOf, fileMost, readFile}
-use Rattle.xm.specs.Structure.{isStructure, kindNumber, structuresOf, structures, Standing, stands, ended, handed, reading, Ahead, Handed, endsAt, handHead, handPattern, handInstrument, handOver, aheadAtFirst, started, called, readOn, readFor}
+use Rattle.xm.specs.Structure.{isStructure, kindNumber, structuresOf, structures, Standing, stands, ended, handed, reading, Ahead, Handed}
+use Rattle.xm.specs.Structure.{endsAt, handHead, handPattern, handInstrument, handOver, aheadAtFirst, started, called, readOn, readFor}
 use Rattle.xm.specs.Asking.{Lies}
 use Rattle.xm.specs.Region.{ofKind, regionAt}
 use Rattle.xm.specs.Demands.{ReadersTell}
@@ -57,7 +59,8 @@ none-left-out kind (r ∷ rs) h = go (isStructure (r .kind)) refl (eqb (kindNumb
     lies : Lies
     lies = record { place = r .place; size = r .size }
 
-    go : (t : Bool) → isStructure (r .kind) ≡ t → (u : Bool) → eqb (kindNumber kind) (kindNumber (r .kind)) ≡ u → ofKind kind (structuresOf rs) ≡ ofKind kind rs
+    go : (t : Bool) → isStructure (r .kind) ≡ t → (u : Bool) → eqb (kindNumber kind) (kindNumber (r .kind)) ≡ u
+        → ofKind kind (structuresOf rs) ≡ ofKind kind rs
         → ofKind kind (cond t (r ∷ structuresOf rs) (structuresOf rs)) ≡ cond u (lies ∷ ofKind kind rs) (ofKind kind rs)
     go true p true q w = rw q (cons-path refl w)
     go true p false q w = rw q w
@@ -85,7 +88,9 @@ told-append xs ys = ap (map handed) (structures-append xs ys) ∙ map-append han
 -- Parts that are read one after the other: none, and the first of them
 module _ {H I A : Type 0} (F : Format H I A) (h : H) where
   each-next : {R : Type 0} (count place : ℕ) (s : List ℕ) {parts : List I} {used : ℕ} → each F .read (replicate (suc count) h) place s ≡ got parts used
-      → ((i : I) (n : ℕ) (more : List I) (m : ℕ) → F .read h place s ≡ got i n → each F .read (replicate count h) (place + n) (drop n s) ≡ got more m → parts ≡ i ∷ more → used ≡ n + m → R) → R
+      → ((i : I) (n : ℕ) (more : List I) (m : ℕ)
+      → F .read h place s ≡ got i n → each F .read (replicate count h) (place + n) (drop n s) ≡ got more m → parts ≡ i ∷ more → used ≡ n + m → R)
+      → R
   each-next count place s e k =
       bind-got (F .read h place s) _ e λ i n ei e₁. bind-got (eachRead F (replicate count h) (place + n) (drop n s)) _ e₁ λ more m em e₂.
       k i n more m ei em (sym (got-value e₂)) (sym (got-used e₂))
@@ -99,7 +104,8 @@ record PatternTold (place : ℕ) (s : List ℕ) (i : PatternFound) (n : ℕ) : T
 pattern-told : (channels place : ℕ) (s : List ℕ) (i : PatternFound) (n : ℕ) → readPattern channels place s ≡ got i n → PatternTold place s i n
 unfolding readPattern
 pattern-told channels place s i n e =
-    passed _ _ e λ h e₁. bind-got _ _ e₁ λ p m ep e₂. got-carry (λ (r : PatternFound) (t : ℕ). PatternTold place s r t) e₂ (record { starts = refl; used = refl; least = h .0 })
+    passed _ _ e λ h e₁. bind-got _ _ e₁ λ p m ep e₂.
+    got-carry (λ (r : PatternFound) (t : ℕ). PatternTold place s r t) e₂ (record { starts = refl; used = refl; least = h .0 })
 
 -- An instrument, and its sample headers
 abbrev pub headsFrom : (k size head : ℕ) → List Standing
@@ -116,7 +122,8 @@ record HeadsTold (k size head : ℕ) (hs : List Stretch) : Type 0 where
   first : 0 < k → sizeOfFirst hs ≡ size
 
 heads-told : (k size head : ℕ) (s : List ℕ) (hs : List Stretch) (n : ℕ) → each headFormat .read (replicate k size) head s ≡ got hs n → HeadsTold k size head hs
-heads-told zero size head s hs n e = got-carry (λ (hs : List Stretch) (u : ℕ). HeadsTold zero size head hs) e (record { all = refl; count = refl; first = λ l. absurd (omega (arith, l)) })
+heads-told zero size head s hs n e =
+    got-carry (λ (hs : List Stretch) (u : ℕ). HeadsTold zero size head hs) e (record { all = refl; count = refl; first = λ l. absurd (omega (arith, l)) })
 heads-told (suc k) size head s hs n e =
     bind-got _ _ e λ h a ea e₁. bind-got _ _ e₁ λ hs b eb e₂.
     let u = head-found size head s ea in
@@ -135,12 +142,16 @@ data-told (d ∷ ds) = data-told ds
 heads-by : (k size head : ℕ) (hs : List Stretch) → HeadsTold k size head hs
     → (told (joined (stretchRegion sampleHeader) hs) ≡ headsFrom (length hs) (sizeOfFirst hs) head) × (length hs * sizeOfFirst hs ≡ k * size)
 heads-by zero size head hs w =
-    (w .all ∙ ap (λ (n : ℕ). headsFrom n (sizeOfFirst hs) head) (sym (w .count)), ap (λ (n : ℕ). n * sizeOfFirst hs) (w .count) ∙ zero-mul (sizeOfFirst hs) ∙ sym (zero-mul size))
+    let first = sizeOfFirst hs in
+    let none : length hs * first ≡ 0 * size = ap (λ (n : ℕ). n * first) (w .count) ∙ zero-mul first ∙ sym (zero-mul size) in
+    (w .all ∙ ap (λ (n : ℕ). headsFrom n first head) (sym (w .count)), none)
 heads-by (suc k) size head hs w =
     (w .all ∙ sym (ap₂ (λ (n m : ℕ). headsFrom n m head) (w .count) (w .first (omega arith))), ap₂ (λ (n m : ℕ). n * m) (w .count) (w .first (omega arith)))
 
 pub record InstrumentTold (kind : ModuleKind) (place : ℕ) (i : InstrumentFound) (n : ℕ) : Type 0 where
-  pub all : told (instrumentFormat kind .regions i) ≡ stands instrument place ∷ headsFrom (length (i .samples .0)) (sizeOfFirst (i .samples .0)) (place + i .size)
+  pub all :
+      let heads = i .samples .0 in
+      told (instrumentFormat kind .regions i) ≡ stands instrument place ∷ headsFrom (length heads) (sizeOfFirst heads) (place + i .size)
   pub fits : i .size + length (i .samples .0) * sizeOfFirst (i .samples .0) ≤ n
   pub some : 1 ≤ n
 
@@ -149,21 +160,38 @@ pub some-size : (kind : ModuleKind) (place : ℕ) (s : List ℕ) → AllHold (in
 some-size normal place s h = omega (arith, h .1 .0)
 some-size stripped place s h = omega (arith, h .1 .0)
 
-pub instrument-told : (kind : ModuleKind) (place : ℕ) (s : List ℕ) (i : InstrumentFound) (n : ℕ) → readInstrument kind place s ≡ got i n → InstrumentTold kind place i n
+pub instrument-told : (kind : ModuleKind) (place : ℕ) (s : List ℕ) (i : InstrumentFound) (n : ℕ) → readInstrument kind place s ≡ got i n
+    → InstrumentTold kind place i n
 unfolding readInstrument
 instrument-told kind place s i n e =
     passed _ _ e λ h e₁. bind-got _ _ e₁ λ v m ev e₂. bind-got _ _ ev λ hs a eh e₃. bind-got _ _ e₃ λ ds b ed e₄.
     let f = fieldsOf kind s in
     let w = heads-by _ _ _ hs (heads-told (countAt f) (headerSizeAt f) (place + instrumentSizeAt s) (drop (instrumentSizeAt s) s) hs a eh) in
+    let found : List Stretch × List Stretch → InstrumentFound = λ v. record {
+      place = place;
+      size = instrumentSizeAt s;
+      name = part 4 22 f;
+      type = byteAt 26 f;
+      voice = voiceOf (countAt f) f;
+      samples = v;
+    } in
     got-carry (λ (r : InstrumentFound) (u : ℕ). InstrumentTold kind place r u) e₂
-    (got-carry (λ (v : List Stretch × List Stretch) (u : ℕ). InstrumentTold kind place (record { place = place; size = instrumentSizeAt s; name = part 4 22 f; type = byteAt 26 f; voice = voiceOf (countAt f) f; samples = v }) (instrumentSizeAt s + u)) e₄
+    (got-carry (λ (v : List Stretch × List Stretch) (u : ℕ). InstrumentTold kind place (found v) (instrumentSizeAt s + u)) e₄
     (record {
-      all = cons-path refl (told-append (joined (stretchRegion sampleHeader) hs) (joined (stretchRegion sampleData) ds) ∙ ap₂ _++_ (w .0) (data-told ds) ∙ append-nil _);
+      all =
+          let apart = told-append (joined (stretchRegion sampleHeader) hs) (joined (stretchRegion sampleData) ds) in
+          cons-path refl (apart ∙ ap₂ _++_ (w .0) (data-told ds) ∙ append-nil _);
       fits = omega (arith, w .1, heads-used (countAt f) (headerSizeAt f) (place + instrumentSizeAt s) (drop (instrumentSizeAt s) s) hs a eh);
       some = omega (arith, some-size kind place s h);
     }))
 
 -- What a reader has still to hand over
+abbrev toldPatterns : List PatternFound → List Standing
+toldPatterns ps = told (joined (patternFormat .regions) ps)
+
+abbrev toldInstruments : ModuleKind → List InstrumentFound → List Standing
+toldInstruments kind is = told (joined (instrumentFormat kind .regions) is)
+
 record Left (file : List ℕ) (a : Ahead) (all : List Standing) : Type 0 where
   small : length file ≤ fileMost
   fits : a .head + a .heads * a .headSize ≤ length file
@@ -173,8 +201,10 @@ record Left (file : List ℕ) (a : Ahead) (all : List Standing) : Type 0 where
   patterns-read : each patternFormat .read (replicate (a .patterns) channels) (a .place) (drop (a .place) file) ≡ got patterns used
   instruments : List InstrumentFound
   end : ℕ
-  instruments-read : each (instrumentFormat (kindAt file)) .read (replicate (a .instruments) tt) (a .place + used) (drop (a .place + used) file) ≡ got instruments end
-  same : all ≡ headsFrom (a .heads) (a .headSize) (a .head) ++ (told (joined (patternFormat .regions) patterns) ++ told (joined (instrumentFormat (kindAt file) .regions) instruments))
+  instruments-read :
+      let next = a .place + used in
+      each (instrumentFormat (kindAt file)) .read (replicate (a .instruments) tt) next (drop next file) ≡ got instruments end
+  same : all ≡ headsFrom (a .heads) (a .headSize) (a .head) ++ (toldPatterns patterns ++ toldInstruments (kindAt file) instruments)
 
 -- One call
 record OneCall (file : List ℕ) (a : Ahead) (all : List Standing) : Type 0 where
@@ -200,7 +230,9 @@ module _ (file : List ℕ) (bytes : Bytes file) where
       let long : head + size + k * size ≤ length file = omega (arith, w .fits, suc-mul k size) in
       record {
         next = next;
-        gives-it = rw (le-leb (length file) fileMost (w .small), lt-ltb 0 (suc k) (omega arith), le-leb (head + size) (length file) (omega (arith, long)), z) (first-is next (w .same));
+        gives-it =
+            rw (le-leb (length file) fileMost (w .small), lt-ltb 0 (suc k) (omega arith), le-leb (head + size) (length file) (omega (arith, long)), z)
+            (first-is next (w .same));
         left = record {
           small = w .small;
           fits = long;
@@ -222,13 +254,17 @@ module _ (file : List ℕ) (bytes : Bytes file) where
       let there : place + n ≡ place + headSizeAt s + dataSizeAt s = omega (arith, t .used) in
       let next = ahead p i (place + headSizeAt s + dataSizeAt s) 0 0 0 in
       let later : place + w .used ≡ place + headSizeAt s + dataSizeAt s + m = omega (arith, there, used) in
-      let is : all ≡ stands patternHeader place ∷ (told (joined (patternFormat .regions) more) ++ told (joined (instrumentFormat (kindAt file) .regions) (w .instruments))) =
+      let later-told = toldInstruments (kindAt file) (w .instruments) in
+      let is : all ≡ stands patternHeader place ∷ (toldPatterns more ++ later-told) =
       w .same
-      ∙ ap (λ (l : List PatternFound). told (joined (patternFormat .regions) l) ++ told (joined (instrumentFormat (kindAt file) .regions) (w .instruments))) parts
+      ∙ ap (λ (l : List PatternFound). toldPatterns l ++ later-told) parts
       ∙ cons-path (ap (stands patternHeader) (t .starts)) refl in
       record {
         next = next;
-        gives-it = rw (le-leb (length file) fileMost (w .small), lt-ltb 0 (suc p) (omega arith), le-leb (place + leastPattern) (length file) (omega (arith, t .least, length-drop place file)), z) (first-is next is);
+        gives-it =
+            let whole : place + leastPattern ≤ length file = omega (arith, t .least, length-drop place file) in
+            rw (le-leb (length file) fileMost (w .small), lt-ltb 0 (suc p) (omega arith), le-leb (place + leastPattern) (length file) whole, z)
+            (first-is next is);
         left = record {
           small = w .small;
           fits = omega arith;
@@ -250,14 +286,18 @@ module _ (file : List ℕ) (bytes : Bytes file) where
       let z : suc i - 1 ≡ i = omega arith in
       let k = length (x .samples .0) in
       let next = ahead 0 i (place + n) k (place + x .size) (sizeOfFirst (x .samples .0)) in
-      let is : all ≡ stands instrument place ∷ (headsFrom k (sizeOfFirst (x .samples .0)) (place + x .size) ++ told (joined (instrumentFormat (kindAt file) .regions) more)) =
+      let more-told = toldInstruments (kindAt file) more in
+      let is : all ≡ stands instrument place ∷ (headsFrom k (sizeOfFirst (x .samples .0)) (place + x .size) ++ more-told) =
       w .same
-      ∙ ap₂ (λ (l : List PatternFound) (r : List InstrumentFound). told (joined (patternFormat .regions) l) ++ told (joined (instrumentFormat (kindAt file) .regions) r)) (sym (got-value (w .patterns-read))) parts
+      ∙ ap₂ (λ (l : List PatternFound) (r : List InstrumentFound). toldPatterns l ++ toldInstruments (kindAt file) r)
+      (sym (got-value (w .patterns-read))) parts
       ∙ told-append (instrumentFormat (kindAt file) .regions x) (joined (instrumentFormat (kindAt file) .regions) more)
-      ∙ ap (λ (l : List Standing). l ++ told (joined (instrumentFormat (kindAt file) .regions) more)) (t .all) in
+      ∙ ap (λ (l : List Standing). l ++ more-told) (t .all) in
       record {
         next = next;
-        gives-it = rw (le-leb (length file) fileMost (w .small), lt-ltb 0 (suc i) (omega arith), le-leb place (length file) (omega (arith, inside, t .some, length-drop place file)), ex, z) (first-is next is);
+        gives-it =
+            let within : place ≤ length file = omega (arith, inside, t .some, length-drop place file) in
+            rw (le-leb (length file) fileMost (w .small), lt-ltb 0 (suc i) (omega arith), le-leb place (length file) within, ex, z) (first-is next is);
         left = record {
           small = w .small;
           fits = omega (arith, inside, t .fits, t .some, length-drop place file);
@@ -275,7 +315,8 @@ module _ (file : List ℕ) (bytes : Bytes file) where
       let here : place + w .used ≡ place = omega (arith, got-used (w .patterns-read)) in
       let is : all ≡ [] =
       w .same
-      ∙ ap₂ (λ (l : List PatternFound) (r : List InstrumentFound). told (joined (patternFormat .regions) l) ++ told (joined (instrumentFormat (kindAt file) .regions) r)) (sym (got-value (w .patterns-read))) (sym (got-value (w .instruments-read))) in
+      ∙ ap₂ (λ (l : List PatternFound) (r : List InstrumentFound). toldPatterns l ++ toldInstruments (kindAt file) r)
+      (sym (got-value (w .patterns-read))) (sym (got-value (w .instruments-read))) in
       let next = ahead 0 0 place 0 head size in
       record {
         next = next;
@@ -304,7 +345,8 @@ module _ (file : List ℕ) (a : Ahead) where
   by size heads there patterns whole instruments within g =
       cond size
       (cond heads (cond there (handHead a) (endsAt a))
-      (cond patterns (cond whole (handPattern (drop (a .place) file) a) (endsAt a)) (cond instruments (cond within (handInstrument g a) (endsAt a)) (endsAt a))))
+      (cond patterns (cond whole (handPattern (drop (a .place) file) a) (endsAt a))
+      (cond instruments (cond within (handInstrument g a) (endsAt a)) (endsAt a))))
       (endsAt a)
 
   ended-stays : (size heads there patterns whole instruments within : Bool) (g : Got InstrumentFound)
@@ -322,7 +364,8 @@ module _ (file : List ℕ) (a : Ahead) where
   pub hand-stays : handOver file a .standing ≡ ended → handOver file a .ahead ≡ a
   unfolding handOver
   hand-stays =
-      ended-stays (leb (length file) fileMost) (ltb 0 (a .heads)) (leb (a .head + a .headSize) (length file)) (ltb 0 (a .patterns)) (leb (a .place + leastPattern) (length file)) (ltb 0 (a .instruments)) (leb (a .place) (length file))
+      ended-stays (leb (length file) fileMost) (ltb 0 (a .heads)) (leb (a .head + a .headSize) (length file)) (ltb 0 (a .patterns))
+      (leb (a .place + leastPattern) (length file)) (ltb 0 (a .instruments)) (leb (a .place) (length file))
       (readInstrument (kindAt file) (a .place) (drop (a .place) file))
 
 -- Before the first call
@@ -337,8 +380,11 @@ module _ (file : List ℕ) (found : Found) (end : ℕ) (reads : readFile file �
       bind-got (readHeader (kindAt file) 0 file) _ e λ i n eh e₁. bind-got _ _ e₁ λ v m ev e₂.
       bind-got _ _ ev λ ps k ep e₃. bind-got _ _ e₃ λ is j ei e₄.
       passed _ _ eh λ tests eh.
-      let patterns = got-carry (λ (i : HeaderFound) (n : ℕ). each patternFormat .read (patternsFor (i .content)) (0 + n) (drop n file) ≡ got ps k) (sym eh) ep in
-      let instruments = got-carry (λ (i : HeaderFound) (n : ℕ). each (instrumentFormat (kindAt file)) .read (instrumentsFor (i .content) []) (0 + n + k) (drop k (drop n file)) ≡ got is j) (sym eh) ei in
+      let patterns =
+      got-carry (λ (i : HeaderFound) (n : ℕ). each patternFormat .read (patternsFor (i .content)) (0 + n) (drop n file) ≡ got ps k) (sym eh) ep in
+      let F = instrumentFormat (kindAt file) in
+      let instruments =
+      got-carry (λ (i : HeaderFound) (n : ℕ). each F .read (instrumentsFor (i .content) []) (0 + n + k) (drop k (drop n file)) ≡ got is j) (sym eh) ei in
       got-carry (λ (r : Found) (u : ℕ). Left file (aheadAtFirst file) (map handed (structures r))) e₂
       (got-carry (λ (r : List PatternFound × List InstrumentFound) (u : ℕ). Left file (aheadAtFirst file) (map handed (structures (i, r)))) e₄
       (record {

@@ -9,7 +9,8 @@ use Rattle.xm.specs.Sample.{Stretch, stretchRegion, SamplesFound, sample
 use Rattle.xm.specs.PatternInFile.{PatternFound, patternFormat}
 use Rattle.xm.specs.Instrument.{InstrumentFound, instrumentFormat}
 use Rattle.xm.specs.Module.{Found, regionsOf}
-use Rattle.xm.specs.Table.{PatternRow, InstrumentRow, SampleRow, patternRow, patternRows, sampleCount, instrumentRowsFrom, instrumentRows, sampleRowsOf, sampleRowsIn, sampleRows}
+use Rattle.xm.specs.Table.{PatternRow, InstrumentRow, SampleRow, patternRow, patternRows, sampleCount}
+use Rattle.xm.specs.Table.{instrumentRowsFrom, instrumentRows, sampleRowsOf, sampleRowsIn, sampleRows}
 use Rattle.xm.specs.Asking.{Lies, liesOf}
 use Rattle.xm.specs.Structure.{kindNumber}
 use Rattle.xm.specs.Region.{ofKind}
@@ -51,18 +52,25 @@ map-map f g (x ∷ xs) = cons-path refl (map-map f g xs)
 abbrev pub lies : Stretch → Lies
 lies v = record { place = v .place; size = v .size }
 
-stretches-same : (kind other : Kind) → eqb (kindNumber kind) (kindNumber other) ≡ true → (vs : List Stretch) → ofKind kind (joined (stretchRegion other) vs) ≡ map lies vs
+stretches-same : (kind other : Kind) → eqb (kindNumber kind) (kindNumber other) ≡ true → (vs : List Stretch)
+    → ofKind kind (joined (stretchRegion other) vs) ≡ map lies vs
 stretches-same kind other e vs = kind-joined kind (stretchRegion other) vs ∙ joined-one _ lies (λ v. rw e) vs
 
-stretches-other : (kind other : Kind) → eqb (kindNumber kind) (kindNumber other) ≡ false → (vs : List Stretch) → ofKind kind (joined (stretchRegion other) vs) ≡ []
+stretches-other : (kind other : Kind) → eqb (kindNumber kind) (kindNumber other) ≡ false → (vs : List Stretch)
+    → ofKind kind (joined (stretchRegion other) vs) ≡ []
 stretches-other kind other e vs = kind-joined kind (stretchRegion other) vs ∙ joined-none _ (λ v. rw e) vs
 
 -- The regions of an instrument's samples by kind
-samples-regions : (kind : Kind) (v : SamplesFound) → ofKind kind (samplesFormat .regions v) ≡ ofKind kind (joined (stretchRegion sampleHeader) (v .0)) ++ ofKind kind (joined (stretchRegion sampleData) (v .1))
+samples-regions : (kind : Kind) (v : SamplesFound)
+    → ofKind kind (samplesFormat .regions v)
+    ≡ ofKind kind (joined (stretchRegion sampleHeader) (v .0)) ++ ofKind kind (joined (stretchRegion sampleData) (v .1))
 samples-regions kind v = kind-append kind (joined (stretchRegion sampleHeader) (v .0)) (joined (stretchRegion sampleData) (v .1))
 
-samples-none : (kind : Kind) → eqb (kindNumber kind) (kindNumber sampleHeader) ≡ false → eqb (kindNumber kind) (kindNumber sampleData) ≡ false → (v : SamplesFound) → ofKind kind (samplesFormat .regions v) ≡ []
-samples-none kind p q v = samples-regions kind v ∙ ap₂ (λ (a b : List Lies). a ++ b) (stretches-other kind sampleHeader p (v .0)) (stretches-other kind sampleData q (v .1))
+samples-none : (kind : Kind) → eqb (kindNumber kind) (kindNumber sampleHeader) ≡ false → eqb (kindNumber kind) (kindNumber sampleData) ≡ false
+    → (v : SamplesFound) → ofKind kind (samplesFormat .regions v) ≡ []
+samples-none kind p q v =
+    samples-regions kind v
+    ∙ ap₂ (λ (a b : List Lies). a ++ b) (stretches-other kind sampleHeader p (v .0)) (stretches-other kind sampleData q (v .1))
 
 heads-regions : (v : SamplesFound) → ofKind sampleHeader (samplesFormat .regions v) ≡ map lies (v .0)
 heads-regions v =
@@ -77,13 +85,17 @@ bytes-regions v =
 
 -- Of a module: what the patterns and the instruments have of a kind
 module-regions : (kind : Kind) → eqb (kindNumber kind) (kindNumber header) ≡ false → (found : Found) → ofKind kind (regionsOf found)
-    ≡ joined (λ (p : PatternFound). ofKind kind (patternFormat .regions p)) (found .1 .0) ++ joined (λ (i : InstrumentFound). ofKind kind (instrumentFormat (found .0 .kind) .regions i)) (found .1 .1)
+    ≡ joined (λ (p : PatternFound). ofKind kind (patternFormat .regions p)) (found .1 .0)
+    ++ joined (λ (i : InstrumentFound). ofKind kind (instrumentFormat (found .0 .kind) .regions i)) (found .1 .1)
 module-regions kind e found =
-    rw e (kind-append kind (joined (patternFormat .regions) (found .1 .0)) (joined (instrumentFormat (found .0 .kind) .regions) (found .1 .1))
-    ∙ ap₂ (λ (a b : List Lies). a ++ b) (kind-joined kind (patternFormat .regions) (found .1 .0)) (kind-joined kind (instrumentFormat (found .0 .kind) .regions) (found .1 .1)))
+    let p = patternFormat .regions in
+    let i = instrumentFormat (found .0 .kind) .regions in
+    rw e (kind-append kind (joined p (found .1 .0)) (joined i (found .1 .1))
+    ∙ ap₂ (λ (a b : List Lies). a ++ b) (kind-joined kind p (found .1 .0)) (kind-joined kind i (found .1 .1)))
 
 -- Patterns: a row for each data region
-patterns-stand : (found : Found) → ofKind patternData (regionsOf found) ≡ map (λ (row : PatternRow). record { place = row .dataPlace; size = row .size }) (patternRows found)
+patterns-stand : (found : Found)
+    → ofKind patternData (regionsOf found) ≡ map (λ (row : PatternRow). record { place = row .dataPlace; size = row .size }) (patternRows found)
 patterns-stand found =
     module-regions patternData refl found
     ∙ ap₂ (λ (a b : List Lies). a ++ b)
@@ -97,8 +109,8 @@ instrument-places : (first : ℕ) (is : List InstrumentFound) → map Instrument
 instrument-places first [] = refl
 instrument-places first (i ∷ is) = cons-path refl (instrument-places (first + sampleCount i) is)
 
-no-patterns : (kind : Kind) → eqb (kindNumber kind) (kindNumber patternHeader) ≡ false → eqb (kindNumber kind) (kindNumber patternData) ≡ false → (ps : List PatternFound)
-    → joined (λ (p : PatternFound). ofKind kind (patternFormat .regions p)) ps ≡ []
+no-patterns : (kind : Kind) → eqb (kindNumber kind) (kindNumber patternHeader) ≡ false → eqb (kindNumber kind) (kindNumber patternData) ≡ false
+    → (ps : List PatternFound) → joined (λ (p : PatternFound). ofKind kind (patternFormat .regions p)) ps ≡ []
 no-patterns kind e q ps = joined-none _ (λ p. rw (e, q)) ps
 
 instruments-stand : (found : Found) → map Lies.place (ofKind instrument (regionsOf found)) ≡ map InstrumentRow.place (instrumentRows found)
@@ -106,12 +118,14 @@ instruments-stand found =
     ap (map Lies.place)
     (module-regions instrument refl found
     ∙ ap₂ (λ (a b : List Lies). a ++ b) (no-patterns instrument refl refl (found .1 .0))
-    (joined-one _ (λ (i : InstrumentFound). record { place = i .place; size = i .size }) (λ i. cons-path refl (samples-none instrument refl refl (i .samples))) (found .1 .1)))
+    (joined-one _ (λ (i : InstrumentFound). record { place = i .place; size = i .size })
+    (λ i. cons-path refl (samples-none instrument refl refl (i .samples))) (found .1 .1)))
     ∙ map-map _ _ (found .1 .1)
     ∙ sym (instrument-places 0 (found .1 .1))
 
 -- Samples: a row for each header and its data, which are as many
-row-heads : (heads : List Stretch) (bytes : List Stretch) → Sized (map Stretch.bytes heads) bytes → map SampleRow.headerPlace (sampleRowsOf heads bytes) ≡ map Lies.place (map lies heads)
+row-heads : (heads : List Stretch) (bytes : List Stretch) → Sized (map Stretch.bytes heads) bytes
+    → map SampleRow.headerPlace (sampleRowsOf heads bytes) ≡ map Lies.place (map lies heads)
 row-heads [] bytes z = refl
 row-heads (h ∷ hs) [] z = absurd z
 row-heads (h ∷ hs) (b ∷ bs) z = cons-path refl (row-heads hs bs (z .1))

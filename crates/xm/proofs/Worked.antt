@@ -17,5 +17,7 @@ use Rattle.xm.specs.Convert.{converting}
 use Rattle.xm.specs.Worked.{done, cases}
 
 pub worked : map done cases ≡ cases
-unfolding checking handOver started pressingAs converting readWhole _>>=_ _>>_ ensure checked kindAt restartInside restartOf readHeader writeHeader readPattern writePattern readStored allZero needsNoData writeStored dataSize readHead readData smallestHead readInstrument writeVoice writeFields writeInstrument wordAt longAt padded before trimmed
+unfolding checking handOver started pressingAs converting readWhole _>>=_ _>>_ ensure checked kindAt restartInside restartOf readHeader writeHeader
+    readPattern writePattern readStored allZero needsNoData writeStored dataSize readHead readData smallestHead readInstrument writeVoice writeFields
+    writeInstrument wordAt longAt padded before trimmed
 worked = refl

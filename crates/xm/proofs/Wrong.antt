@@ -20,7 +20,9 @@ use Rattle.xm.specs.Wrong.{song, wrongFiles, silence, inCells, withTempo
 pub wrong-longer :
     (map readsAs (pressed normal song ∷ wrongFiles) ≡ (song ∷ [], 662) ∷ (song ∷ [], 665) ∷ (song ∷ [], 664) ∷ (song ∷ [], 663) ∷ [])
     × (map readsAs (pressed normal silence ∷ inCells ∷ []) ≡ (silence ∷ [], 658) ∷ (silence ∷ [], 722) ∷ [])
-unfolding readWhole _>>=_ _>>_ ensure checked kindAt restartInside restartOf readHeader writeHeader readPattern writePattern readStored readCells readCell cellAt fieldsBy lengthBy ones onesIn writeStored needsNoData allZero writeCell goesPlain plainBy standsPlain plainShorter marked kepts marks kept readHead readData readInstrument writeVoice writeInstrument wordAt longAt padded dataSize
+unfolding readWhole _>>=_ _>>_ ensure checked kindAt restartInside restartOf readHeader writeHeader readPattern writePattern readStored readCells readCell
+    cellAt fieldsBy lengthBy ones onesIn writeStored needsNoData allZero writeCell goesPlain plainBy standsPlain plainShorter marked kepts marks kept readHead
+    readData readInstrument writeVoice writeInstrument wordAt longAt padded dataSize
 wrong-longer = (refl, refl)
 
 -- One file for two songs: they differ in the tempo, and the press that forgets it gives the same bytes of both
@@ -28,6 +30,9 @@ pub forgets : (forgetful song ≡ forgetful (withTempo 3 song)) × (song .0 .tem
 forgets = (refl, refl)
 
 -- Two files for one song: each reads as it and would be written as it stands, with its own byte at 340
-pub keeps-type : (map (λ (type : ℕ). readsAs (typed type)) (0 ∷ 1 ∷ []) ≡ (song ∷ [], 662) ∷ (song ∷ [], 662) ∷ []) × (map (λ (type : ℕ). getD (typed type) 340 9) (0 ∷ 1 ∷ []) ≡ 0 ∷ 1 ∷ [])
-unfolding readWhole _>>=_ _>>_ ensure checked kindAt restartInside restartOf readHeader writeHeader readPattern writePattern readStored readCells readCell cellAt fieldsBy lengthBy ones onesIn writeStored needsNoData allZero writeCell goesPlain plainBy standsPlain plainShorter marked kepts marks kept readHead readData readInstrument writeVoice writeInstrument wordAt longAt padded dataSize
+pub keeps-type : (map (λ (type : ℕ). readsAs (typed type)) (0 ∷ 1 ∷ []) ≡ (song ∷ [], 662) ∷ (song ∷ [], 662) ∷ [])
+    × (map (λ (type : ℕ). getD (typed type) 340 9) (0 ∷ 1 ∷ []) ≡ 0 ∷ 1 ∷ [])
+unfolding readWhole _>>=_ _>>_ ensure checked kindAt restartInside restartOf readHeader writeHeader readPattern writePattern readStored readCells readCell
+    cellAt fieldsBy lengthBy ones onesIn writeStored needsNoData allZero writeCell goesPlain plainBy standsPlain plainShorter marked kepts marks kept readHead
+    readData readInstrument writeVoice writeInstrument wordAt longAt padded dataSize
 keeps-type = (refl, refl)

@@ -33,7 +33,8 @@ askNumbers = numbers (Lies.place ∷ Lies.size ∷ [])
 -- Of a table over flat numbers, and of one of records.
 abbrev pub askingFlat : (file table : List ℕ) (number : ℕ) → Answer Lies
 askingFlat file table number =
-    asking file (length table / sampleStride) number (record { place = getD table (sampleStride * number + 1) 0; size = getD table (sampleStride * number + 2) 0 })
+    let start = sampleStride * number in
+    asking file (length table / sampleStride) number (record { place = getD table (start + 1) 0; size = getD table (start + 2) 0 })
 
 -- What stands for a row where none is lent: that of no header.
 abbrev pub noRow : SampleRow

@@ -47,6 +47,9 @@ example =
     0x00 ∷ 0x01 ∷ 0x02 ∷ 0x04 ∷ 0x08 ∷ 0x10 ∷ 0x20 ∷ 0x40 ∷ 0xFF ∷ 0xFE ∷ 0xFC ∷ 0xF8 ∷ 0xF0 ∷ 0xE0 ∷ 0xD0 ∷ 0xC0
     ∷ 0x00 ∷ 0x08 ∷ 0x00 ∷ 0x18 ∷ 0x31 ∷ 0x02 ∷ 0x81 ∷ []
 
+abbrev exampleValues : List ℤ
+exampleValues = pos 0 ∷ pos 0 ∷ negsuc 0 ∷ negsuc 0 ∷ negsuc 0 ∷ negsuc 0 ∷ negsuc 1 ∷ negsuc 0 ∷ pos 0 ∷ pos 4 ∷ pos 6 ∷ pos 6 ∷ pos 7 ∷ pos 6 ∷ []
+
 -- "a pattern of one empty cell packs to no bytes, not to 80"; "P 81 62 and P 62 00 00 00 00 now read as cells"; "a full cell may take six
 -- bytes".
 abbrev pub pieces : List Piece
@@ -67,6 +70,6 @@ pieces =
     ∷ decodes 8 (0x00 ∷ 0x01 ∷ 0xFF ∷ 0x02 ∷ 0x01 ∷ 0xFE ∷ []) (pos 0 ∷ pos 1 ∷ pos 0 ∷ pos 2 ∷ pos 3 ∷ pos 1 ∷ [])
     ∷ decodes 8 (0x7F ∷ 0x01 ∷ []) (pos 127 ∷ negsuc 127 ∷ [])
     ∷ decodes 16 (0xFF ∷ 0x7F ∷ 0x01 ∷ 0x00 ∷ []) (pos 32767 ∷ negsuc 32767 ∷ [])
-    ∷ decodesAdpcm 14 example (pos 0 ∷ pos 0 ∷ negsuc 0 ∷ negsuc 0 ∷ negsuc 0 ∷ negsuc 0 ∷ negsuc 1 ∷ negsuc 0 ∷ pos 0 ∷ pos 4 ∷ pos 6 ∷ pos 6 ∷ pos 7 ∷ pos 6 ∷ [])
+    ∷ decodesAdpcm 14 example exampleValues
     ∷ decodesAdpcm 13 example (pos 0 ∷ pos 0 ∷ negsuc 0 ∷ negsuc 0 ∷ negsuc 0 ∷ negsuc 0 ∷ negsuc 1 ∷ negsuc 0 ∷ pos 0 ∷ pos 4 ∷ pos 6 ∷ pos 6 ∷ pos 7 ∷ [])
     ∷ []

@@ -20,13 +20,17 @@ use Rattle.xm.specs.Cell.{cellSize, cellMost}
 use Rattle.xm.specs.Stored.{rowsMost, Pattern, emptyRows, readStored, writeStored, GoodPattern}
 use Rattle.xm.specs.Header.{mark, version, markAt, versionAt, sizeAt, songLengthAt, restartAt, ordersFrom, kindAt, noTracker}
 use Rattle.xm.specs.PatternInFile.{dataMost, leastPattern, writePattern}
-use Rattle.xm.specs.Packing.{argumentTests, cellBytes, unpacking, unpackNumbers, unpackAfter, unpackLoader, patternOf, packing, packNumbers, packAfter, packLoader}
-use Rattle.xm.specs.Sample.{Stretch, leastHead, headBytes, lengthOf, loopStart, loopLength, kindOf, loopBits, isWide, loops, adpcm, deltaTable, adpcmSize, dataSizeBy, readHead, smallestHead}
+use Rattle.xm.specs.Packing.{argumentTests, cellBytes, unpacking, unpackNumbers, unpackAfter, unpackLoader}
+use Rattle.xm.specs.Packing.{patternOf, packing, packNumbers, packAfter, packLoader}
+use Rattle.xm.specs.Sample.{Stretch, leastHead, headBytes, lengthOf, loopStart, loopLength, kindOf, loopBits, isWide, loops}
+use Rattle.xm.specs.Sample.{adpcm, deltaTable, adpcmSize, dataSizeBy, readHead, smallestHead}
 use Rattle.xm.specs.Instrument.{leastStripped, Instrument, InstrumentFound, instrumentView, readInstrument, writeFields}
 use Rattle.xm.specs.Module.{Found, Content, moduleFormat, regionsOf, fileMost, readWhole, readFile, plays}
-use Rattle.xm.specs.Delta.{storedNumbers, decoding, coding, allFit, decodeNumbers, decodeAfter, codeNumbers, codeAfter, decodingLimited, decodeLoader, codingLimited, codeLoader}
+use Rattle.xm.specs.Delta.{storedNumbers, decoding, decodeNumbers, decodeAfter, decodingLimited, decodeLoader}
+use Rattle.xm.specs.Delta.{allFit, coding, codeNumbers, codeAfter, codingLimited, codeLoader}
 use Rattle.xm.specs.Adpcm.{chosen, adpcmDecoded, adpcmDecoding, adpcmLimited, adpcmLoader, decodingBy, valuesOf}
-use Rattle.xm.specs.Table.{PatternRow, InstrumentRow, SampleRow, patternRows, instrumentRows, sampleRowsIn, sampleRows, Checked, checkedAs, checking, checkNumbers, checkLoader, Room, checkingInto, checkIntoLoader, Tables, roomOf, tablesAfter, sampleNumbers}
+use Rattle.xm.specs.Table.{PatternRow, InstrumentRow, SampleRow, patternRows, instrumentRows, sampleRowsIn, sampleRows, sampleNumbers}
+use Rattle.xm.specs.Table.{Checked, checkedAs, checking, checkNumbers, checkLoader, Room, checkingInto, checkIntoLoader, Tables, roomOf, tablesAfter}
 use Rattle.xm.specs.Asking.{Lies, asking, stretchOf, askingFlat, askingRows, noRow, liesOf}
 use Rattle.xm.specs.Structure.{isStructure, structures, ended, handed, reading, called, readFor}
 use Rattle.xm.specs.Region.{Adjoin, regionAt, ofKind}
@@ -110,9 +114,11 @@ abbrev pub countsOf : Content → List ℕ
 countsOf content = content .0 .channels ∷ content .0 .patterns ∷ content .0 .instruments ∷ length (headsIn content) ∷ []
 
 pub record CheckTells : Type 0 where
-  pub accepted : (kind : ModuleKind) (content : Content) (file : List ℕ) (f : FileOf (moduleFormat kind) content file) → checkNumbers file ≡ 0 ∷ 0 ∷ f .end ∷ countsOf content
+  pub accepted : (kind : ModuleKind) (content : Content) (file : List ℕ) (f : FileOf (moduleFormat kind) content file)
+      → checkNumbers file ≡ 0 ∷ 0 ∷ f .end ∷ countsOf content
   pub refused-so : (file : List ℕ) (r : Refusal) → readFile file ≡ refused r → checkNumbers file ≡ r .number ∷ r .place ∷ 0 ∷ 0 ∷ 0 ∷ 0 ∷ 0 ∷ []
-  pub acceptable : (file : List ℕ) → Bytes file → accepts (checkNumbers file) → (kind : ModuleKind) × (content : Content) × FileOf (moduleFormat kind) content file
+  pub acceptable : (file : List ℕ) → Bytes file → accepts (checkNumbers file)
+      → (kind : ModuleKind) × (content : Content) × FileOf (moduleFormat kind) content file
 
 -- The bytes that pressing leaves in the output it was lent, by the length that it reports.
 abbrev pub pressedInto : {I A : Type 0} → Format (Unit {0}) I A → (file out : List ℕ) → List ℕ
@@ -126,7 +132,8 @@ PressReadsBack {I} {A} F = (content : A) (file out : List ℕ) → FileOf F cont
 -- A converted file is of its target kind and reads as the converted content.
 abbrev pub ConvertReadsBack : Type 0
 ConvertReadsBack = (kind to : ModuleKind) (content : Content) (file out : List ℕ) → FileOf (moduleFormat kind) content file
-    → accepts (convertNumbers to file (length out)) → FileOf (moduleFormat to) (converted content) (take (resultIn (convertNumbers to file (length out)) 0) (convertAfter to file out))
+    → let reported = convertNumbers to file (length out) in
+    accepts reported → FileOf (moduleFormat to) (converted content) (take (resultIn reported 0) (convertAfter to file out))
 
 -- "Unpacking a packed pattern returns its cells": by the length and the rows that packing reports.
 pub record UnpacksToCells (rows channels : ℕ) (cells lent : List ℕ) (reported after : List ℕ) : Type 0 where
@@ -159,13 +166,17 @@ pub record Demand₂ : Type 0 where
   pub check : CheckTells
   pub press : (kind : ModuleKind) → PressReadsBack (moduleFormat kind)
   pub convert : ConvertReadsBack
-  pub unpack : (rows channels : ℕ) (cells out lent : List ℕ) → Bytes cells → accepts (packNumbers rows channels cells (length out)) → length cells ≤ length lent
-      → UnpacksToCells rows channels cells lent (packNumbers rows channels cells (length out)) (packAfter rows channels cells out)
-  pub decode : (width : ℕ) (values : List ℤ) (out : List ℕ) (room : ℕ) → allFit 16 values ≡ true → accepts (codeNumbers width values (length out))
-      → length values ≤ room → decoding width (take (resultIn (codeNumbers width values (length out)) 0) (codeAfter width values out)) room ≡ gives values
-  pub code : (width : ℕ) (bytes : List ℕ) (out : List ℤ) (room : ℕ) → Bytes bytes → accepts (decodeNumbers width bytes (length out))
-      → length bytes ≤ room → coding width (take (resultIn (decodeNumbers width bytes (length out)) 0) (decodeAfter width bytes out)) room ≡ gives bytes
-  pub sums : (width : ℕ) (bytes : List ℕ) (values : List ℤ) (room : ℕ) → decoding width bytes room ≡ gives values → RunningSums width 0 (storedNumbers width bytes) values
+  pub unpack : (rows channels : ℕ) (cells out lent : List ℕ) → Bytes cells
+      → let reported = packNumbers rows channels cells (length out) in
+      accepts reported → length cells ≤ length lent → UnpacksToCells rows channels cells lent reported (packAfter rows channels cells out)
+  pub decode : (width : ℕ) (values : List ℤ) (out : List ℕ) (room : ℕ) → allFit 16 values ≡ true
+      → let reported = codeNumbers width values (length out) in
+      accepts reported → length values ≤ room → decoding width (take (resultIn reported 0) (codeAfter width values out)) room ≡ gives values
+  pub code : (width : ℕ) (bytes : List ℕ) (out : List ℤ) (room : ℕ) → Bytes bytes
+      → let reported = decodeNumbers width bytes (length out) in
+      accepts reported → length bytes ≤ room → coding width (take (resultIn reported 0) (decodeAfter width bytes out)) room ≡ gives bytes
+  pub sums : (width : ℕ) (bytes : List ℕ) (values : List ℤ) (room : ℕ) → decoding width bytes room ≡ gives values
+      → RunningSums width 0 (storedNumbers width bytes) values
   pub adpcm : (count : ℕ) (bytes : List ℕ) (room : ℕ) → AdpcmTells count bytes room
 
 -- DEMAND 3. "For well-formed cells, a pattern is refused as too large exactly when no stored form of at most 65,535 bytes reads back as
@@ -205,24 +216,29 @@ pub record ConvertedShortest (to : ModuleKind) (content : Content) (file : List 
   pub shortest : (other : List ℕ) → FileOf (moduleFormat to) (converted content) other → length (pressed to (converted content)) ≤ length other
 
 abbrev pub ConvertsShortest : Type 0
-ConvertsShortest = (kind to : ModuleKind) (content : Content) (file : List ℕ) (room : ℕ) → FileOf (moduleFormat kind) content file → ConvertedShortest to content file room
+ConvertsShortest = (kind to : ModuleKind) (content : Content) (file : List ℕ) (room : ℕ) → FileOf (moduleFormat kind) content file
+    → ConvertedShortest to content file room
 
 pub record Demand₃ : Type 0 where
-  pub patterns : (rows channels : ℕ) (cells : List ℕ) (room : ℕ) → WellFormed rows channels cells → PackedShortest rows channels cells room (patternOf rows channels cells)
+  pub patterns : (rows channels : ℕ) (cells : List ℕ) (room : ℕ) → WellFormed rows channels cells
+      → PackedShortest rows channels cells room (patternOf rows channels cells)
   pub modules : (kind : ModuleKind) → PressesShortest (moduleFormat kind)
   pub conversions : ConvertsShortest
 
 -- "size refusals can start at 43 channels (66,048 bytes at 256 rows) and never occur at 42 (64,512)."
 pub record Fifteen : Type 0 where
-  pub never : (rows channels : ℕ) (cells : List ℕ) (room : ℕ) → rowsMost * channels * cellMost ≤ dataMost → packing rows channels cells room ≡ refuses (15 at 0) → ⊥
+  pub never : (rows channels : ℕ) (cells : List ℕ) (room : ℕ) → rowsMost * channels * cellMost ≤ dataMost
+      → packing rows channels cells room ≡ refuses (15 at 0) → ⊥
   pub at-42 : rowsMost * 42 * cellMost ≤ dataMost
   pub at-43 : (cells : List ℕ) × WellFormed rowsMost 43 cells × ((room : ℕ) → packing rowsMost 43 cells room ≡ refuses (15 at 0))
 
 -- "S = 0 means empty cells for the row number in the header. The press writes S = 0 for every all-empty pattern", and for no other; and data
 -- of empty cells are one content with S = 0, whatever bytes they are.
 pub record EmptyPatterns : Type 0 where
-  pub unpacked : (rows channels room : ℕ) → AllHold (argumentTests rows channels) → rows * channels * cellSize ≤ room → unpacking rows channels [] room ≡ gives (emptyRows channels rows)
-  pub packed : (rows channels room : ℕ) → AllHold (argumentTests rows channels) → packNumbers rows channels (replicate (rows * channels * cellSize) 0) room ≡ 0 ∷ 0 ∷ 0 ∷ rows ∷ []
+  pub unpacked : (rows channels room : ℕ) → AllHold (argumentTests rows channels) → rows * channels * cellSize ≤ room
+      → unpacking rows channels [] room ≡ gives (emptyRows channels rows)
+  pub packed : (rows channels room : ℕ) → AllHold (argumentTests rows channels)
+      → packNumbers rows channels (replicate (rows * channels * cellSize) 0) room ≡ 0 ∷ 0 ∷ 0 ∷ rows ∷ []
   pub written : (rows channels : ℕ) → writePattern (emptyRows channels rows) ≡ flat (long leastPattern ∷ byte 0 ∷ word rows ∷ word 0 ∷ [])
   pub only : (channels : ℕ) (p : Pattern) → GoodPattern channels p → writeStored p ≡ [] → p ≡ emptyRows channels (p .rows)
   pub one-content : (rows channels : ℕ) (stored : List ℕ) (room : ℕ) (p : Pattern) → Bytes stored → unpacking rows channels stored room ≡ gives p
@@ -243,7 +259,8 @@ pub record SameBytes {I A : Type 0} (F : Format (Unit {0}) I A) : Type 0 where
       → accepts (pressNumbersAs F file (length out)) → accepts (pressNumbersAs F file′ (length out′))
       → (pressedInto F file out ≡ pressedInto F file′ out′) ↔ (content ≡ content′)
   pub again : (content : A) (file out out′ : List ℕ) → FileOf F content file → accepts (pressNumbersAs F file (length out))
-      → length (pressedInto F file out) ≤ length out′ → accepts (pressNumbersAs F (pressedInto F file out) (length out′)) × (pressedInto F (pressedInto F file out) out′ ≡ pressedInto F file out)
+      → let bytes = pressedInto F file out in
+      length bytes ≤ length out′ → accepts (pressNumbersAs F bytes (length out′)) × (pressedInto F bytes out′ ≡ bytes)
 
 -- Mark and version are those of a kind.
 abbrev pub Fits : ModuleKind → (file : List ℕ) → Type 0
@@ -273,7 +290,8 @@ SmallestSizes = (place : ℕ) (s : List ℕ) (i : InstrumentFound) (used : ℕ) 
 pub record KindsRefused (file : List ℕ) : Type 0 where
   pub three-exactly : length file ≤ fileMost → ordersFrom ≤ length file → (checking file ≡ refuses (3 at 0)) ↔ ((kind : ModuleKind) → Fits kind file → ⊥)
   pub four-exactly : length file ≤ fileMost → ordersFrom ≤ length file → Fits normal file → (checking file ≡ refuses (4 at 0)) ↔ (sizeAt file < 276)
-  pub four-stripped : length file ≤ fileMost → ordersFrom ≤ length file → Fits stripped file → (checking file ≡ refuses (4 at 0)) ↔ (sizeAt file < 20 + songLengthAt file)
+  pub four-stripped : length file ≤ fileMost → ordersFrom ≤ length file → Fits stripped file
+      → (checking file ≡ refuses (4 at 0)) ↔ (sizeAt file < 20 + songLengthAt file)
   pub eleven-never : Fits stripped file → (place : ℕ) → checking file ≡ refuses (11 at place) → ⊥
 
 -- A conversion gives the file's own refusal first.
@@ -297,7 +315,8 @@ pub record KeptElse (x y : Content) : Type 0 where
 
 -- "convert both ways": a stripped file that is converted to a normal one, and that back, is the stripped file pressed.
 abbrev pub ConvertsBack : Type 0
-ConvertsBack = (content : Content) (file : List ℕ) → FileOf (moduleFormat stripped) content file → (room room′ : ℕ) (bytes : List ℕ) → converting normal file room ≡ gives bytes
+ConvertsBack = (content : Content) (file : List ℕ) → FileOf (moduleFormat stripped) content file
+    → (room room′ : ℕ) (bytes : List ℕ) → converting normal file room ≡ gives bytes
     → length (pressed stripped content) ≤ room′ → converting stripped bytes room′ ≡ gives (pressed stripped content)
 
 -- The check that fills tables: the file's own refusal first, then 14 exactly when a count is above the rows lent.
@@ -388,10 +407,12 @@ RowLoops row head bytes = LoopReads head (row .width) (row .loopKind) (row .loop
 
 abbrev pub RowDecodes : (file : List ℕ) → SampleRow → (head bytes : List ℕ) → Type 0
 RowDecodes file row head bytes =
-    (part (row .dataPlace) (row .size) file ≡ bytes)
-    × (decodingBy (byteAt 17 head) (longAt 0 head) (row .width) (part (row .dataPlace) (row .size) file) (length (valuesOf head bytes)) ≡ gives (valuesOf head bytes))
-    × (length (valuesOf head bytes) ≡ longAt 0 head / (row .width / 8))
-    × (row .loopStart + row .loopLength ≤ length (valuesOf head bytes))
+    let stored = part (row .dataPlace) (row .size) file in
+    let values = valuesOf head bytes in
+    (stored ≡ bytes)
+    × (decodingBy (byteAt 17 head) (longAt 0 head) (row .width) stored (length values) ≡ gives values)
+    × (length values ≡ longAt 0 head / (row .width / 8))
+    × (row .loopStart + row .loopLength ≤ length values)
 
 -- A sample asked for by number, of the tables as the check leaves them, whatever stood in them beyond: the row's stretch, which holds the
 -- content's data.
@@ -401,8 +422,10 @@ liesAt rows number = liesOf (getD rows number noRow)
 pub record Asked (file : List ℕ) (rows : List SampleRow) (bytes : List (List ℕ)) : Type 0 where
   pub flat : (stale : List ℕ) (number : ℕ) → number < length rows → askingFlat file (joined sampleNumbers rows ++ stale) number ≡ gives (liesAt rows number)
   pub records : (stale : List SampleRow) (number : ℕ) → number < length rows → askingRows file (rows ++ stale) number ≡ gives (liesAt rows number)
-  pub flat-bytes : (stale : List ℕ) (number : ℕ) → number < length rows → stretchOf file (askingFlat file (joined sampleNumbers rows ++ stale) number) ≡ getD bytes number []
-  pub record-bytes : (stale : List SampleRow) (number : ℕ) → number < length rows → stretchOf file (askingRows file (rows ++ stale) number) ≡ getD bytes number []
+  pub flat-bytes : (stale : List ℕ) (number : ℕ) → number < length rows
+      → stretchOf file (askingFlat file (joined sampleNumbers rows ++ stale) number) ≡ getD bytes number []
+  pub record-bytes : (stale : List SampleRow) (number : ℕ) → number < length rows
+      → stretchOf file (askingRows file (rows ++ stale) number) ≡ getD bytes number []
 
 -- and of any row at all: 16 exactly when the number is at or above the rows lent, or the data isn't inside the file.
 abbrev pub AsksExactly : Type 0
@@ -466,8 +489,11 @@ RestartsRead = (file : List ℕ) (found : Found) (end : ℕ) → readFile file �
 -- "Only an order entry that names no pattern still stands for 64 rows", of empty cells, and any other for the pattern it names: of a
 -- position within the song length.
 pub record PlaysOrders (content : Content) : Type 0 where
-  pub named : (position number : ℕ) (p : Pattern) → position < content .0 .songLength → getD (content .0 .orders) position 0 ≡ number → number < length (content .1 .0) → plays content position ≡ getD (content .1 .0) number p
-  pub nameless : (position : ℕ) → position < content .0 .songLength → length (content .1 .0) ≤ getD (content .0 .orders) position 0 → plays content position ≡ emptyRows (content .0 .channels) 64
+  pub named : (position number : ℕ) (p : Pattern) → position < content .0 .songLength
+      → getD (content .0 .orders) position 0 ≡ number → number < length (content .1 .0)
+      → plays content position ≡ getD (content .1 .0) number p
+  pub nameless : (position : ℕ) → position < content .0 .songLength → length (content .1 .0) ≤ getD (content .0 .orders) position 0
+      → plays content position ≡ emptyRows (content .0 .channels) 64
 
 -- The small reader: a call after n others gives what `reading` says of n, which is the structure of that number, in file order; behind the
 -- last one it says that the end is reached, and the reader stays as it is.
@@ -496,7 +522,8 @@ pub record Limited {A : Type 0} (most count : ℕ) (own limited : Answer A) : Ty
 
 pub record LoadersTell : Type 0 where
   pub check : (file : List ℕ) → Bytes file → LoaderTells Checked.end (checking file) (checkLoader file)
-  pub unpack : (rows channels : ℕ) (stored : List ℕ) (room : ℕ) → Bytes stored → LoaderTells Pattern.rows (unpacking rows channels stored room) (unpackLoader rows channels stored room)
+  pub unpack : (rows channels : ℕ) (stored : List ℕ) (room : ℕ) → Bytes stored
+      → LoaderTells Pattern.rows (unpacking rows channels stored room) (unpackLoader rows channels stored room)
   pub pack : (rows channels : ℕ) (cells : List ℕ) (room : ℕ)
       → LoaderTells (λ (p : Pattern). length (writeStored p) + 65536 * p .rows) (packing rows channels cells room) (packLoader rows channels cells room)
   pub pack-apart : (rows channels : ℕ) (cells : List ℕ) (room : ℕ) (p : Pattern) → packing rows channels cells room ≡ gives p

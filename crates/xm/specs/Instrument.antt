@@ -59,11 +59,13 @@ instrumentTests normal place s =
 -- "their instruments are tried for 4 bytes present (1), I below 4 (10), I bytes present (1), k above 16 (10)"; then, as above, for
 -- all k headers. "11 never occurs for stripped files".
 instrumentTests stripped place s =
+    let fields = fieldsOf stripped s in
+    let k = countAt fields in
     present leastStripped (length s) (1 at place)
     ∷ atLeast leastStripped (instrumentSizeAt s) (10 at place)
     ∷ present (instrumentSizeAt s) (length s) (1 at place)
-    ∷ atMost samplesMost (countAt (fieldsOf stripped s)) (10 at place)
-    ∷ when (ltb 0 (countAt (fieldsOf stripped s))) (present (instrumentSizeAt s + countAt (fieldsOf stripped s) * headerSizeAt (fieldsOf stripped s)) (length s) (1 at place))
+    ∷ atMost samplesMost k (10 at place)
+    ∷ when (ltb 0 k) (present (instrumentSizeAt s + k * headerSizeAt fields) (length s) (1 at place))
     ∷ []
 
 -- "each instrument's name, type, k, and if k > 0 bytes 33 to 240": k is the number of samples.

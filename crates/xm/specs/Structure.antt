@@ -70,14 +70,28 @@ endsAt a = record { standing = ended; ahead = a }
 abbrev pub handHead : Ahead → Handed
 handHead a = record {
   standing = stands sampleHeader (a .head);
-  ahead = record { patterns = a .patterns; instruments = a .instruments; place = a .place; heads = a .heads - 1; head = a .head + a .headSize; headSize = a .headSize };
+  ahead = record {
+    patterns = a .patterns;
+    instruments = a .instruments;
+    place = a .place;
+    heads = a .heads - 1;
+    head = a .head + a .headSize;
+    headSize = a .headSize;
+  };
 }
 
 -- A pattern, by the bytes from its place on: its cells are not read again.
 abbrev pub handPattern : List ℕ → Ahead → Handed
 handPattern s a = record {
   standing = stands patternHeader (a .place);
-  ahead = record { patterns = a .patterns - 1; instruments = a .instruments; place = a .place + headSizeAt s + dataSizeAt s; heads = 0; head = 0; headSize = 0 };
+  ahead = record {
+    patterns = a .patterns - 1;
+    instruments = a .instruments;
+    place = a .place + headSizeAt s + dataSizeAt s;
+    heads = 0;
+    head = 0;
+    headSize = 0;
+  };
 }
 
 abbrev pub handInstrument : Got InstrumentFound → Ahead → Handed
@@ -98,10 +112,11 @@ handInstrument (refused r) a = endsAt a
 -- stripped, the file says itself. With H = 0 several sample headers stand at one place: they are counted.
 unfoldable pub handOver : (file : List ℕ) → Ahead → Handed
 handOver file a =
+    let s = drop (a .place) file in
     cond (leb (length file) fileMost)
     (cond (ltb 0 (a .heads)) (cond (leb (a .head + a .headSize) (length file)) (handHead a) (endsAt a))
-    (cond (ltb 0 (a .patterns)) (cond (leb (a .place + leastPattern) (length file)) (handPattern (drop (a .place) file) a) (endsAt a))
-    (cond (ltb 0 (a .instruments)) (cond (leb (a .place) (length file)) (handInstrument (readInstrument (kindAt file) (a .place) (drop (a .place) file)) a) (endsAt a))
+    (cond (ltb 0 (a .patterns)) (cond (leb (a .place + leastPattern) (length file)) (handPattern s a) (endsAt a))
+    (cond (ltb 0 (a .instruments)) (cond (leb (a .place) (length file)) (handInstrument (readInstrument (kindAt file) (a .place) s) a) (endsAt a))
     (endsAt a))))
     (endsAt a)
 

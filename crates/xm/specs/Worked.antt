@@ -41,7 +41,9 @@ headed byteMark wordVersion size instruments id tracker orders = flat (
     ∷ [])
 
 abbrev pub small : ModuleKind → (instruments : ℕ) → List ℕ
-small kind instruments = headed (mark kind) (version kind) (leastHeader kind 1) instruments (idText kind) (replicate 20 0) (replicate 1 0 ++ replicate (padding kind 1) 0)
+small kind instruments =
+    let orders : List ℕ = replicate 1 0 ++ replicate (padding kind 1) 0 in
+    headed (mark kind) (version kind) (leastHeader kind 1) instruments (idText kind) (replicate 20 0) orders
 
 -- Stripped instruments: nothing; a sample count at 27, of headers of no bytes; and one sample of five bytes, whose header is its length.
 abbrev pub nothing : List ℕ
