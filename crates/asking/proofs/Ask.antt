@@ -20,7 +20,8 @@ module _ (file : List ℕ) (rows number : ℕ) (row : Stretch) where
   pub ask-lies : (number < rows) × (row .place + row .length ≤ length file) → asked.Lies row ≡ askedOf (asking file rows number (liesIn row))
   ask-lies h = sym (ap askedOf (asks-exactly file rows number (liesIn row) .0 h))
 
-  pub ask-refused : ((number < rows) × (row .place + row .length ≤ length file) → ⊥) → asked.Refused (faultOf (16 at 0)) ≡ askedOf (asking file rows number (liesIn row))
+  pub ask-refused : ((number < rows) × (row .place + row .length ≤ length file) → ⊥)
+      → asked.Refused (faultOf (16 at 0)) ≡ askedOf (asking file rows number (liesIn row))
   ask-refused h = sym (ap askedOf (asks-exactly file rows number (liesIn row) .1 h))
 
 -- A number at or above the rows: whatever the row says
@@ -37,7 +38,9 @@ unfolding asking
 asked-inside file rows number row {a} e = go (asking file rows number row) refl e
   where
     go : (answer : Answer Lies) → asking file rows number row ≡ answer → a ≡ askedOf answer → Inside file a
-    go (gives lies) q e = subst (Inside file) (sym e) (gives-passed _ _ _ q λ h d. subst (λ (l : Lies). l .place + l .size ≤ length file) (gives-same d) (omega (arith, h .1 .0, h .1 .1 .0)))
+    go (gives lies) q e =
+        subst (Inside file) (sym e)
+        (gives-passed _ _ _ q λ h d. subst (λ (l : Lies). l .place + l .size ≤ length file) (gives-same d) (omega (arith, h .1 .0, h .1 .1 .0)))
     go (refuses r) q e = subst (Inside file) (sym e) tt
 
 -- as the very stretch, and as 0 or 16

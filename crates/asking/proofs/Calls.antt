@@ -12,15 +12,18 @@ asked-same : (answer : Answer Lies) → askedNumbers (askedOf answer) ≡ askNum
 asked-same (gives lies) = refl
 asked-same (refuses r) = refl
 
-pub asked-numbers : (file table : List ℕ) (number : ℕ) {answer : Asked} → answer ≡ askedOf (askingFlat file table number) → askedNumbers answer ≡ askNumbers (askingFlat file table number)
+pub asked-numbers : (file table : List ℕ) (number : ℕ) {answer : Asked} → answer ≡ askedOf (askingFlat file table number)
+    → askedNumbers answer ≡ askNumbers (askingFlat file table number)
 asked-numbers file table number met = ap askedNumbers met ∙ asked-same (askingFlat file table number)
 
 -- No second answer fits
-pub asked-once : (file table : List ℕ) (number : ℕ) {answer other : Asked} → answer ≡ askedOf (askingFlat file table number) → other ≡ askedOf (askingFlat file table number) → answer ≡ other
+pub asked-once : (file table : List ℕ) (number : ℕ) {answer other : Asked} → answer ≡ askedOf (askingFlat file table number)
+    → other ≡ askedOf (askingFlat file table number) → answer ≡ other
 asked-once file table number met e = met ∙ sym e
 
 -- of a stretch and of the number that tells 0 from 16, flat or by record
-pub stretch-once : (file : List ℕ) (asked : Answer Lies) {stretch other : List ℕ} → stretch ≡ stretchOf file asked → other ≡ stretchOf file asked → stretch ≡ other
+pub stretch-once : (file : List ℕ) (asked : Answer Lies) {stretch other : List ℕ} → stretch ≡ stretchOf file asked
+    → other ≡ stretchOf file asked → stretch ≡ other
 stretch-once file asked met e = met ∙ sym e
 
 pub refusal-once : (asked : Answer Lies) {number other : ℕ} → number ≡ numberOf asked → other ≡ numberOf asked → number ≡ other

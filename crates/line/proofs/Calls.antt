@@ -10,7 +10,9 @@ use Rattle.line.specs.Filled.{Fills}
 module _ (input lent : List ℕ) {count : ℕ} {held : List ℕ} (met : Fills (lineOf (listing input)) lent count held) where
   -- The bytes counted are the line
   pub line-counted : take count held ≡ lineOf (listing input)
-  line-counted = ap₂ (λ (n : ℕ) (bytes : List ℕ). take n bytes) (met .0) (met .1 .0) ∙ take-append-seam (lineOf (listing input)) (drop (length (lineOf (listing input))) lent)
+  line-counted =
+      ap₂ (λ (n : ℕ) (bytes : List ℕ). take n bytes) (met .0) (met .1 .0)
+      ∙ take-append-seam (lineOf (listing input)) (drop (length (lineOf (listing input))) lent)
 
   -- No second answer fits
   pub line-once : {other : ℕ} {kept : List ℕ} → Fills (lineOf (listing input)) lent other kept → (count ≡ other) × (held ≡ kept)

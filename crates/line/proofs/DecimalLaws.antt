@@ -77,7 +77,10 @@ tells-long n h t =
     let d = decimal-long n h in
     record {
       value = ap (valueFrom 0) d ∙ value-behind 0 (decimal (n / 10)) (lastDigit n) ∙ omega (arith, t .value);
-      front = λ z. let e = t .front (sym (first-kept (decimal (n / 10)) (lastDigit n ∷ []) (some-digit (n / 10))) ∙ sym (ap (λ (s : List ℕ). getD s 0 0) d) ∙ z) in absurd (omega (arith, e));
+      front = λ z.
+          let kept = first-kept (decimal (n / 10)) (lastDigit n ∷ []) (some-digit (n / 10)) in
+          let e = t .front (sym kept ∙ sym (ap (λ (s : List ℕ). getD s 0 0) d) ∙ z) in
+          absurd (omega (arith, e));
     }
 
 tells-within : (most n : ℕ) → n ≤ most → Tells n

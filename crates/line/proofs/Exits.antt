@@ -31,15 +31,12 @@ filled-as text lent e f = (f .0 ∙ ap length e, (f .1 .0 ∙ ap (λ (text : Lis
 never-accepted : {A : Type 0} {found : Module} {fault : Fault} → verdict.Accepted found ≡ verdict.Refused fault → A
 never-accepted e = absurd (let z : _≡_ {A = ℕ} 0 1 = cc in omega arith)
 
-same-fault : {a b : Fault} → verdict.Refused a ≡ verdict.Refused b → a ≡ b
-same-fault e = cc
-
 same-module : {a b : Module} → verdict.Accepted a ≡ verdict.Accepted b → a ≡ b
 same-module e = cc
 
 refused-text : (x : Answer Checked) {fault : Fault} → verdict.Refused fault ≡ verdictOf x → refusedLine fault ≡ lineOf x
 refused-text (gives c) e = never-accepted (sym e)
-refused-text (refuses r) e = ap refusedLine (same-fault e)
+refused-text (refuses r) e = ap refusedLine (cc)
 
 -- The small reader's counts are the check's
 counted-text : (g : Got Found) {found : Module} → verdict.Accepted found ≡ verdictOf (answered checkedAs g)

@@ -33,7 +33,8 @@ module _ (held : List ℕ) (at : ℕ) where
   )
 
   -- A number below 10, and another
-  pub put-short : (n digit : ℕ) → digit ≡ lastDigit n → n < 10 → at + length (decimal n) ≤ length held → Stands held at (decimal n) (at + 1) (set held at digit)
+  pub put-short : (n digit : ℕ) → digit ≡ lastDigit n → n < 10 → at + length (decimal n) ≤ length held
+      → Stands held at (decimal n) (at + 1) (set held at digit)
   put-short n digit same h room =
       let e : decimal n ≡ digit ∷ [] = decimal-short n h ∙ ap (λ (d : ℕ). d ∷ []) (sym same) in
       rw e (put-one digit (omega (arith, ap length e)))
@@ -71,18 +72,26 @@ module _ (held : List ℕ) (at : ℕ) (numbers : List ℕ) where
       -- and so has the next number
       pub written-next : done < length numbers → next + 1 + length (decimal (getD numbers done 0)) ≤ length line
       written-next h =
-          omega (arith, written-kept, written-left, ap length (next-number h), length-append (space ∷ decimal (getD numbers done 0)) (numbered (drop (done + 1) numbers)))
+          omega (
+            arith,
+            written-kept,
+            written-left,
+            ap length (next-number h),
+            length-append (space ∷ decimal (getD numbers done 0)) (numbered (drop (done + 1) numbers)),
+          )
 
       pub written-more : done < length numbers → {end : ℕ} {out : List ℕ} → Stands (set line next space) (next + 1) (decimal (getD numbers done 0)) end out
           → Written held at numbers (done + 1) end out
       written-more h {end} {out} s =
           let n = decimal (getD numbers done 0) in
           let fits = written-next h in
-          let one : Stands line next (space ∷ n) end out = put-more line next (space ∷ []) n (omega (arith, fits)) (put-one line next space (omega (arith, fits))) s in
+          let one : Stands line next (space ∷ n) end out =
+          put-more line next (space ∷ []) n (omega (arith, fits)) (put-one line next space (omega (arith, fits))) s in
           record {
             front = w .front ++ (space ∷ n);
             stands = put-more held at (w .front) (space ∷ n) (omega (arith, fits, w .stands .0, written-kept)) (w .stands) one;
-            whole = w .whole ∙ ap (λ (text : List ℕ). w .front ++ text) (next-number h) ∙ sym (append-assoc (w .front) (space ∷ n) (numbered (drop (done + 1) numbers)));
+            whole = w .whole ∙ ap (λ (text : List ℕ). w .front ++ text) (next-number h)
+                ∙ sym (append-assoc (w .front) (space ∷ n) (numbered (drop (done + 1) numbers)));
           }
 
       -- At last the line's end
@@ -101,7 +110,8 @@ numbered-few [] h = omega arith
 numbered-few (n ∷ ns) h = omega (arith, length-append (decimal n) (numbered ns), decimal-few n (h .0), numbered-few ns (h .1))
 
 -- A word in front, and numbers behind it
-pub put-whole : (held word numbers : List ℕ) {at end : ℕ} {mid out : List ℕ} → length (word ++ numbered numbers) ≤ length held → at ≡ length word → mid ≡ inFront word held
+pub put-whole : (held word numbers : List ℕ) {at end : ℕ} {mid out : List ℕ} → length (word ++ numbered numbers) ≤ length held
+    → at ≡ length word → mid ≡ inFront word held
     → Stands mid at (numbered numbers) end out → Fills (word ++ numbered numbers) held end out
 put-whole held word numbers {end = end} {out = out} h n m s =
     let t = put-more held 0 word (numbered numbers) (omega (arith, length-append word (numbered numbers))) (omega arith, m ∙ sym (lay-front held word)) s in

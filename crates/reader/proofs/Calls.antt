@@ -37,7 +37,8 @@ use Rattle.reader.proofs.CountLaws.{kind-count, hand-none}
 -- What `next` promises of a reader, of its answer and of the reader after it
 abbrev pub Called : Reader → Standing → Reader → Type 0
 Called r answer r′ =
-    (answer ≡ standingOf (called (now (r .file)) (reachedIn (r .place)))) × (r′ .file ≡ r .file) × (r′ .place ≡ reachedOf (readOn (now (r .file)) (reachedIn (r .place))))
+    (answer ≡ standingOf (called (now (r .file)) (reachedIn (r .place)))) × (r′ .file ≡ r .file)
+    × (r′ .place ≡ reachedOf (readOn (now (r .file)) (reachedIn (r .place))))
 
 -- and `from_start`
 abbrev pub Started : RefT (List ℕ) → Reader → Type 0
@@ -114,7 +115,8 @@ module _ {file : RefT (List ℕ)} {calls : ℕ} {reader : ℕ → Reader} {answe
     ends h = told n l ∙ ap readingNumbers (tell .end-then n h)
 
 -- The numbers counted are those that the check reports
-each-count : {A : Type 0} (kind : Kind) (f : A → List Region) (m : ℕ) → ((x : A) → length (ofKind kind (f x)) ≡ m) → (xs : List A) → length (ofKind kind (joined f xs)) ≡ m * length xs
+each-count : {A : Type 0} (kind : Kind) (f : A → List Region) (m : ℕ) → ((x : A) → length (ofKind kind (f x)) ≡ m) → (xs : List A)
+    → length (ofKind kind (joined f xs)) ≡ m * length xs
 each-count kind f m h [] = omega arith
 each-count kind f m h (x ∷ xs) = omega (arith, kind-count kind (f x) (joined f xs), h x, each-count kind f m h xs)
 
@@ -122,20 +124,33 @@ instrument-none : (kind : ModuleKind) (i : InstrumentFound) → length (ofKind p
 instrument-none kind i =
     let heads = joined (stretchRegion sampleHeader) (i .samples .0) in
     let bytes = joined (stretchRegion sampleData) (i .samples .1) in
-    omega (arith, kind-count patternHeader heads bytes, each-count patternHeader (stretchRegion sampleHeader) 0 (λ x. refl) (i .samples .0), each-count patternHeader (stretchRegion sampleData) 0 (λ x. refl) (i .samples .1))
+    omega (
+      arith,
+      kind-count patternHeader heads bytes,
+      each-count patternHeader (stretchRegion sampleHeader) 0 (λ x. refl) (i .samples .0),
+      each-count patternHeader (stretchRegion sampleData) 0 (λ x. refl) (i .samples .1),
+    )
 
 patterns-count : (found : Found) → length (ofKind patternHeader (regionsOf found)) ≡ length (patternRows found)
 patterns-count found =
     let kind = found .0 .kind in
     let patterns = joined (patternFormat .regions) (found .1 .0) in
     let instruments = joined (instrumentFormat kind .regions) (found .1 .1) in
-    omega (arith, kind-count patternHeader patterns instruments, each-count patternHeader (patternFormat .regions) 1 (λ p. refl) (found .1 .0), each-count patternHeader (instrumentFormat kind .regions) 0 (instrument-none kind) (found .1 .1), length-map (found .1 .0) patternRow)
+    omega (
+      arith,
+      kind-count patternHeader patterns instruments,
+      each-count patternHeader (patternFormat .regions) 1 (λ p. refl) (found .1 .0),
+      each-count patternHeader (instrumentFormat kind .regions) 0 (instrument-none kind) (found .1 .1),
+      length-map (found .1 .0) patternRow,
+    )
 
-pub counted-numbers : (file : List ℕ) → Bytes file → {answer : answer.Counted} → answer ≡ countedOf (counting file) → countedNumbers answer ≡ numbers countResults (checking file)
+pub counted-numbers : (file : List ℕ) → Bytes file → {answer : answer.Counted} → answer ≡ countedOf (counting file)
+    → countedNumbers answer ≡ numbers countResults (checking file)
 unfolding counting checking
 counted-numbers file plain met = ap countedNumbers met ∙ go (readFile file) refl
   where
-    go : (g : Got Found) → readFile file ≡ g → countedNumbers (countedOf (answered (λ found end. countsOf (structures found)) g)) ≡ numbers countResults (answered checkedAs g)
+    go : (g : Got Found) → readFile file ≡ g
+        → countedNumbers (countedOf (answered (λ found end. countsOf (structures found)) g)) ≡ numbers countResults (answered checkedAs g)
     go (got found end) e =
         let tell = readers-tell .hands-over file found end plain e in
         let tables = accepted-files file found end plain e .tables in
@@ -143,6 +158,8 @@ counted-numbers file plain met = ap countedNumbers met ∙ go (readFile file) re
         let regions = regionsOf found in
         cons-path refl (cons-path refl
         (cons-path (ap length (tell .every-kind patternHeader refl) ∙ patterns-count found ∙ rows .patterns)
-        (cons-path (ap length (tell .every-kind instrument refl) ∙ sym (length-map (ofKind instrument regions) Lies.place) ∙ ap length (tables .instruments) ∙ length-map (instrumentRows found) InstrumentRow.place ∙ rows .instruments)
-        (cons-path (ap length (tell .every-kind sampleHeader refl) ∙ sym (length-map (ofKind sampleHeader regions) Lies.place) ∙ ap length (tables .heads) ∙ length-map (sampleRows found) SampleRow.headerPlace) refl))))
+        (cons-path (ap length (tell .every-kind instrument refl) ∙ sym (length-map (ofKind instrument regions) Lies.place) ∙ ap length (tables .instruments)
+        ∙ length-map (instrumentRows found) InstrumentRow.place ∙ rows .instruments)
+        (cons-path (ap length (tell .every-kind sampleHeader refl) ∙ sym (length-map (ofKind sampleHeader regions) Lies.place) ∙ ap length (tables .heads)
+        ∙ length-map (sampleRows found) SampleRow.headerPlace) refl))))
     go (refused r) e = refl

@@ -60,7 +60,8 @@ counts-append xs ys = same-counts (kind-count patternHeader xs ys) (kind-count i
 abbrev only : (kind : Kind) (place size : ℕ) → List Region
 only kind place size = record { kind = kind; place = place; size = size } ∷ []
 
-counts-one : (counts : Counts) (kind : Kind) (place size : ℕ) → isStructure kind ≡ true → oneMore counts (standingAt kind place) ≡ plus counts (countsOf (only kind place size))
+counts-one : (counts : Counts) (kind : Kind) (place size : ℕ) → isStructure kind ≡ true
+    → oneMore counts (standingAt kind place) ≡ plus counts (countsOf (only kind place size))
 counts-one counts header place size h = absurd (no-true h)
 counts-one counts patternHeader place size h = same-counts (omega arith) (omega arith) (omega arith)
 counts-one counts patternData place size h = absurd (no-true h)
@@ -101,12 +102,14 @@ counted-few file plain = go (readFile file) refl
     go (refused r) e = omega arith
 
 -- A call that hands over no structure: how far has been read stays
-hand-none-of : (file : List ℕ) (a : Ahead) (s : structure.Standing) → handOver file a .standing ≡ s → OfStanding IsStructure s → handsOver (standingIn s) ≡ false → handOver file a .ahead ≡ a
+hand-none-of : (file : List ℕ) (a : Ahead) (s : structure.Standing) → handOver file a .standing ≡ s → OfStanding IsStructure s
+    → handsOver (standingIn s) ≡ false → handOver file a .ahead ≡ a
 hand-none-of file a (structure.stands kind place) e k h = absurd (no-true (sym h ∙ hands-kind kind place k))
 hand-none-of file a structure.ended e k h = hand-stays file a e
 
 pub hand-none : (file : List ℕ) (x : Reached) → handsOver (standingOf (called file (reachedIn x))) ≡ false → reachedOf (readOn file (reachedIn x)) ≡ x
-hand-none file (reached.Within a) h = ap (λ (b : Ahead). reached.Within (aheadOf b)) (hand-none-of file (aheadIn a) (handOver file (aheadIn a) .standing) refl (hand-kind file (aheadIn a)) h)
+hand-none file (reached.Within a) h =
+    ap (λ (b : Ahead). reached.Within (aheadOf b)) (hand-none-of file (aheadIn a) (handOver file (aheadIn a) .standing) refl (hand-kind file (aheadIn a)) h)
 hand-none file (reached.Refused fault) h = refl
 
 -- How far a reader from the start has read after i calls, and what it hands over then
@@ -119,10 +122,12 @@ standAfter file i = handing file (placeAfter file i) .standing
 
 place-after : (file : List ℕ) (i : ℕ) → placeAfter file i ≡ reachedOf (readFor file i)
 place-after file zero = refl
-place-after file (suc i) = ap (λ (x : Reached). handing file x .reached) (place-after file i) ∙ ap (λ (x : Answer Ahead). reachedOf (readOn file x)) (reached-back (readFor file i))
+place-after file (suc i) =
+    ap (λ (x : Reached). handing file x .reached) (place-after file i) ∙ ap (λ (x : Answer Ahead). reachedOf (readOn file x)) (reached-back (readFor file i))
 
 stand-after : (file : List ℕ) (i : ℕ) → standAfter file i ≡ standingOf (called file (readFor file i))
-stand-after file i = ap (λ (x : Reached). handing file x .standing) (place-after file i) ∙ ap (λ (x : Answer Ahead). standingOf (called file x)) (reached-back (readFor file i))
+stand-after file i =
+    ap (λ (x : Reached). handing file x .standing) (place-after file i) ∙ ap (λ (x : Answer Ahead). standingOf (called file x)) (reached-back (readFor file i))
 
 -- A reader that is run to the end, where these are the structures
 pub record Running (file : List ℕ) (rs : List Region) : Type 0 where

@@ -35,5 +35,6 @@ module _ {M : Type 1} (𝓤 : URA M) (H : Heap 𝓤) (A : Atoms 𝓤) (W : Given
     bytes-known t z k =
         use1 W (‵ Own ⊛ ‵ Own) (shr-slice-copy 𝓤 H A W (named 0) κ u8 .twice s (v ∷ [])) $ split t $ fsplit t $ fsplit t $ drop t $ fjoin t $
         -- [what is read; what file owns; the token]
-        move t (0 ∷ 2 ∷ []) $ use2 W (later (given (AllWT (fInt w8) (s .now)) (‵ Read ⊛ ‵ (flft κ q)))) (shs-known 𝓤 H A W (fInt w8) κ q (s .ptr .0) (s .ptr .1) (s .name) (s .now)) $ await t z $ learn t (λ a.
+        move t (0 ∷ 2 ∷ []) $ use2 W (later (given (AllWT (fInt w8) (s .now)) (‵ Read ⊛ ‵ (flft κ q))))
+        (shs-known 𝓤 H A W (fInt w8) κ q (s .ptr .0) (s .ptr .1) (s .name) (s .now)) $ await t z $ learn t (λ a.
         split t $ drop t $ move t (1 ∷ 0 ∷ []) $ k (record { below = λ i. omega (arith, fit-at (fInt w8) 0 (record { fits = lit< tt }) (s .now) a i) }))

@@ -29,13 +29,15 @@ use Rattle.tables.specs.Place.{sampleRow, numbersOf, tunesOf}
 use Rattle.tables.specs.declared.sample.SampleRow.{SampleRow}
 use Rattle.tables.proofs.Calls.{into-numbers, headAt, headSizeAt, valuesAt}
 use Rattle.tables.proofs.IntoLaws.{into-accepted}
-use Rattle.records.specs.Records.{rowOf, rowsOf, recordsOf, noRecord, checkedRecords, recordsAfter, rowAsking, rowAskingIn, rowAskedOf, rowsGiven, rowAskedNumbers, rowAskedTunes, rowNumbers, rowTunes}
+use Rattle.records.specs.Records.{rowOf, rowsOf, recordsOf, noRecord, checkedRecords, recordsAfter, rowAsking, rowAskingIn, rowAskedOf, rowsGiven}
+use Rattle.records.specs.Records.{rowAskedNumbers, rowAskedTunes, rowNumbers, rowTunes}
 use Rattle.records.specs.declared.row.RowAsked.{RowAsked}
 use Rattle.records.specs.declared.row.RowAsked.the-variants as asked
 use Rattle.records.proofs.Records.{Told, row-lent, row-beyond}
 
 -- The numbers are the paper's
-pub records-numbers : (file patterns instruments : List ℕ) (records : List SampleRow) {answer : Verdict} → answer ≡ verdictOf (checkedRecords file patterns instruments records)
+pub records-numbers : (file patterns instruments : List ℕ) (records : List SampleRow) {answer : Verdict}
+    → answer ≡ verdictOf (checkedRecords file patterns instruments records)
     → verdictNumbers answer ≡ checkIntoNumbers (roomWith patterns instruments (rowsOf records)) file
 records-numbers file patterns instruments records met = into-numbers (roomWith patterns instruments (rowsOf records)) file met
 
@@ -79,7 +81,8 @@ module _ (records : List SampleRow) (number : ℕ) {answer : RowAsked} (met : an
       → stretch ≡ stretchOf file (askingRows file (rowsOf records) number)
   stretch-by-number file told = told ∙ ap (stretchOf file) (asked-by-number file)
 
-  pub refusal-by-number : (file : List ℕ) {refusal : ℕ} → refusal ≡ numberOf (askingRows file (rowsGiven answer) 0) → refusal ≡ numberOf (askingRows file (rowsOf records) number)
+  pub refusal-by-number : (file : List ℕ) {refusal : ℕ} → refusal ≡ numberOf (askingRows file (rowsGiven answer) 0)
+      → refusal ≡ numberOf (askingRows file (rowsOf records) number)
   refusal-by-number file told = told ∙ ap (λ (a : Answer Lies). numberOf a) (asked-by-number file)
 
   -- No second answer fits
@@ -87,8 +90,10 @@ module _ (records : List SampleRow) (number : ℕ) {answer : RowAsked} (met : an
   row-once other e = met ∙ sym e
 
 -- nor another answer of the check, nor other tables or records
-pub records-once : (file patterns instruments : List ℕ) (records : List SampleRow) {answer other : Verdict} {patterns₁ patterns₂ instruments₁ instruments₂ : List ℕ} {records₁ records₂ : List SampleRow}
-    → Told file patterns instruments records answer patterns₁ instruments₁ records₁ → Told file patterns instruments records other patterns₂ instruments₂ records₂
+pub records-once : (file patterns instruments : List ℕ)
+    (records : List SampleRow) {answer other : Verdict} {patterns₁ patterns₂ instruments₁ instruments₂ : List ℕ} {records₁ records₂ : List SampleRow}
+    → Told file patterns instruments records answer patterns₁ instruments₁ records₁
+    → Told file patterns instruments records other patterns₂ instruments₂ records₂
     → (answer ≡ other) × (patterns₁ ≡ patterns₂) × (instruments₁ ≡ instruments₂) × (records₁ ≡ records₂)
 records-once file patterns instruments records t u = (
   t .answers ∙ sym (u .answers),
@@ -98,7 +103,8 @@ records-once file patterns instruments records t u = (
 )
 
 -- A refused check changes nothing
-pub records-unchanged : (file patterns instruments : List ℕ) (records : List SampleRow) {answer : Verdict} {patterns₁ instruments₁ : List ℕ} {records₁ : List SampleRow} {r : Refusal}
+pub records-unchanged : (file patterns instruments : List ℕ)
+    (records : List SampleRow) {answer : Verdict} {patterns₁ instruments₁ : List ℕ} {records₁ : List SampleRow} {r : Refusal}
     → Told file patterns instruments records answer patterns₁ instruments₁ records₁ → checkedRecords file patterns instruments records ≡ refuses r
     → (patterns₁ ≡ patterns) × (instruments₁ ≡ instruments) × (records₁ ≡ records)
 records-unchanged file patterns instruments records t e = (
@@ -108,7 +114,8 @@ records-unchanged file patterns instruments records t e = (
 )
 
 -- The same answer as of the check into flat tables that have as many rows
-pub same-answer : (file patterns instruments samples : List ℕ) (tunes : List ℤ) (records : List SampleRow) → min (length samples / sampleStride) (length tunes / tuneStride) ≡ length records
+pub same-answer : (file patterns instruments samples : List ℕ) (tunes : List ℤ) (records : List SampleRow)
+    → min (length samples / sampleStride) (length tunes / tuneStride) ≡ length records
     → checkedInto file (lent patterns instruments samples tunes) ≡ checkedRecords file patterns instruments records
 same-answer file patterns instruments samples tunes records e =
     ap (λ (rows : ℕ). checkingInto (roomFor (length patterns) (length instruments) rows) file) (e ∙ sym (length-map records rowOf))
@@ -146,7 +153,8 @@ module _ (c : Checked) (tables : Tables) (records : List SampleRow) where
   pub same-numbers : tablesAfter (gives c) tables .samples ≡ inFront (joined numbersOf stored) (tables .samples)
   unfolding tablesAfter
   same-numbers =
-      ap (λ (written : List ℕ). inFront written (tables .samples)) (sym (ap (joined numbersOf) stored-all ∙ joined-map numbersOf sampleRow (sampleRows (c .found))))
+      ap (λ (written : List ℕ). inFront written (tables .samples))
+      (sym (ap (joined numbersOf) stored-all ∙ joined-map numbersOf sampleRow (sampleRows (c .found))))
 
   pub same-tunes : tablesAfter (gives c) tables .tunes ≡ inFront (joined tunesOf stored) (tables .tunes)
   unfolding tablesAfter
@@ -154,7 +162,8 @@ module _ (c : Checked) (tables : Tables) (records : List SampleRow) where
       ap (λ (written : List ℤ). inFront written (tables .tunes)) (sym (ap (joined tunesOf) stored-all ∙ joined-map tunesOf sampleRow (sampleRows (c .found))))
 
 -- Of the records that an accepted check leaves
-module _ (file : List ℕ) (plain : Bytes file) (patterns instruments : List ℕ) (records : List SampleRow) (c : Checked) (accepted : checkedRecords file patterns instruments records ≡ gives c)
+module _ (file : List ℕ) (plain : Bytes file) (patterns instruments : List ℕ) (records : List SampleRow) (c : Checked)
+    (accepted : checkedRecords file patterns instruments records ≡ gives c)
     (number : ℕ) (low : number < length (sampleRows (c .found))) where
   found : AcceptedFile file (c .found) (c .end)
   found = accepted-files file (c .found) (c .end) plain (into-accepted _ file c accepted λ q room. q)
@@ -184,7 +193,8 @@ module _ (file : List ℕ) (plain : Bytes file) (patterns instruments : List ℕ
   abbrev pub headRead : List ℕ
   headRead = headBytes (headSizeAt c number) (drop (storedRow .«header_place») file)
 
-  pub stored-decodes : decodingBy (kindOf headRead) (lengthOf headRead) (storedRow .width) (stretchOf file (askingRows file (rowsOf after) number)) (length (valuesAt c number))
+  pub stored-decodes : decodingBy (kindOf headRead) (lengthOf headRead) (storedRow .width) (stretchOf file (askingRows file (rowsOf after) number))
+      (length (valuesAt c number))
       ≡ gives (valuesAt c number)
   stored-decodes = rw (stored-record, stored-asked) (decodes-at file (c .found) (c .end) found number low (length (valuesAt c number)) (omega arith))
 

@@ -20,7 +20,8 @@ use Rattle.tables.specs.Into.{roomFor, patternsAfter, instrumentsAfter}
 use Rattle.tables.specs.Place.{sampleRow}
 use Rattle.tables.specs.declared.sample.SampleRow.{SampleRow}
 use Rattle.tables.proofs.IntoLaws.{into-accepted}
-use Rattle.records.specs.Records.{rowOf, rowsOf, recordsOf, noRecord, recordsIn, checkedRecords, recordsAfter, samplesOf, rowAsking, rowAskingIn, rowAskedOf}
+use Rattle.records.specs.Records.{rowOf, rowsOf, recordsOf, noRecord, recordsIn, checkedRecords, recordsAfter, samplesOf, rowAsking, rowAskingIn}
+use Rattle.records.specs.Records.{rowAskedOf}
 use Rattle.records.specs.declared.row.RowAsked.the-variants as asked
 
 -- One more record is stored
@@ -55,7 +56,8 @@ module _ (file patterns instruments : List ℕ) (lent : List SampleRow) where
   count-fits = go beside refl
     where
       go : (a : Answer Checked) → beside ≡ a → (samplesOf (verdictOf a) ≤ length (recordsIn file)) × (samplesOf (verdictOf a) ≤ length lent)
-      go (gives c) q = into-accepted _ file c q λ found room. (omega (arith, records-length file, ap (λ (g : Got Found). length (listIn sampleRows g)) found), room .2)
+      go (gives c) q =
+          into-accepted _ file c q λ found room. (omega (arith, records-length file, ap (λ (g : Got Found). length (listIn sampleRows g)) found), room .2)
       go (refuses r) q = (omega arith, omega arith)
 
   stored-all : inFront (take (samplesOf (verdictOf beside)) (recordsIn file)) lent ≡ recordsAfter beside lent
@@ -65,7 +67,8 @@ module _ (file patterns instruments : List ℕ) (lent : List SampleRow) where
       go (gives c) q = into-accepted _ file c q λ found room.
           let all : take (length (sampleRows (c .found))) (recordsOf (sampleRows (c .found))) ≡ recordsOf (sampleRows (c .found)) =
           take-all (length (sampleRows (c .found))) (recordsOf (sampleRows (c .found))) (omega (arith, length-map (sampleRows (c .found)) sampleRow)) in
-          ap (λ (g : Got Found). inFront (take (length (sampleRows (c .found))) (recordsOf (listIn sampleRows g))) lent) found ∙ ap (λ (rows : List SampleRow). inFront rows lent) all
+          ap (λ (g : Got Found). inFront (take (length (sampleRows (c .found))) (recordsOf (listIn sampleRows g))) lent) found
+          ∙ ap (λ (rows : List SampleRow). inFront rows lent) all
       go (refuses r) q = refl
 
   -- What the call answers and leaves

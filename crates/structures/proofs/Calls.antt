@@ -44,7 +44,8 @@ pub all-structures : (rs : List Region) → All (λ (r : Region). IsStructure (r
 all-structures [] = tt
 all-structures (r ∷ rs) = go (isStructure (r .kind)) refl (all-structures rs)
   where
-    go : (t : Bool) → isStructure (r .kind) ≡ t → All (λ (r : Region). IsStructure (r .kind)) (structuresOf rs) → All (λ (r : Region). IsStructure (r .kind)) (cond t (r ∷ structuresOf rs) (structuresOf rs))
+    go : (t : Bool) → isStructure (r .kind) ≡ t → All (λ (r : Region). IsStructure (r .kind)) (structuresOf rs)
+        → All (λ (r : Region). IsStructure (r .kind)) (cond t (r ∷ structuresOf rs) (structuresOf rs))
     go true e w = (e, w)
     go false e w = w
 
@@ -67,7 +68,8 @@ module _ (file : List ℕ) (a : structure.Ahead) where
       (either (ltb 0 (a .heads)) _ _ (either (leb (a .head + a .headSize) (length file)) (handHead a) (endsAt a) refl tt)
       (either (ltb 0 (a .patterns)) _ _ (either (leb (a .place + leastPattern) (length file)) (handPattern (drop (a .place) file) a) (endsAt a) refl tt)
       (either (ltb 0 (a .instruments)) _ (endsAt a)
-      (either (leb (a .place) (length file)) (handInstrument (readInstrument (kindAt file) (a .place) (drop (a .place) file)) a) (endsAt a) (of-instrument (readInstrument (kindAt file) (a .place) (drop (a .place) file))) tt) tt)))
+      (either (leb (a .place) (length file)) (handInstrument (readInstrument (kindAt file) (a .place) (drop (a .place) file)) a) (endsAt a)
+      (of-instrument (readInstrument (kindAt file) (a .place) (drop (a .place) file))) tt) tt)))
       tt
 
 kind-told : (kind : Kind) (place : ℕ) → IsStructure kind → standingNumbers (standingAt kind place) ≡ 0 ∷ 0 ∷ kindNumber kind ∷ place ∷ []

@@ -46,11 +46,22 @@ patterns-count (p ∷ ps) = ap suc (patterns-count ps)
 
 instrument-count : (kind : ModuleKind) (i : InstrumentFound) → count (instrumentFormat kind .regions i) ≡ 1 + length (i .samples .0)
 instrument-count kind i =
-    omega (arith, count-append (joined (stretchRegion sampleHeader) (i .samples .0)) (joined (stretchRegion sampleData) (i .samples .1)), heads-count (i .samples .0), data-count (i .samples .1))
+    omega (
+      arith,
+      count-append (joined (stretchRegion sampleHeader) (i .samples .0)) (joined (stretchRegion sampleData) (i .samples .1)),
+      heads-count (i .samples .0),
+      data-count (i .samples .1),
+    )
 
-instruments-few : (file : List ℕ) → length file ≤ fileMost → Bytes file → (n place end : ℕ) (is : List InstrumentFound) → ReadsFrom (instrumentFormat (kindAt file)) tt file n place is end
+instruments-few : (file : List ℕ) → length file ≤ fileMost → Bytes file → (n place end : ℕ) (is : List InstrumentFound)
+    → ReadsFrom (instrumentFormat (kindAt file)) tt file n place is end
     → count (joined (instrumentFormat (kindAt file) .regions) is) ≤ 17 * n
-instruments-few file small bytes zero place end is w = omega (arith, ap (λ (l : List InstrumentFound). count (joined (instrumentFormat (kindAt file) .regions) l)) (reads-none (instrumentFormat (kindAt file)) tt file w .0))
+instruments-few file small bytes zero place end is w =
+    omega (
+      arith,
+      ap (λ (l : List InstrumentFound). count (joined (instrumentFormat (kindAt file) .regions) l))
+          (reads-none (instrumentFormat (kindAt file)) tt file w .0),
+    )
 instruments-few file small bytes (suc n) place end is w =
     instruments-next file small bytes w (omega arith) λ i m more ei s ep rest.
     let z : suc n - 1 ≡ n = omega arith in
@@ -68,7 +79,8 @@ pub structures-few : (file : List ℕ) (found : Found) (end : ℕ) → Bytes fil
 structures-few file found end bytes e =
     let w = file-reads file found end e in
     let few = instruments-few file (w .small) bytes (instrumentsAt file) (w .from) (w .end) (found .1 .1) (w .instruments) in
-    let many = read-length patternFormat (replicate (patternsAt file) (channelsAt file)) (headerEnd file) (drop (headerEnd file) file) (found .1 .0) (w .patterns .used) (w .patterns .reads) in
+    let many = read-length patternFormat (replicate (patternsAt file) (channelsAt file)) (headerEnd file) (drop (headerEnd file) file) (found .1 .0)
+    (w .patterns .used) (w .patterns .reads) in
     omega (
       arith,
       few,

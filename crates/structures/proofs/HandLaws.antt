@@ -55,25 +55,31 @@ pub record Reads (x y : Ahead) : Type 0 where
   pub head-size : x .«head_size» ≡ y .«head_size»
 
 ahead-path : {p p′ i i′ l l′ k k′ h h′ n n′ : ℕ} → p ≡ p′ → i ≡ i′ → l ≡ l′ → k ≡ k′ → h ≡ h′ → n ≡ n′
-    → _≡_ {A = Ahead} (record { patterns = p; instruments = i; place = l; heads = k; head = h; «head_size» = n }) (record { patterns = p′; instruments = i′; place = l′; heads = k′; head = h′; «head_size» = n′ })
+    → _≡_ {A = Ahead}
+    (record { patterns = p; instruments = i; place = l; heads = k; head = h; «head_size» = n })
+    (record { patterns = p′; instruments = i′; place = l′; heads = k′; head = h′; «head_size» = n′ })
 ahead-path p i l k h n = cc
 
 handed-by : {s : Standing} {x y : Ahead} {r : Handed} → r ≡ handedWith s x → Reads x y → r ≡ handedWith s y
 handed-by {s} e w = e ∙ ap (handedWith s) (ahead-path (w .patterns) (w .instruments) (w .place) (w .heads) (w .head) (w .head-size))
 
 -- A sample header
-pub head-handed : (ahead : Ahead) {x : Ahead} {r : Handed} → r ≡ handedWith (standing.SampleHeader (ahead .head)) x → Reads x (aheadOf (handHead (aheadIn ahead) .ahead)) → r ≡ handedOf (handHead (aheadIn ahead))
+pub head-handed : (ahead : Ahead) {x : Ahead} {r : Handed} → r ≡ handedWith (standing.SampleHeader (ahead .head)) x
+    → Reads x (aheadOf (handHead (aheadIn ahead) .ahead)) → r ≡ handedOf (handHead (aheadIn ahead))
 head-handed ahead made reads = handed-by made reads
 
 -- A pattern, by what was read at its place
 abbrev patternNext : Ahead → PatternHead → Ahead
-patternNext ahead at = record { patterns = ahead .patterns - 1; instruments = ahead .instruments; place = at .place + at .size; heads = 0; head = 0; «head_size» = 0 }
+patternNext ahead at =
+    record { patterns = ahead .patterns - 1; instruments = ahead .instruments; place = at .place + at .size; heads = 0; head = 0; «head_size» = 0 }
 
-pub pattern-handed : (s : List ℕ) (ahead : Ahead) {at : PatternHead} {x : Ahead} {r : Handed} → at ≡ patternHead (ahead .place) s → r ≡ handedWith (standing.Pattern (ahead .place)) x → Reads x (patternNext ahead at)
+pub pattern-handed : (s : List ℕ) (ahead : Ahead) {at : PatternHead} {x : Ahead} {r : Handed} → at ≡ patternHead (ahead .place) s
+    → r ≡ handedWith (standing.Pattern (ahead .place)) x → Reads x (patternNext ahead at)
     → r ≡ handedOf (handPattern s (aheadIn ahead))
 pattern-handed s ahead e made reads = handed-by made reads ∙ ap (λ (at : PatternHead). handedWith (standing.Pattern (ahead .place)) (patternNext ahead at)) e
 
-pub pattern-fits : (file : List ℕ) (place : ℕ) → Bytes file → length file ≤ fileMost → place + leastPattern ≤ length file → {x : PatternHead} → x ≡ patternHead place (drop place file) → x .place + x .size < 2 ^ 64
+pub pattern-fits : (file : List ℕ) (place : ℕ) → Bytes file → length file ≤ fileMost → place + leastPattern ≤ length file → {x : PatternHead}
+    → x ≡ patternHead place (drop place file) → x .place + x .size < 2 ^ 64
 pattern-fits file place bytes small there e =
     omega (arith, ap PatternHead.place e, ap PatternHead.size e, long-small 0 (bytes-drop place bytes), word-small 7 (bytes-drop place bytes))
 
@@ -117,40 +123,60 @@ module _ (file : List ℕ) (ahead : Ahead) where
   over-long l = rw (lt-leb (length file) fileMost l) refl
 
   module _ (small : length file ≤ fileMost) where
-    pub over-head : 0 < ahead .heads → {h : Handed} → h ≡ handedOf (cond (leb (ahead .head + ahead .«head_size») (length file)) (handHead (aheadIn ahead)) (endsAt (aheadIn ahead)))
+    pub over-head : 0 < ahead .heads → {h : Handed}
+        → h ≡ handedOf (cond (leb (ahead .head + ahead .«head_size») (length file)) (handHead (aheadIn ahead)) (endsAt (aheadIn ahead)))
         → h ≡ handedOf (handOver file (aheadIn ahead))
     unfolding handOver
     over-head l e = rw (le-leb (length file) fileMost small, lt-ltb 0 (ahead .heads) l) e
 
     module _ (no-heads : ahead .heads ≤ 0) where
       pub over-pattern : 0 < ahead .patterns → {h : Handed}
-          → h ≡ handedOf (cond (leb (ahead .place + leastPattern) (length file)) (handPattern (drop (ahead .place) file) (aheadIn ahead)) (endsAt (aheadIn ahead))) → h ≡ handedOf (handOver file (aheadIn ahead))
+          → h ≡ handedOf (cond (leb (ahead .place + leastPattern) (length file)) (handPattern (drop (ahead .place) file) (aheadIn ahead))
+          (endsAt (aheadIn ahead)))
+          → h ≡ handedOf (handOver file (aheadIn ahead))
       unfolding handOver
       over-pattern l e = rw (le-leb (length file) fileMost small, le-ltb 0 (ahead .heads) no-heads, lt-ltb 0 (ahead .patterns) l) e
 
       module _ (no-patterns : ahead .patterns ≤ 0) where
         pub over-instrument : 0 < ahead .instruments → {h : Handed}
-            → h ≡ handedOf (cond (leb (ahead .place) (length file)) (handInstrument (readInstrument (kindAt file) (ahead .place) (drop (ahead .place) file)) (aheadIn ahead)) (endsAt (aheadIn ahead))) → h ≡ handedOf (handOver file (aheadIn ahead))
+            → h ≡ handedOf (cond (leb (ahead .place) (length file))
+            (handInstrument (readInstrument (kindAt file) (ahead .place) (drop (ahead .place) file)) (aheadIn ahead)) (endsAt (aheadIn ahead)))
+            → h ≡ handedOf (handOver file (aheadIn ahead))
         unfolding handOver
-        over-instrument l e = rw (le-leb (length file) fileMost small, le-ltb 0 (ahead .heads) no-heads, le-ltb 0 (ahead .patterns) no-patterns, lt-ltb 0 (ahead .instruments) l) e
+        over-instrument l e =
+            rw (
+              le-leb (length file) fileMost small,
+              le-ltb 0 (ahead .heads) no-heads,
+              le-ltb 0 (ahead .patterns) no-patterns,
+              lt-ltb 0 (ahead .instruments) l,
+            ) e
 
         pub over-end : ahead .instruments ≤ 0 → handedWith standing.End ahead ≡ handedOf (handOver file (aheadIn ahead))
         unfolding handOver
-        over-end l = rw (le-leb (length file) fileMost small, le-ltb 0 (ahead .heads) no-heads, le-ltb 0 (ahead .patterns) no-patterns, le-ltb 0 (ahead .instruments) l) refl
+        over-end l =
+            rw (
+              le-leb (length file) fileMost small,
+              le-ltb 0 (ahead .heads) no-heads,
+              le-ltb 0 (ahead .patterns) no-patterns,
+              le-ltb 0 (ahead .instruments) l,
+            ) refl
 
 -- The start
 module _ (file : List ℕ) where
   pub start-refused : {f : Fault} → verdict.Refused f ≡ verdictOf (checking file) → reached.Refused f ≡ reachedOf (started file)
   unfolding started
-  start-refused e = verdict-refused file e refl λ r q same. ap reached.Refused (cc) ∙ sym (ap reachedOf (answer-refuses (λ (found : Found) end. aheadAtFirst file) q))
+  start-refused e =
+      verdict-refused file e refl λ r q same. ap reached.Refused (cc) ∙ sym (ap reachedOf (answer-refuses (λ (found : Found) end. aheadAtFirst file) q))
 
   module _ {x : Module} (e : verdict.Accepted x ≡ verdictOf (checking file)) where
     pub start-accepted : accepted (readFile file) ≡ true
     start-accepted = verdict-got file e λ found end q v. rw q refl
 
     pub start-reached : {c : HeaderPart} → c ≡ headerPart file
-        → reached.Within (record { patterns = c .patterns; instruments = c .instruments; place = c .start; heads = 0; head = 0; «head_size» = 0 }) ≡ reachedOf (started file)
+        → reached.Within (record { patterns = c .patterns; instruments = c .instruments; place = c .start; heads = 0; head = 0; «head_size» = 0 })
+        ≡ reachedOf (started file)
     unfolding started
     start-reached same = verdict-got file e λ found end q v.
-        ap (λ (c : HeaderPart). reached.Within (record { patterns = c .patterns; instruments = c .instruments; place = c .start; heads = 0; head = 0; «head_size» = 0 })) same
+        ap (λ (c : HeaderPart).
+        reached.Within (record { patterns = c .patterns; instruments = c .instruments; place = c .start; heads = 0; head = 0; «head_size» = 0 })) same
         ∙ sym (ap reachedOf (answer-gives (λ (found : Found) end. aheadAtFirst file) q))

@@ -15,7 +15,8 @@ use Rattle.xm.specs.Adpcm.{decodingBy, valuesOf}
 use Rattle.xm.specs.Sample.{leastHead, headBytes, lengthOf, kindOf}
 use Rattle.xm.specs.Module.{regionsOf}
 use Rattle.xm.specs.Press.{contentOf}
-use Rattle.xm.specs.Table.{PatternRow, patternRows, sampleRows, Checked, checkIntoNumbers, checkingInto, patternStride, sampleStride, patternNumbers, sampleNumbers, Tables, Room, roomOf, tablesAfter}
+use Rattle.xm.specs.Table.{PatternRow, patternRows, sampleRows, Checked, checkIntoNumbers, checkingInto, patternStride, sampleStride, patternNumbers}
+use Rattle.xm.specs.Table.{sampleNumbers, Tables, Room, roomOf, tablesAfter}
 use Rattle.xm.specs.Asking.{stretchOf, askingFlat, noRow}
 use Rattle.xm.specs.Region.{ofKind}
 use Rattle.xm.specs.Demands.{headsIn, bytesIn, RowUnpacks, RowsUnpack, LoopReads, AcceptedFile, liesAt}
@@ -28,14 +29,17 @@ use Rattle.walk.proofs.Calls.{verdict-numbers}
 use Rattle.tables.proofs.IntoLaws.{into-accepted}
 
 -- The numbers are the paper's
-pub into-numbers : (room : Room) (file : List ℕ) {answer : Verdict} → answer ≡ verdictOf (checkingInto room file) → verdictNumbers answer ≡ checkIntoNumbers room file
+pub into-numbers : (room : Room) (file : List ℕ) {answer : Verdict} → answer ≡ verdictOf (checkingInto room file)
+    → verdictNumbers answer ≡ checkIntoNumbers room file
 into-numbers room file met = ap verdictNumbers met ∙ verdict-numbers (checkingInto room file)
 
 -- No second answer fits, nor other tables
-pub into-once : (room : Room) (file : List ℕ) {answer other : Verdict} → answer ≡ verdictOf (checkingInto room file) → other ≡ verdictOf (checkingInto room file) → answer ≡ other
+pub into-once : (room : Room) (file : List ℕ) {answer other : Verdict} → answer ≡ verdictOf (checkingInto room file)
+    → other ≡ verdictOf (checkingInto room file) → answer ≡ other
 into-once room file met e = met ∙ sym e
 
-pub tables-once : (room : Room) (file : List ℕ) (lent : Tables) {after other : Tables} → after ≡ tablesAfter (checkingInto room file) lent → other ≡ tablesAfter (checkingInto room file) lent → after ≡ other
+pub tables-once : (room : Room) (file : List ℕ) (lent : Tables) {after other : Tables} → after ≡ tablesAfter (checkingInto room file) lent
+    → other ≡ tablesAfter (checkingInto room file) lent → after ≡ other
 tables-once room file lent met e = met ∙ sym e
 
 -- A refused check leaves the tables as they were
@@ -75,7 +79,8 @@ module _ (file : List ℕ) (plain : Bytes file) (lent : Tables) (c : Checked) (a
   filled = tablesAfter (checkingInto (roomOf lent) file) lent
 
   -- each sample is handed back as the content's stretch,
-  pub filled-asked : (number : ℕ) → number < length (sampleRows (c .found)) → askingFlat file (filled .samples) number ≡ gives (liesAt (sampleRows (c .found)) number)
+  pub filled-asked : (number : ℕ) → number < length (sampleRows (c .found))
+      → askingFlat file (filled .samples) number ≡ gives (liesAt (sampleRows (c .found)) number)
   unfolding tablesAfter
   filled-asked number low = rw accepted (found .asked .flat (drop (length (joined sampleNumbers (sampleRows (c .found)))) (lent .samples)) number low)
 
@@ -95,7 +100,8 @@ module _ (file : List ℕ) (plain : Bytes file) (lent : Tables) (c : Checked) (a
   headRead number = headBytes (headSizeAt c number) (drop (sampleNumber number 0) file)
 
   pub filled-decodes : (number : ℕ) → number < length (sampleRows (c .found))
-      → decodingBy (kindOf (headRead number)) (lengthOf (headRead number)) (sampleNumber number 3) (stretchOf file (askingFlat file (filled .samples) number)) (length (valuesAt c number))
+      → decodingBy (kindOf (headRead number)) (lengthOf (headRead number)) (sampleNumber number 3)
+      (stretchOf file (askingFlat file (filled .samples) number)) (length (valuesAt c number))
       ≡ gives (valuesAt c number)
   filled-decodes number low =
       rw (filled-asked number low, sample-number number 0 low (omega arith), sample-number number 3 low (omega arith))
@@ -111,7 +117,12 @@ module _ (file : List ℕ) (plain : Bytes file) (lent : Tables) (c : Checked) (a
       → LoopReads (headAt c number) (sampleNumber number 3) (sampleNumber number 4) (sampleNumber number 5) (sampleNumber number 6)
       × (sampleNumber number 5 + sampleNumber number 6 ≤ length (valuesAt c number))
   filled-loops number low =
-      rw (sample-number number 3 low (omega arith), sample-number number 4 low (omega arith), sample-number number 5 low (omega arith), sample-number number 6 low (omega arith))
+      rw (
+        sample-number number 3 low (omega arith),
+        sample-number number 4 low (omega arith),
+        sample-number number 5 low (omega arith),
+        sample-number number 6 low (omega arith),
+      )
       (loop-at file (c .found) (c .end) found number low)
 
   -- and each pattern's data, by the numbers of its row, unpack to the content's rows and cells.
@@ -135,4 +146,5 @@ module _ (file : List ℕ) (plain : Bytes file) (lent : Tables) (c : Checked) (a
       → unpacking (rowNumber number 2) (c .found .0 .content .channels) (part (rowNumber number 0) (rowNumber number 1) file) room ≡ gives (patternAt number)
   filled-unpacks number room low enough =
       rw (number-in number 0 low (omega arith), number-in number 1 low (omega arith), number-in number 2 low (omega arith))
-      (unpacks-at file (c .found .0 .content .channels) (patternRows (c .found)) _ none (emptyRows (c .found .0 .content .channels) 0) number low (found .rows-unpack) .1 room enough)
+      (unpacks-at file (c .found .0 .content .channels) (patternRows (c .found)) _ none (emptyRows (c .found .0 .content .channels) 0) number low
+      (found .rows-unpack) .1 room enough)

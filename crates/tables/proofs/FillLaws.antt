@@ -17,7 +17,8 @@ use Rattle.xm.specs.Header.{instrumentsAt, patternsAt, headerEnd, kindAt}
 use Rattle.xm.specs.PatternInFile.{PatternFound}
 use Rattle.xm.specs.Instrument.{samplesMost, instrumentTests, InstrumentFound, instrumentFormat}
 use Rattle.xm.specs.Module.{Found, fileMost, readFile}
-use Rattle.xm.specs.Table.{SampleRow, patternRow, patternRows, sampleCount, instrumentRowsFrom, instrumentRows, patternNumbers, instrumentNumbers, sampleNumbers, sampleTunes, sampleStride, tuneStride}
+use Rattle.xm.specs.Table.{SampleRow, patternRow, patternRows, sampleCount, instrumentRowsFrom, instrumentRows, patternNumbers, instrumentNumbers}
+use Rattle.xm.specs.Table.{sampleNumbers, sampleTunes, sampleStride, tuneStride}
 use Rattle.xm.specs.Asking.{noRow}
 use Rattle.xm.proofs.Lay.{Laid, laid-none, laid-more, laid-done}
 use Rattle.tables.specs.Accepted.{ReadsFrom, InstrumentsFrom}
@@ -36,7 +37,8 @@ unfolding lay
 laid-lay {out = out} {to} l w rest′ e {new} {next} n q =
     laid-more l w rest′ new next e q (n ∙ ap (λ (left : List _). take to out ++ (w ++ left)) (sym (drop-drop (length w) to out)))
 
-laid-room : {A : Type 0} {lent goal out : List A} {to : ℕ} {rest : List A} → Laid lent goal out to rest → (w rest′ : List A) → rest ≡ w ++ rest′ → to + length w ≤ length out
+laid-room : {A : Type 0} {lent goal out : List A} {to : ℕ} {rest : List A} → Laid lent goal out to rest → (w rest′ : List A)
+    → rest ≡ w ++ rest′ → to + length w ≤ length out
 laid-room l w rest′ e = omega (arith, l .room, ap length e, length-append w rest′)
 
 -- Patterns
@@ -53,7 +55,8 @@ pub record FillingPatterns (file lent out : List ℕ) (left place to : ℕ) : Ty
   pub laid : Laid lent (patternGoal file) out to (joined patternNumbers (map patternRow parts))
 
 module _ (file lent : List ℕ) where
-  pub patterns-start : accepted (readFile file) ≡ true → length (patternGoal file) ≤ length lent → FillingPatterns file lent lent (patternsAt file) (headerEnd file) 0
+  pub patterns-start : accepted (readFile file) ≡ true → length (patternGoal file) ≤ length lent
+      → FillingPatterns file lent lent (patternsAt file) (headerEnd file) 0
   patterns-start h room = record {
     parts = listIn (λ (found : Found). found .1 .0) (readFile file);
     skipping = skipping-start file h;
@@ -71,12 +74,15 @@ module _ (file lent : List ℕ) where
       row-first : {i : PatternFound} {more : List PatternFound} → w .parts ≡ i ∷ more → patternNumbers (patternRow i) ≡ x .place ∷ x .size ∷ x .rows ∷ []
           → joined patternNumbers (map patternRow (w .parts)) ≡ (x .place ∷ x .size ∷ x .rows ∷ []) ++ joined patternNumbers (map patternRow more)
       row-first {i} {more} ep en =
-          ap (λ (l : List PatternFound). joined patternNumbers (map patternRow l)) ep ∙ ap (λ (l : List ℕ). l ++ joined patternNumbers (map patternRow more)) en
+          ap (λ (l : List PatternFound). joined patternNumbers (map patternRow l)) ep
+          ∙ ap (λ (l : List ℕ). l ++ joined patternNumbers (map patternRow more)) en
 
       pub patterns-room : to + 3 ≤ length out
-      patterns-room = skipping-on file (w .skipping) l e λ i more ep es en fits rest. laid-room (w .laid) (x .place ∷ x .size ∷ x .rows ∷ []) _ (row-first ep en)
+      patterns-room =
+          skipping-on file (w .skipping) l e λ i more ep es en fits rest. laid-room (w .laid) (x .place ∷ x .size ∷ x .rows ∷ []) _ (row-first ep en)
 
-      pub patterns-on : {new : List ℕ} → new ≡ lay out to (x .place ∷ x .size ∷ x .rows ∷ []) → FillingPatterns file lent new (left - 1) (x .place + x .size) (to + 3)
+      pub patterns-on : {new : List ℕ} → new ≡ lay out to (x .place ∷ x .size ∷ x .rows ∷ [])
+          → FillingPatterns file lent new (left - 1) (x .place + x .size) (to + 3)
       patterns-on n = skipping-on file (w .skipping) l e λ i more ep es en fits rest.
           record { parts = more; skipping = rest; laid = laid-lay (w .laid) (x .place ∷ x .size ∷ x .rows ∷ []) _ (row-first ep en) n refl }
 
@@ -111,7 +117,9 @@ module _ (file lent : List ℕ) where
   module _ {out : List ℕ} {left place first to : ℕ} (w : FillingInstruments file lent out left place first to) where
     pub instruments-done : left ≡ 0 → out ≡ inFront (instrumentGoal file) lent
     instruments-done z =
-        laid-done (w .laid) (ap (λ (l : List InstrumentFound). joined instrumentNumbers (instrumentRowsFrom first l)) (reads-none (instrumentFormat (kindAt file)) tt file (rw z at (w .reads)) .0))
+        laid-done (w .laid)
+        (ap (λ (l : List InstrumentFound). joined instrumentNumbers (instrumentRowsFrom first l))
+        (reads-none (instrumentFormat (kindAt file)) tt file (rw z at (w .reads)) .0))
 
     module _ (bytes : Bytes file) (l : 0 < left) where
       pub instruments-tests : AllHold (instrumentTests (kindAt file) place (drop place file))
@@ -125,14 +133,17 @@ module _ (file lent : List ℕ) where
         instruments-stands = instruments-next file (w .small) bytes (w .reads) l λ i n more ei s ep rest. rw e (s .stands)
 
         instrument-first : {i : InstrumentFound} {n : ℕ} {more : List InstrumentFound} → InstrumentStands file place i n → w .parts ≡ i ∷ more
-            → joined instrumentNumbers (instrumentRowsFrom first (w .parts)) ≡ (place ∷ x .samples ∷ first ∷ []) ++ joined instrumentNumbers (instrumentRowsFrom (first + x .samples) more)
+            → joined instrumentNumbers (instrumentRowsFrom first (w .parts))
+            ≡ (place ∷ x .samples ∷ first ∷ []) ++ joined instrumentNumbers (instrumentRowsFrom (first + x .samples) more)
         instrument-first {i} {n} {more} s ep =
             let k : sampleCount i ≡ x .samples = s .counted ∙ sym (ap InstrumentHead.samples e) in
             ap (λ (l : List InstrumentFound). joined instrumentNumbers (instrumentRowsFrom first l)) ep
             ∙ ap₂ (λ (p n : ℕ). (p ∷ n ∷ first ∷ []) ++ joined instrumentNumbers (instrumentRowsFrom (first + n) more)) (s .starts) k
 
         pub instruments-room : to + 3 ≤ length out
-        instruments-room = instruments-next file (w .small) bytes (w .reads) l λ i n more ei s ep rest. laid-room (w .laid) (place ∷ x .samples ∷ first ∷ []) _ (instrument-first s ep)
+        instruments-room =
+            instruments-next file (w .small) bytes (w .reads) l λ i n more ei s ep rest.
+            laid-room (w .laid) (place ∷ x .samples ∷ first ∷ []) _ (instrument-first s ep)
 
         pub instruments-on : {new : List ℕ} {there later : ℕ} → new ≡ lay out to (place ∷ x .samples ∷ first ∷ []) → there ≡ dataEnd file x
             → later ≡ first + x .samples → FillingInstruments file lent new (left - 1) there later (to + 3)
@@ -154,8 +165,10 @@ pub record FillingSamples (rows : List SampleRow) (lent out : List ℕ) (tunesLe
   pub tuned : Laid tunesLent (joined sampleTunes rows) tunes (tuneStride * number) (joined sampleTunes (drop number rows))
 
 module _ (rows : List SampleRow) (lent : List ℕ) (tunesLent : List ℤ) where
-  pub samples-start : length (joined sampleNumbers rows) ≤ length lent → length (joined sampleTunes rows) ≤ length tunesLent → FillingSamples rows lent lent tunesLent tunesLent 0
-  samples-start h t = record { some = omega arith; laid = laid-none lent (joined sampleNumbers rows) h; tuned = laid-none tunesLent (joined sampleTunes rows) t }
+  pub samples-start : length (joined sampleNumbers rows) ≤ length lent → length (joined sampleTunes rows) ≤ length tunesLent
+      → FillingSamples rows lent lent tunesLent tunesLent 0
+  samples-start h t =
+      record { some = omega arith; laid = laid-none lent (joined sampleNumbers rows) h; tuned = laid-none tunesLent (joined sampleTunes rows) t }
 
   module _ {out : List ℕ} {tunes : List ℤ} {number : ℕ} (w : FillingSamples rows lent out tunesLent tunes number) where
     pub samples-done : length rows ≤ number → (out ≡ inFront (joined sampleNumbers rows) lent) × (tunes ≡ inFront (joined sampleTunes rows) tunesLent)
@@ -176,7 +189,8 @@ module _ (rows : List SampleRow) (lent : List ℕ) (tunesLent : List ℤ) where
       pub tunes-room : tuneStride * number + tuneStride ≤ length tunes
       tunes-room = laid-room (w .tuned) (sampleTunes row) _ (ap (joined sampleTunes) first)
 
-      pub samples-on : {new : List ℕ} {newTunes : List ℤ} → new ≡ lay out (sampleStride * number) (sampleNumbers row) → newTunes ≡ lay tunes (tuneStride * number) (sampleTunes row)
+      pub samples-on : {new : List ℕ} {newTunes : List ℤ} → new ≡ lay out (sampleStride * number) (sampleNumbers row)
+          → newTunes ≡ lay tunes (tuneStride * number) (sampleTunes row)
           → FillingSamples rows lent new tunesLent newTunes (number + 1)
       samples-on n t = record {
         some = omega arith;

@@ -50,7 +50,8 @@ record SamplesRead (k H place bytesPlace : ℕ) (s : List ℕ) (heads bytes : Li
   rows : sampleRowsOf heads bytes ≡ rowsFrom k H place bytesPlace s
   long : used ≡ dataBefore k H s
 
-samples-more : (k H place bytesPlace : ℕ) (s t : List ℕ) (h d : Stretch) (hs ds : List Stretch) (a c f : ℕ) → readHead H place s ≡ got h a → readData (h .bytes) bytesPlace t ≡ got d c
+samples-more : (k H place bytesPlace : ℕ) (s t : List ℕ) (h d : Stretch) (hs ds : List Stretch) (a c f : ℕ) → readHead H place s ≡ got h a
+    → readData (h .bytes) bytesPlace t ≡ got d c
     → SamplesRead k H (place + a) (bytesPlace + c) (drop a s) hs ds f → SamplesRead (suc k) H place bytesPlace s (h ∷ hs) (d ∷ ds) (c + f)
 unfolding dataBefore rowsFrom
 samples-more k H place bytesPlace s t h d hs ds a c f eh ed w =
@@ -59,7 +60,8 @@ samples-more k H place bytesPlace s t h d hs ds a c f eh ed w =
     let size : c ≡ dataSize (headBytes H s) = v .1 ∙ ap (λ (x : Stretch). dataSize (x .bytes)) (u .0) in
     let behind : drop a s ≡ drop H s = ap (λ (n : ℕ). drop n s) (u .1) in
     record {
-      rows = cons-path (row-first h d place bytesPlace H (headBytes H s) (u .0) (v .0)) (w .rows ∙ rows-path k H (omega (arith, u .1)) (omega (arith, size)) behind);
+      rows = cons-path (row-first h d place bytesPlace H (headBytes H s) (u .0) (v .0))
+          (w .rows ∙ rows-path k H (omega (arith, u .1)) (omega (arith, size)) behind);
       long = omega (arith, size, w .long, ap (dataBefore k H) behind);
     }
 
@@ -67,11 +69,13 @@ samples-read : (k H place bytesPlace : ℕ) (s t : List ℕ) (heads bytes : List
     → each dataFormat .read (map Stretch.bytes heads) bytesPlace t ≡ got bytes m → SamplesRead k H place bytesPlace s heads bytes m
 unfolding dataBefore rowsFrom
 samples-read zero H place bytesPlace s t heads bytes n m eh ed =
-    got-carry (λ (hs : List Stretch) (u : ℕ). each dataFormat .read (map Stretch.bytes hs) bytesPlace t ≡ got bytes m → SamplesRead 0 H place bytesPlace s hs bytes m) eh
+    got-carry (λ (hs : List Stretch) (u : ℕ). each dataFormat .read (map Stretch.bytes hs) bytesPlace t ≡ got bytes m
+    → SamplesRead 0 H place bytesPlace s hs bytes m) eh
     (λ e. record { rows = refl; long = sym (got-used e) }) ed
 samples-read (suc k) H place bytesPlace s t heads bytes n m eh ed =
     bind-got _ _ eh λ h a ea e₁. bind-got _ _ e₁ λ hs b eb e₂.
-    got-carry (λ (hs : List Stretch) (u : ℕ). each dataFormat .read (map Stretch.bytes hs) bytesPlace t ≡ got bytes m → SamplesRead (suc k) H place bytesPlace s hs bytes m) e₂
+    got-carry (λ (hs : List Stretch) (u : ℕ). each dataFormat .read (map Stretch.bytes hs) bytesPlace t ≡ got bytes m
+    → SamplesRead (suc k) H place bytesPlace s hs bytes m) e₂
     (λ ed. bind-got _ _ ed λ d c ec e₃. bind-got _ _ e₃ λ ds f ef e₄.
     got-carry (λ (ds : List Stretch) (u : ℕ). SamplesRead (suc k) H place bytesPlace s (h ∷ hs) ds u) e₄
     (samples-more k H place bytesPlace s t h d hs ds a c f ea ec (samples-read k H (place + a) (bytesPlace + c) (drop a s) (drop c t) hs ds b f eb ef))) ed
@@ -86,7 +90,8 @@ unfolding dataBefore
 size-before zero s t = refl
 size-before (suc k) s t = refl
 
-size-rows : (k : ℕ) (s : List ℕ) (place bytesPlace : ℕ) (t : List ℕ) → rowsFrom k (headSizeOf k s) place bytesPlace t ≡ rowsFrom k (headerSizeAt s) place bytesPlace t
+size-rows : (k : ℕ) (s : List ℕ) (place bytesPlace : ℕ) (t : List ℕ)
+    → rowsFrom k (headSizeOf k s) place bytesPlace t ≡ rowsFrom k (headerSizeAt s) place bytesPlace t
 unfolding rowsFrom
 size-rows zero s place bytesPlace t = refl
 size-rows (suc k) s place bytesPlace t = refl
@@ -139,7 +144,8 @@ module _ (file : List ℕ) (place : ℕ) where
       size-before k fields (drop (place + I) file) ∙ ap (dataBefore k H) (sym (drop-drop I place file)) in
       omega (arith, w .long, last, size-times k fields)
 
-  pub instrument-stands : length file ≤ fileMost → Bytes file → (i : InstrumentFound) (n : ℕ) → readInstrument kind place from ≡ got i n → InstrumentStands file place i n
+  pub instrument-stands : length file ≤ fileMost → Bytes file → (i : InstrumentFound) (n : ℕ)
+      → readInstrument kind place from ≡ got i n → InstrumentStands file place i n
   unfolding readInstrument
   instrument-stands small bytes i n e =
       passed _ _ e λ h e₁. bind-got _ _ e₁ λ v m ev e₂. bind-got _ _ ev λ hs a eh e₃. bind-got _ _ e₃ λ ds b ed e₄.
@@ -150,7 +156,15 @@ module _ (file : List ℕ) (place : ℕ) where
       let pass = fields-pass kind place from h in
       let some = some-size kind place from h in
       let inside : place + (I + (k * H + b)) ≤ length file =
-      omega (arith, some, used, got-used e₂, got-used e₄, length-drop place file, instrument-keeps kind .keeps place from i n (bytes-drop place bytes) e .inside) in
+      omega (
+        arith,
+        some,
+        used,
+        got-used e₂,
+        got-used e₄,
+        length-drop place file,
+        instrument-keeps kind .keeps place from i n (bytes-drop place bytes) e .inside,
+      ) in
       got-carry (λ (r : InstrumentFound) (t : ℕ). InstrumentStands file place r t) e₂
       (got-carry (λ (v : SamplesFound) (t : ℕ). InstrumentStands file place (found file kind place v) (I + t)) e₄
       (record {
@@ -167,7 +181,8 @@ module _ (file : List ℕ) (place : ℕ) where
 -- The first of the instruments that are left
 pub instruments-next : {R : Type 0} (file : List ℕ) → length file ≤ fileMost → Bytes file → {count place end : ℕ} {parts : List InstrumentFound}
     → ReadsFrom (instrumentFormat (kindAt file)) tt file count place parts end → 0 < count
-    → ((i : InstrumentFound) (n : ℕ) (more : List InstrumentFound) → readInstrument (kindAt file) place (drop place file) ≡ got i n → InstrumentStands file place i n → parts ≡ i ∷ more
+    → ((i : InstrumentFound) (n : ℕ) (more : List InstrumentFound) → readInstrument (kindAt file) place (drop place file) ≡ got i n
+    → InstrumentStands file place i n → parts ≡ i ∷ more
     → ReadsFrom (instrumentFormat (kindAt file)) tt file (count - 1) (place + n) more end → R) → R
 instruments-next file small bytes {place = place} w l k = reads-next (instrumentFormat (kindAt file)) tt file w l λ i n more ei ep rest.
     k i n more ei (instrument-stands file place small bytes i n ei) ep rest

@@ -14,7 +14,9 @@ use Rattle.xm.specs.Header.{Header, channelsAt, patternsAt, instrumentsAt, head
 use Rattle.xm.specs.PatternInFile.{patternFormat}
 use Rattle.xm.specs.Instrument.{InstrumentFound, instrumentFormat}
 use Rattle.xm.specs.Module.{Found, readFile}
-use Rattle.xm.specs.Table.{patternRow, patternRows, sampleCount, instrumentRowsFrom, instrumentRows, sampleRows, Checked, checkedAs, checking, checkingInto, Tables, Room, roomOf, roomTests, tablesAfter, patternStride, instrumentStride, sampleStride, tuneStride, patternNumbers, instrumentNumbers, sampleNumbers, sampleTunes}
+use Rattle.xm.specs.Table.{patternRow, patternRows, sampleCount, instrumentRowsFrom, instrumentRows, sampleRows, Checked, checkedAs, checking, checkingInto}
+use Rattle.xm.specs.Table.{Tables, Room, roomOf, roomTests, tablesAfter, patternStride, instrumentStride, sampleStride, tuneStride, patternNumbers}
+use Rattle.xm.specs.Table.{instrumentNumbers, sampleNumbers, sampleTunes}
 use Rattle.xm.specs.Demands.{RoomFor}
 use Rattle.xm.proofs.Answer.{gives-bound, gives-passed, gives-same}
 use Rattle.xm.proofs.Format.{joined-length, read-length}
@@ -45,19 +47,22 @@ pub record Counted (found : Found) (x : Module) : Type 0 where
   pub instruments : length (instrumentRows found) ≡ x .instruments
   pub samples : length (sampleRows found) ≡ x .samples
 
-pub rows-counted : (file : List ℕ) (found : Found) (end : ℕ) → readFile file ≡ got found end → {x : Module} → verdict.Accepted x ≡ verdictOf (gives (checkedAs found end)) → Counted found x
+pub rows-counted : (file : List ℕ) (found : Found) (end : ℕ) → readFile file ≡ got found end → {x : Module}
+    → verdict.Accepted x ≡ verdictOf (gives (checkedAs found end)) → Counted found x
 rows-counted file found end e {x} v =
     let w = file-reads file found end e in
     let same = same-module v in
     record {
       patterns =
           length-map (found .1 .0) patternRow
-          ∙ read-length patternFormat (replicate (patternsAt file) (channelsAt file)) (headerEnd file) (drop (headerEnd file) file) (found .1 .0) _ (w .patterns .reads)
+          ∙ read-length patternFormat (replicate (patternsAt file) (channelsAt file)) (headerEnd file)
+          (drop (headerEnd file) file) (found .1 .0) _ (w .patterns .reads)
           ∙ length-replicate (patternsAt file) (channelsAt file)
           ∙ sym (ap Module.patterns same ∙ ap Header.patterns (w .header));
       instruments =
           rows-from 0 (found .1 .1)
-          ∙ read-length (instrumentFormat (kindAt file)) (replicate (instrumentsAt file) tt) (w .from) (drop (w .from) file) (found .1 .1) _ (w .instruments .reads)
+          ∙ read-length (instrumentFormat (kindAt file)) (replicate (instrumentsAt file) tt) (w .from) (drop (w .from) file)
+          (found .1 .1) _ (w .instruments .reads)
           ∙ length-replicate (instrumentsAt file) tt
           ∙ sym (ap Module.instruments same ∙ ap Header.instruments (w .header));
       samples = sym (ap Module.samples same);
@@ -65,7 +70,8 @@ rows-counted file found end e {x} v =
 
 -- Accepted, a check into some room says what is found, and that there is room for it
 module _ (room : Room) (file : List ℕ) where
-  pub into-accepted : {R : Type 0} (c : Checked) → checkingInto room file ≡ gives c → (readFile file ≡ got (c .found) (c .end) → RoomFor room (c .found) → R) → R
+  pub into-accepted : {R : Type 0} (c : Checked) → checkingInto room file ≡ gives c
+      → (readFile file ≡ got (c .found) (c .end) → RoomFor room (c .found) → R) → R
   unfolding checkingInto
   into-accepted c e k =
       gives-bound _ (readFile file) _ e λ found end q d.
@@ -96,7 +102,8 @@ module _ (file patterns instruments : List ℕ) (rows : ℕ) where
   beside-refused e told = verdict-refused file e told λ r q same. rw same (told-refused (tables-tell file _ .own-first r q))
 
   module _ {x : Module} (e : verdict.Accepted x ≡ verdictOf (checking file)) where
-    told-found : {R : Type 0} → ((found : Found) (end : ℕ) → readFile file ≡ got found end → verdict.Accepted x ≡ verdictOf (gives (checkedAs found end)) → Counted found x → R) → R
+    told-found : {R : Type 0} → ((found : Found) (end : ℕ) → readFile file ≡ got found end → verdict.Accepted x ≡ verdictOf (gives (checkedAs found end))
+        → Counted found x → R) → R
     told-found k = verdict-got file e λ found end q v. k found end q v (rows-counted file found end q v)
 
     abbrev fits : Bool
@@ -108,7 +115,8 @@ module _ (file patterns instruments : List ℕ) (rows : ℕ) where
         (λ h. not-all-hold _ f (omega (arith, h .0, c .patterns), (omega (arith, h .1, c .instruments), (omega (arith, h .2, c .samples), tt)))))
 
     room-for : fits ≡ true → (found : Found) → Counted found x → RoomFor (roomFor (length patterns) (length instruments) rows) found
-    room-for f found c = let h = all-hold _ f in (omega (arith, h .0, c .patterns), omega (arith, h .1 .0, c .instruments), omega (arith, h .1 .1 .0, c .samples))
+    room-for f found c =
+        let h = all-hold _ f in (omega (arith, h .0, c .patterns), omega (arith, h .1 .0, c .instruments), omega (arith, h .1 .1 .0, c .samples))
 
     -- there is room for every number, so that the tables can be filled
     pub record Roomy : Type 0 where
@@ -156,7 +164,8 @@ module _ (file patterns instruments samples : List ℕ) (tunes : List ℤ) where
   lent-path : {a b c d e f : List ℕ} {g h : List ℤ} → a ≡ b → c ≡ d → e ≡ f → g ≡ h → lent a c e g ≡ lent b d f h
   lent-path p q r s = cc
 
-  module _ {rows : ℕ} {v : Verdict} {patterns′ instruments′ : List ℕ} (n : rows ≡ rowsLent) (told : Told file patterns instruments rows v patterns′ instruments′) where
+  module _ {rows : ℕ} {v : Verdict} {patterns′ instruments′ : List ℕ} (n : rows ≡ rowsLent)
+      (told : Told file patterns instruments rows v patterns′ instruments′) where
     here : Told file patterns instruments rowsLent v patterns′ instruments′
     here = subst (λ (rows : ℕ). Told file patterns instruments rows v patterns′ instruments′) n told
 
@@ -169,11 +178,13 @@ module _ (file patterns instruments samples : List ℕ) (tunes : List ℤ) where
         go (refuses r) q = rw q (lent-path (here .leaves-patterns ∙ rw q refl) (here .leaves-instruments ∙ rw q refl) refl refl)
 
     module _ {x : Module} (is : v ≡ verdict.Accepted x) where
-      accepts : {R : Type 0} → ((c : Checked) → answer ≡ gives c → readFile file ≡ got (c .found) (c .end) → RoomFor (roomOf tables) (c .found) → x .samples ≡ length (sampleRows (c .found)) → R) → R
+      accepts : {R : Type 0} → ((c : Checked) → answer ≡ gives c → readFile file ≡ got (c .found) (c .end) → RoomFor (roomOf tables) (c .found)
+          → x .samples ≡ length (sampleRows (c .found)) → R) → R
       accepts {R} k = go answer refl
         where
           go : (a : Answer Checked) → answer ≡ a → R
-          go (gives c) q = into-accepted (roomOf tables) file c q λ found h. k c q found h (ap Module.samples (same-module (sym is ∙ here .answers ∙ ap verdictOf q)))
+          go (gives c) q =
+              into-accepted (roomOf tables) file c q λ found h. k c q found h (ap Module.samples (same-module (sym is ∙ here .answers ∙ ap verdictOf q)))
           go (refuses r) q = never (sym is ∙ here .answers ∙ ap verdictOf q)
 
       -- there is room for every number of a sample

@@ -15,13 +15,16 @@ use Rattle.steps.specs.Step.{patternHead}
 -- Its numbers in the table, its bytes, and that they lie in the file
 pub record PatternStands (file : List ℕ) (place : ℕ) (i : PatternFound) (n : ℕ) : Type 0 where
   pub starts : i .place ≡ place
-  pub numbers : patternNumbers (patternRow i) ≡ patternHead place (drop place file) .place ∷ patternHead place (drop place file) .size ∷ patternHead place (drop place file) .rows ∷ []
+  pub numbers : patternNumbers (patternRow i)
+      ≡ patternHead place (drop place file) .place ∷ patternHead place (drop place file) .size
+      ∷ patternHead place (drop place file) .rows ∷ []
   pub used : n ≡ headSizeAt (drop place file) + dataSizeAt (drop place file)
   pub least : leastPattern ≤ headSizeAt (drop place file)
   pub inside : place + n ≤ length file
   pub few : patternHead place (drop place file) .rows ≤ rowsMost
 
-pub pattern-stands : (channels : ℕ) (file : List ℕ) (place : ℕ) (i : PatternFound) (n : ℕ) → readPattern channels place (drop place file) ≡ got i n → PatternStands file place i n
+pub pattern-stands : (channels : ℕ) (file : List ℕ) (place : ℕ) (i : PatternFound) (n : ℕ) → readPattern channels place (drop place file) ≡ got i n
+    → PatternStands file place i n
 unfolding readPattern
 pattern-stands channels file place i n e =
     passed _ _ e λ h e. bind-got _ _ e λ p m ep e.

@@ -37,7 +37,8 @@ pub record PatternFits (file : List ℕ) (x : PatternHead) : Type 0 where
   pub few : x .rows ≤ rowsMost
 
 module _ (file : List ℕ) where
-  pub skipping-start : accepted (readFile file) ≡ true → Skipping file (patternsAt file) (headerEnd file) (listIn (λ (found : Found). found .1 .0) (readFile file))
+  pub skipping-start : accepted (readFile file) ≡ true
+      → Skipping file (patternsAt file) (headerEnd file) (listIn (λ (found : Found). found .1 .0) (readFile file))
   skipping-start h = accepted-got (readFile file) h λ found end e.
       let w = file-reads file found end e in
       record { small = w .small; from = w .from; reads = rw e (w .patterns); after = record { end = w .end; reads = rw e (w .instruments) } }
@@ -54,7 +55,8 @@ module _ (file : List ℕ) where
           let p = pattern-stands (channelsAt file) file place i n ei in omega (arith, p .used, p .least, p .inside)
 
       pub skipping-on : {R : Type 0} {x : PatternHead} → x ≡ patternHead place (drop place file)
-          → ((i : PatternFound) (more : List PatternFound) → parts ≡ i ∷ more → i .place ≡ place → patternNumbers (patternRow i) ≡ x .place ∷ x .size ∷ x .rows ∷ [] → PatternFits file x
+          → ((i : PatternFound) (more : List PatternFound) → parts ≡ i ∷ more → i .place ≡ place
+          → patternNumbers (patternRow i) ≡ x .place ∷ x .size ∷ x .rows ∷ [] → PatternFits file x
           → Skipping file (left - 1) (x .place + x .size) more → R) → R
       skipping-on {x = x} e k = reads-next patternFormat (channelsAt file) file (w .reads) l λ i n more ei ep rest.
           let p = pattern-stands (channelsAt file) file place i n ei in

@@ -28,7 +28,8 @@ module _ {H I A : Type 0} (F : Format H I A) (h : H) (file : List ℕ) where
   reads-none w = (sym (got-value (w .reads)), omega (arith, got-used (w .reads), w .ends))
 
   pub reads-next : {R : Type 0} {count place end : ℕ} {parts : List I} → ReadsFrom F h file count place parts end → 0 < count
-      → ((i : I) (n : ℕ) (more : List I) → F .read h place (drop place file) ≡ got i n → parts ≡ i ∷ more → ReadsFrom F h file (count - 1) (place + n) more end → R)
+      → ((i : I) (n : ℕ) (more : List I) → F .read h place (drop place file) ≡ got i n → parts ≡ i ∷ more
+      → ReadsFrom F h file (count - 1) (place + n) more end → R)
       → R
   reads-next {count = zero} w l k = absurd (omega arith)
   reads-next {count = suc count} {place} w l k =
@@ -55,7 +56,8 @@ file-reads file found end e =
     bind-got _ _ ev λ ps k ep e₃. bind-got _ _ e₃ λ is j ei e₄.
     passed _ _ eh λ tests eh.
     let patterns = got-carry (λ (i : HeaderFound) (n : ℕ). each patternFormat .read (patternsFor (i .content)) (0 + n) (drop n file) ≡ got ps k) (sym eh) ep in
-    let instruments = got-carry (λ (i : HeaderFound) (n : ℕ). each (instrumentFormat (kindAt file)) .read (instrumentsFor (i .content) []) (0 + n + k) (drop k (drop n file)) ≡ got is j) (sym eh) ei in
+    let instruments = got-carry (λ (i : HeaderFound) (n : ℕ).
+    each (instrumentFormat (kindAt file)) .read (instrumentsFor (i .content) []) (0 + n + k) (drop k (drop n file)) ≡ got is j) (sym eh) ei in
     got-carry (λ (r : Found) (u : ℕ). FileReads file r) e₂
     (got-carry (λ (r : List PatternFound × List InstrumentFound) (u : ℕ). FileReads file (i, r)) e₄
     (record {

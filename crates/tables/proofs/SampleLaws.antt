@@ -29,8 +29,29 @@ use Rattle.tables.proofs.PlaceLoops.{left-start, left-room, left-on, le
 
 -- The row by its fields
 pub row-path : {a a′ b b′ l l′ w w′ k k′ s s′ o o′ : ℕ} {f f′ n n′ : ℤ} → a ≡ a′ → b ≡ b′ → l ≡ l′ → w ≡ w′ → k ≡ k′ → s ≡ s′ → o ≡ o′ → f ≡ f′ → n ≡ n′
-    → _≡_ {A = SampleRow} (record { «header_place» = a; «data_place» = b; length = l; width = w; «loop_kind» = k; «loop_start» = s; «loop_length» = o; finetune = f; «relative_note» = n })
-    (record { «header_place» = a′; «data_place» = b′; length = l′; width = w′; «loop_kind» = k′; «loop_start» = s′; «loop_length» = o′; finetune = f′; «relative_note» = n′ })
+    → _≡_ {A = SampleRow}
+    (record {
+      «header_place» = a;
+      «data_place» = b;
+      length = l;
+      width = w;
+      «loop_kind» = k;
+      «loop_start» = s;
+      «loop_length» = o;
+      finetune = f;
+      «relative_note» = n;
+    })
+    (record {
+      «header_place» = a′;
+      «data_place» = b′;
+      length = l′;
+      width = w′;
+      «loop_kind» = k′;
+      «loop_start» = s′;
+      «loop_length» = o′;
+      finetune = f′;
+      «relative_note» = n′;
+    })
 row-path p q r t u v x y z = cc
 
 -- A count in samples is no more than that in bytes
@@ -47,7 +68,8 @@ pub record SampleFits (file : List ℕ) (head size place : ℕ) : Type 0 where
 
 -- The row of the next sample that is left of an instrument
 rows-step : (left size head bytesPlace : ℕ) (s : List ℕ) → 0 < left
-    → rowsFrom left size head bytesPlace s ≡ sampleRowAt head bytesPlace (headBytes size s) ∷ rowsFrom (left - 1) size (head + size) (bytesPlace + dataSize (headBytes size s)) (drop size s)
+    → rowsFrom left size head bytesPlace s
+    ≡ sampleRowAt head bytesPlace (headBytes size s) ∷ rowsFrom (left - 1) size (head + size) (bytesPlace + dataSize (headBytes size s)) (drop size s)
 unfolding rowsFrom
 rows-step zero size head bytesPlace s l = absurd (omega arith)
 rows-step (suc left) size head bytesPlace s l = let z : suc left - 1 ≡ left = omega arith in rw z
@@ -58,10 +80,13 @@ rows-in (got found end) = refl
 rows-in (refused r) = refl
 
 -- Where a row is to come, there is an instrument
-some-instrument : {R : Type 0} (file : List ℕ) → length file ≤ fileMost → Bytes file → {count place end : ℕ} {parts : List InstrumentFound} → ReadsFrom (instrumentFormat (kindAt file)) tt file count place parts end
+some-instrument : {R : Type 0} (file : List ℕ) → length file ≤ fileMost → Bytes file → {count place end : ℕ} {parts : List InstrumentFound}
+    → ReadsFrom (instrumentFormat (kindAt file)) tt file count place parts end
     → 0 < length (joined sampleRowsIn parts)
-    → ((i : InstrumentFound) (n : ℕ) (more : List InstrumentFound) → InstrumentStands file place i n → parts ≡ i ∷ more → ReadsFrom (instrumentFormat (kindAt file)) tt file (count - 1) (place + n) more end → R) → R
-some-instrument file small bytes {count = zero} r l k = absurd (omega (arith, l, ap (λ (l : List InstrumentFound). length (joined sampleRowsIn l)) (reads-none (instrumentFormat (kindAt file)) tt file r .0)))
+    → ((i : InstrumentFound) (n : ℕ) (more : List InstrumentFound) → InstrumentStands file place i n → parts ≡ i ∷ more
+    → ReadsFrom (instrumentFormat (kindAt file)) tt file (count - 1) (place + n) more end → R) → R
+some-instrument file small bytes {count = zero} r l k =
+    absurd (omega (arith, l, ap (λ (l : List InstrumentFound). length (joined sampleRowsIn l)) (reads-none (instrumentFormat (kindAt file)) tt file r .0)))
 some-instrument file small bytes {count = suc count} r l k = instruments-next file small bytes r (omega arith) λ i n more ei s ep rest. k i n more s ep rest
 
 module _ (file : List ℕ) (number : ℕ) (some : number < length (listIn sampleRows (readFile file))) (bytes : Bytes file) where
@@ -75,7 +100,8 @@ module _ (file : List ℕ) (number : ℕ) (some : number < length (listIn sample
   unfolding dataBefore rowsFrom
   seeks-start {place} from =
       let inside : place ≤ length file =
-      some-instrument file seeks-small bytes (from .reads) (omega (arith, some, ap length (rows-in (readFile file)))) λ i n more s ep rest. omega (arith, s .inside) in
+      some-instrument file seeks-small bytes (from .reads) (omega (arith, some, ap length (rows-in (readFile file)))) λ i n more s ep rest.
+      omega (arith, s .inside) in
       record {
         behind = place;
         here = record { same = omega arith; fits = omega arith; inside = inside };
@@ -93,7 +119,8 @@ module _ (file : List ℕ) (number : ℕ) (some : number < length (listIn sample
       found = sampleRowAt head place (headBytes size (drop head file))
 
       both : getD all number noRow ∷ drop (suc number) all
-          ≡ found ∷ rowsFrom (left - 1) size (head + size) (place + dataSize (headBytes size (drop head file))) (drop size (drop head file)) ++ joined sampleRowsIn (w .parts)
+          ≡ found ∷ rowsFrom (left - 1) size (head + size) (place + dataSize (headBytes size (drop head file))) (drop size (drop head file))
+          ++ joined sampleRowsIn (w .parts)
       both =
           sym (drop-cons all number noRow some)
           ∙ w .same
@@ -132,10 +159,12 @@ module _ (file : List ℕ) (number : ℕ) (some : number < length (listIn sample
       rest-same = rw z at (w .same)
 
       seeks-next : {R : Type 0}
-          → ((i : InstrumentFound) (n : ℕ) (more : List InstrumentFound) → InstrumentStands file place i n → w .parts ≡ i ∷ more → ReadsFrom (instrumentFormat (kindAt file)) tt file (w .count - 1) (place + n) more (w .end) → R)
+          → ((i : InstrumentFound) (n : ℕ) (more : List InstrumentFound) → InstrumentStands file place i n → w .parts ≡ i ∷ more
+          → ReadsFrom (instrumentFormat (kindAt file)) tt file (w .count - 1) (place + n) more (w .end) → R)
           → R
       seeks-next k =
-          let reads : ReadsFrom (instrumentFormat (kindAt file)) tt file (w .count) place (w .parts) (w .end) = rw (left-end file size (w .behind) (w .here) z) (w .reads) in
+          let reads : ReadsFrom (instrumentFormat (kindAt file)) tt file (w .count) place (w .parts) (w .end) =
+          rw (left-end file size (w .behind) (w .here) z) (w .reads) in
           some-instrument file seeks-small bytes reads (omega (arith, some, ap length rest-same, length-drop number all)) k
 
       pub seeks-tests : AllHold (instrumentTests (kindAt file) place (drop place file))

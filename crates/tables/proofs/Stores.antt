@@ -35,7 +35,8 @@ module _ {A : Type 0} (out : List A) (to : ℕ) where
   stored-three a b c h = rw (one, two) (sets-eq (a ∷ b ∷ c ∷ []) out to h ∙ append-assoc (take to out) (a ∷ b ∷ c ∷ []) (drop (to + 3) out))
 
   pub stored-seven : (a b c d e f g : A) → to + 7 ≤ length out
-      → set (set (set (set (set (set (set out to a) (to + 1) b) (to + 2) c) (to + 3) d) (to + 4) e) (to + 5) f) (to + 6) g ≡ lay out to (a ∷ b ∷ c ∷ d ∷ e ∷ f ∷ g ∷ [])
+      → set (set (set (set (set (set (set out to a) (to + 1) b) (to + 2) c) (to + 3) d) (to + 4) e) (to + 5) f) (to + 6) g
+      ≡ lay out to (a ∷ b ∷ c ∷ d ∷ e ∷ f ∷ g ∷ [])
   unfolding lay
   stored-seven a b c d e f g h =
       let all = a ∷ b ∷ c ∷ d ∷ e ∷ f ∷ g ∷ [] in

@@ -5,7 +5,8 @@ use lib.IntN.{ℤ}
 use Rattle.xm.specs.Got.{Test, present, _at_}
 use Rattle.xm.specs.Format.{joined}
 use Rattle.xm.specs.Answer.{Answer, after}
-use Rattle.xm.specs.Table.{Checked, patternRows, instrumentRows, patternNumbers, instrumentNumbers, patternStride, instrumentStride, Tables, Room, roomOf, checkingInto, tablesAfter}
+use Rattle.xm.specs.Table.{Checked, patternRows, instrumentRows, patternNumbers, instrumentNumbers, patternStride, instrumentStride, Tables, Room, roomOf}
+use Rattle.xm.specs.Table.{checkingInto, tablesAfter}
 use Rattle.walk.specs.declared.Module.{Module}
 
 abbrev pub lent : (patterns instruments samples : List ℕ) (tunes : List ℤ) → Tables
@@ -24,7 +25,8 @@ roomFor patterns instruments rows = record { patterns = patterns / patternStride
 
 abbrev pub roomTestsOf : Room → Module → List Test
 roomTestsOf room x =
-    present (x .patterns) (room .patterns) (14 at 0) ∷ present (x .instruments) (room .instruments) (14 at 0) ∷ present (x .samples) (room .samples) (14 at 0) ∷ []
+    present (x .patterns) (room .patterns) (14 at 0) ∷ present (x .instruments) (room .instruments) (14 at 0)
+    ∷ present (x .samples) (room .samples) (14 at 0) ∷ []
 
 -- The pattern table and the instrument table afterwards, each by itself.
 abbrev pub patternsAfter : Answer Checked → (lent : List ℕ) → List ℕ

@@ -9,10 +9,15 @@ sub-if3 : tie.Need-sub-if3
 sub-if3 c = search needs
 
 returns : tie.Need-returns
-returns c = let a = c .before .before .before .before .before .before .args in ask-lies (a .file .now) (a .rows) (a .number) (a .row) (omega (arith, c .before .before .before .before .before .if1 .taken), omega (arith, c .before .before .before .if2 .taken, c .if3 .taken))
+returns c =
+    let s = c .before .before .before .before .before in
+    let a = s .before .args in
+    ask-lies (a .file .now) (a .rows) (a .number) (a .row) (omega (arith, s .if1 .taken), omega (arith, c .before .before .before .if2 .taken, c .if3 .taken))
 
 returns-2 : tie.Need-returns-2
-returns-2 c = let a = c .before .before .before .before .before .before .args in ask-refused (a .file .now) (a .rows) (a .number) (a .row) (λ h. omega (arith, h .1, c .before .before .before .if2 .taken, c .if3 .left))
+returns-2 c =
+    let a = c .before .before .before .before .before .before .args in
+    ask-refused (a .file .now) (a .rows) (a .number) (a .row) (λ h. omega (arith, h .1, c .before .before .before .if2 .taken, c .if3 .left))
 
 returns-3 : tie.Need-returns-3
 returns-3 c = let a = c .before .before .before .args in ask-refused (a .file .now) (a .rows) (a .number) (a .row) (λ h. omega (arith, h .1, c .if2 .left))

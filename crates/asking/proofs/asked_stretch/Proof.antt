@@ -28,7 +28,9 @@ returns : tie.Need-returns
 returns c = search needs
 
 add-end : tie.Need-add-end
-add-end c = omega (arith, lies-inside (c .before .before .before .before .args .file .now) (c .before .before .before .before .pre) (c .before .before .asked .given .1))
+add-end c =
+    let s = c .before .before .before .before in
+    omega (arith, lies-inside (s .args .file .now) (s .pre) (c .before .before .asked .given .1))
 
 sub-result-2 : tie.Need-sub-result-2
 sub-result-2 c = search needs
@@ -37,7 +39,9 @@ part-result-start-2 : tie.Need-part-result-start-2
 part-result-start-2 c = search needs
 
 part-result-end-2 : tie.Need-part-result-end-2
-part-result-end-2 c = omega (arith, lies-inside (c .before .before .before .before .args .file .now) (c .before .before .before .before .pre) (c .before .before .asked .given .1))
+part-result-end-2 c =
+    let s = c .before .before .before .before in
+    omega (arith, lies-inside (s .args .file .now) (s .pre) (c .before .before .asked .given .1))
 
 returns-2 : tie.Need-returns-2
 returns-2 c =

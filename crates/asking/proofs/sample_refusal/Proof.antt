@@ -13,7 +13,9 @@ asked-refusal-requires : tie.Need-asked-refusal-requires
 asked-refusal-requires c κs = search needs
 
 returns : tie.Need-returns
-returns c = let a = c .before .before .before .before .args in c .asked-refusal .ensures ∙ refusal-asked (askingFlat (a .file .now) (a .samples .now) (a .number)) (c .before .ask-sample .ensures)
+returns c =
+    let a = c .before .before .before .before .args in
+    c .asked-refusal .ensures ∙ refusal-asked (askingFlat (a .file .now) (a .samples .now) (a .number)) (c .before .ask-sample .ensures)
 
 pub sample-refusal-spec : {M : Type 1} → statement M
 sample-refusal-spec = tie.close (tie.spec ask-sample-requires asked-refusal-requires returns)

@@ -13,7 +13,9 @@ asked-stretch-requires : tie.Need-asked-stretch-requires
 asked-stretch-requires c κs = let a = c .before .before .before .args in asked-inside (a .file .now) _ (a .number) _ (c .ask-sample .ensures)
 
 returns : tie.Need-returns
-returns c = let a = c .before .before .before .before .args in c .asked-stretch .ensures ∙ stretch-asked (a .file .now) (askingFlat (a .file .now) (a .samples .now) (a .number)) (c .before .ask-sample .ensures)
+returns c =
+    let a = c .before .before .before .before .args in
+    c .asked-stretch .ensures ∙ stretch-asked (a .file .now) (askingFlat (a .file .now) (a .samples .now) (a .number)) (c .before .ask-sample .ensures)
 
 pub sample-stretch-spec : {M : Type 1} → statement M
 sample-stretch-spec = tie.close (tie.spec ask-sample-requires asked-stretch-requires returns)

@@ -42,7 +42,9 @@ put-decimal-slice-write-line : (t : ℕ) → put-decimal-lts.Need-slice-write-li
   put-decimal-below t,
   put-decimal.Post,
 ) (put-decimal-at t) put-decimal.Post
-put-decimal-slice-write-line t c = omega (arith, ap length (decimal-short (c .before .before .before .args .number) (omega arith)), c .before .before .before .pre .1)
+put-decimal-slice-write-line t c =
+    let s = c .before .before .before in
+    omega (arith, ap length (decimal-short (s .args .number) (omega arith)), s .pre .1)
 
 -- src/lib.rt:31:16
 put-decimal-add-result : (t : ℕ) → put-decimal-lts.Need-add-result (
@@ -51,7 +53,9 @@ put-decimal-add-result : (t : ℕ) → put-decimal-lts.Need-add-result (
   put-decimal-below t,
   put-decimal.Post,
 ) (put-decimal-at t) put-decimal.Post
-put-decimal-add-result t c = omega (arith, ap length (decimal-short (c .before .before .before .args .number) (omega arith)), c .before .before .before .pre .1)
+put-decimal-add-result t c =
+    let s = c .before .before .before in
+    omega (arith, ap length (decimal-short (s .args .number) (omega arith)), s .pre .1)
 
 -- src/lib.rt:31:9
 put-decimal-same-length : (t : ℕ) → put-decimal-lts.Need-same-length (
@@ -69,7 +73,9 @@ put-decimal-returns : (t : ℕ) → put-decimal-lts.Need-returns (
   put-decimal-below t,
   put-decimal.Post,
 ) (put-decimal-at t) put-decimal.Post
-put-decimal-returns t c = put-short (c .before .before .before .args .line .now) (c .before .before .before .args .at) (c .before .before .before .args .number) (c .last-digit .result) (c .last-digit .ensures) (omega arith) (c .before .before .before .pre .1)
+put-decimal-returns t c =
+    let s = c .before .before .before in
+    put-short (s .args .line .now) (s .args .at) (s .args .number) (c .last-digit .result) (c .last-digit .ensures) (omega arith) (s .pre .1)
 
 -- src/lib.rt:33:9
 put-decimal-put-decimal-requires : (t : ℕ) → put-decimal-lts.Need-put-decimal-requires (
@@ -132,7 +138,8 @@ put-decimal-returns-2 : (t : ℕ) → put-decimal-lts.Need-returns-2 (
 ) (put-decimal-at t) put-decimal.Post
 put-decimal-returns-2 t c =
     let s = c .before .before .before .before .before .before .before in
-    put-long (s .args .line .now) (s .args .at) (s .args .number) (c .last-digit2 .result) (c .last-digit2 .ensures) (omega arith) (s .pre .1) (c .before .before .before .put-decimal .ensures)
+    put-long (s .args .line .now) (s .args .at) (s .args .number) (c .last-digit2 .result) (c .last-digit2 .ensures) (omega arith) (s .pre .1)
+    (c .before .before .before .put-decimal .ensures)
 
 pub +put-decimal-spec : {M : Type 1} → statement M
 +put-decimal-spec = close μ-put-decimal λ t. put-decimal-lts.spec (

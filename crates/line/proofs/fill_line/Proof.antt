@@ -38,16 +38,19 @@ put-refused-requires-2 c κs = search needs
 
 returns-2 : tie.Need-returns-2
 returns-2 c =
-    let a = c .before .before .before .before .before .before .before .before .before .before .args in
-    let plain : Bytes (a .input .now) = record { below = λ i. omega (arith, c .before .before .before .before .before .before .before .before .before .shared-slice-known .given i) } in
-    filled-as _ (a .line .now)
-    (counted-line (a .input .now) (omega arith) (c .before .before .before .before .before .before .before .check .ensures) plain (c .before .before .before .before .before .verdict .given .1) (c .before .before .count-from .ensures))
-    (c .put-counted .ensures)
+    let s = c .before .before .before .before .before in
+    let a = s .before .before .before .before .before .args in
+    let plain : Bytes (a .input .now) = record { below = λ i. omega (arith, s .before .before .before .before .shared-slice-known .given i) } in
+    let line = counted-line (a .input .now) (omega arith) (s .before .before .check .ensures) plain (s .verdict .given .1)
+    (c .before .before .count-from .ensures) in
+    filled-as _ (a .line .now) line (c .put-counted .ensures)
 
 returns-3 : tie.Need-returns-3
 returns-3 c =
-    let a = c .before .before .before .before .before .before .before .before .args in
-    filled-as _ (a .line .now) (refused-line (a .input .now) (omega arith) (c .before .before .before .before .before .check .ensures) (c .before .before .before .verdict2 .given .1)) (c .put-refused2 .ensures)
+    let s = c .before .before .before in
+    let a = s .before .before .before .before .before .args in
+    let line = refused-line (a .input .now) (omega arith) (s .before .before .check .ensures) (s .verdict2 .given .1) in
+    filled-as _ (a .line .now) line (c .put-refused2 .ensures)
 
 pub fill-line-spec : {M : Type 1} → statement M
 fill-line-spec =

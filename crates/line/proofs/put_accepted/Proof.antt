@@ -19,7 +19,11 @@ slice-aggregate-put-line-2 c = search needs
 put-line-requires : tie.Need-put-line-requires
 put-line-requires c κs =
     let a = c .before .before .before .args in
-    omega (arith, numbered-few (a .end ∷ a .channels ∷ a .counts .patterns ∷ a .counts .instruments ∷ a .counts .samples ∷ []) (omega arith, (omega arith, (omega arith, (omega arith, (omega arith, tt))))))
+    omega (
+      arith,
+      numbered-few (a .end ∷ a .channels ∷ a .counts .patterns ∷ a .counts .instruments ∷ a .counts .samples ∷ [])
+          (omega arith, (omega arith, (omega arith, (omega arith, (omega arith, tt))))),
+    )
 
 pub put-accepted-spec : {M : Type 1} → statement M
 put-accepted-spec =

@@ -23,8 +23,9 @@ same-length c = search needs
 
 returns : tie.Need-returns
 returns c =
-    let s = c .before .before .before .before .before .before .before .before .before .before .before in
-    put-whole (s .args .line .now) (s .args .word .now) (s .args .numbers .now) (s .pre) refl (c .before .before .before .before .before .before .copy .ensures)
+    let copied = c .before .before .before .before .before .before in
+    let s = copied .before .before .before .before .before in
+    put-whole (s .args .line .now) (s .args .word .now) (s .args .numbers .now) (s .pre) refl (copied .copy .ensures)
     (c .before .before .put-numbers .ensures)
 
 pub put-line-spec : {M : Type 1} → statement M

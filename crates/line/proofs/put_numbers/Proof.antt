@@ -30,14 +30,21 @@ shared-slice-read-put-decimal c = search needs
 
 add-put-decimal : tie.Need-add-put-decimal Inv-loop μ-loop
 add-put-decimal c =
+    let l = c .before .before .before .loop in
     let s = c .before .before .before .before .before .before in
-    omega (arith, written-next (s .args .line .now) (s .args .at) (s .args .numbers .now) (c .before .before .before .loop .inv .1) (s .pre) (omega arith), written-kept (s .args .line .now) (s .args .at) (s .args .numbers .now) (c .before .before .before .loop .inv .1) (s .pre))
+    let a = s .args in
+    omega (
+      arith,
+      written-next (a .line .now) (a .at) (a .numbers .now) (l .inv .1) (s .pre) (omega arith),
+      written-kept (a .line .now) (a .at) (a .numbers .now) (l .inv .1) (s .pre),
+    )
 
 put-decimal-requires : tie.Need-put-decimal-requires Inv-loop μ-loop
 put-decimal-requires c κs =
-    let s = c .before .before .before .before .before .before in
     let l = c .before .before .before .loop in
-    omega (arith, written-next (s .args .line .now) (s .args .at) (s .args .numbers .now) (c .before .before .before .loop .inv .1) (s .pre) (omega arith), length-set (l .line) (l .next) 32)
+    let s = c .before .before .before .before .before .before in
+    let a = s .args in
+    omega (arith, written-next (a .line .now) (a .at) (a .numbers .now) (l .inv .1) (s .pre) (omega arith), length-set (l .line) (l .next) 32)
 
 add-done : tie.Need-add-done Inv-loop μ-loop
 add-done c = omega arith
@@ -47,8 +54,10 @@ loop-less c = omega arith
 
 loop-again : tie.Need-loop-again Inv-loop μ-loop
 loop-again c =
+    let l = c .before .before .before .before .before .before .loop in
     let s = c .before .before .before .before .before .before .before .before .before in
-    (omega arith, written-more (s .args .line .now) (s .args .at) (s .args .numbers .now) (c .before .before .before .before .before .before .loop .inv .1) (s .pre) (omega arith) (c .before .before .put-decimal .ensures))
+    let a = s .args in
+    (omega arith, written-more (a .line .now) (a .at) (a .numbers .now) (l .inv .1) (s .pre) (omega arith) (c .before .before .put-decimal .ensures))
 
 slice-write-line-2 : tie.Need-slice-write-line-2 Inv-loop μ-loop
 slice-write-line-2 c =
@@ -57,13 +66,21 @@ slice-write-line-2 c =
 
 add-result : tie.Need-add-result Inv-loop μ-loop
 add-result c =
+    let l = c .before .loop in
     let s = c .before .before .before .before in
-    omega (arith, written-last (s .args .line .now) (s .args .at) (s .args .numbers .now) (c .before .loop .inv .1) (s .pre) (omega arith), written-kept (s .args .line .now) (s .args .at) (s .args .numbers .now) (c .before .loop .inv .1) (s .pre))
+    let a = s .args in
+    omega (
+      arith,
+      written-last (a .line .now) (a .at) (a .numbers .now) (l .inv .1) (s .pre) (omega arith),
+      written-kept (a .line .now) (a .at) (a .numbers .now) (l .inv .1) (s .pre),
+    )
 
 same-length : tie.Need-same-length Inv-loop μ-loop
 same-length c =
+    let l = c .before .loop in
     let s = c .before .before .before .before in
-    length-set (c .before .loop .line) (c .before .loop .next) 10 ∙ written-kept (s .args .line .now) (s .args .at) (s .args .numbers .now) (c .before .loop .inv .1) (s .pre)
+    let a = s .args in
+    length-set (l .line) (l .next) 10 ∙ written-kept (a .line .now) (a .at) (a .numbers .now) (l .inv .1) (s .pre)
 
 returns : tie.Need-returns Inv-loop μ-loop
 returns c =

@@ -1,5 +1,8 @@
--- `reader::next` meets its contract: a walk of its MIR, by hand. The reader is lent by `&mut`: the borrow is opened, which gives the struct's cell and what it owns; the struct is Copy, so a copy of what its slice owns goes to `hand` beside the inner lifetime's token;
--- of the record that `hand` returns, how far has been read is stored in the cell and what stands is returned; and the borrow is closed at the struct with the new place.
+-- `reader::next` meets its contract: a walk of its MIR, by hand.
+-- The reader is lent by `&mut`: the borrow is opened, which gives the struct's cell and what it owns;
+-- the struct is Copy, so a copy of what its slice owns goes to `hand` beside the inner lifetime's token;
+-- of the record that `hand` returns, how far has been read is stored in the cell and what stands is returned;
+-- and the borrow is closed at the struct with the new place.
 -- All that the proof knows of `hand` is that it meets its contract.
 -- Assumes nothing.
 use mathlib.Core.Path.{_≡_, refl, ap}
@@ -19,9 +22,11 @@ use ghost.Atoms.{Atoms, sem}
 use contract.Lifetimes.{AllOutlive}
 use contract.Monad.{Fun, fact}
 use contract.Running.{givenOf, tables, tablesOf}
-use types.Kit.{Given, ‵, raw, _⊛_, given, ⋆, some, later, _$_, _∵_, !, qed, by, move, keep, drop, use1, use2, split, join, learn, pick, rewrite, fsplit, fsplit3, fjoin, fjoin3, feqI, suffices, frame, await, done}
+use types.Kit.{Given, ‵, raw, _⊛_, given, ⋆, some, later, _$_, _∵_, !, qed, by, move, keep, drop, use1, use2, split, join, learn, pick, rewrite, fsplit}
+use types.Kit.{fsplit3, fjoin, fjoin3, feqI, suffices, frame, await, done}
 use types.Part.{whole, sub, look-in, store-in}
-use types.Run.{look, init, forget, stop, hop, fld, from, load, of-opd, and-then, no-more, assigns, land, returns, enter, alloc1, alloc0, params1, pass1, pass0, free1, free0}
+use types.Run.{look, init, forget, stop, hop, fld, from, load, of-opd, and-then, no-more, assigns, land, returns, enter, alloc1, alloc0, params1, pass1, pass0}
+use types.Run.{free1, free0}
 use types.SemTy.{Body}
 use sound.WpLaws.{FmC, fmOf, WpFn-mono}
 use denote.RattleType.{RattleType, owns}
@@ -78,7 +83,8 @@ stayed = (stay-ref (0 ∷ []) tt behind, tt)
 abbrev Hand : {M : Type 1} (𝓤 : URA M) (H : Heap 𝓤) (A : Atoms 𝓤) (mem : Memory → SProp 𝓤) (run : Routine → Fun 𝓤) → Contract 𝓤
 Hand 𝓤 H A mem run = tripleOf 𝓤 H A hand.signature (hand.spec 𝓤 H A mem run)
 
-module _ {M : Type 1} (𝓤 : URA M) (H : Heap 𝓤) (A : Atoms 𝓤) (W : Given 𝓤 H A) (at-mem : Memory → SProp 𝓤) (run : Routine → Fun 𝓤) (κ κ′ : Lft) (q q′ : Share) (bounds : AllOutlive 2 (f.signature .outlives) (κ, (κ′, tt))) (b o : ℕ) (γ : GName) (h : Reader) where
+module _ {M : Type 1} (𝓤 : URA M) (H : Heap 𝓤) (A : Atoms 𝓤) (W : Given 𝓤 H A) (at-mem : Memory → SProp 𝓤) (run : Routine → Fun 𝓤) (κ κ′ : Lft) (q q′ : Share)
+    (bounds : AllOutlive 2 (f.signature .outlives) (κ, (κ′, tt))) (b o : ℕ) (γ : GName) (h : Reader) where
   -- 'a, and the struct's type at it
   abbrev α : NamedLft
   α = record { mir = named 1; lft = κ′ }
@@ -132,12 +138,17 @@ module _ {M : Type 1} (𝓤 : URA M) (H : Heap 𝓤) (A : Atoms 𝓤) (W : Given
 
   -- what file owns is kept, and place's facts are made anew
   again : (m : Reached) → Is P.the-row m (reached-val m ∷ []) → ent 𝓤 (sem 𝓤 H A (Own (h .place))) (sem 𝓤 H A (Own m))
-  again m fits = qed W (‵ (Own (h .place)) ∷ []) ∵ owned ! P.the-row (Is P.the-row) (EL.makes P.the-type P′.the-plain 𝓤 H A) m _ fits $ move ! (1 ∷ 0 ∷ []) $ by ! (own-put 𝓤 H A W D L 1 vd m (low h))
+  again m fits =
+      qed W (‵ (Own (h .place)) ∷ []) ∵ owned ! P.the-row (Is P.the-row) (EL.makes P.the-type P′.the-plain 𝓤 H A) m _ fits $ move ! (1 ∷ 0 ∷ []) $
+      by ! (own-put 𝓤 H A W D L 1 vd m (low h))
 
-  exits : (st : Handed) → st ≡ got → Is F.the-row (st .standing) (standing-val (st .standing) ∷ []) → ent 𝓤 (⋆ 𝓤 H A (‵ (fobs γ (B .coded .code (h′ (st .reached)))) ∷ ‵ (fbor κ (Body (mem B) b o γ)) ∷ ‵ (flft κ q) ∷ (‵ (flft κ′ q′) ⊛ ‵ ftrue) ∷ [])) (Post (standing-val (st .standing)))
+  exits : (st : Handed) → st ≡ got → Is F.the-row (st .standing) (standing-val (st .standing) ∷ [])
+      → ent 𝓤 (⋆ 𝓤 H A (‵ (fobs γ (B .coded .code (h′ (st .reached)))) ∷ ‵ (fbor κ (Body (mem B) b o γ)) ∷ ‵ (flft κ q) ∷ (‵ (flft κ′ q′) ⊛ ‵ ftrue) ∷ []))
+      (Post (standing-val (st .standing)))
   exits st e g =
       qed W (‵ (fobs γ (B .coded .code (h′ (st .reached)))) ∷ ‵ (fbor κ (Body (mem B) b o γ)) ∷ ‵ (flft κ q) ∷ (‵ (flft κ′ q′) ⊛ ‵ ftrue) ∷ []) ∵
-      suffices ! _ (ends-at 𝓤 H A f.ended stayed (f.clauses 𝓤 H A at-mem run) W (((κ, (κ′, tt)), (q, (q′, tt)), bounds, x, vals), tt) (standing-val (st .standing)) (st .standing) (h′ (st .reached), tt) (tt, tt)) $
+      suffices ! _ (ends-at 𝓤 H A f.ended stayed (f.clauses 𝓤 H A at-mem run) W (((κ, (κ′, tt)), (q, (q′, tt)), bounds, x, vals), tt)
+      (standing-val (st .standing)) (st .standing) (h′ (st .reached), tt) (tt, tt)) $
       says ! (ap (λ (s : Handed). s .standing) e, refl, ap (λ (s : Handed). s .reached) e) $
       move ! (2 ∷ 3 ∷ []) $ join ! $ frame ! $ feqI ! (List Val) (vptr b o ∷ []) (vptr b o ∷ []) refl $ fjoin3 ! $ nothing ! $ move ! (1 ∷ 0 ∷ []) $ fjoin ! $
       owned ! F.the-row (Is F.the-row) (EL.makes F.the-type F′.the-plain 𝓤 H A) (st .standing) _ g $ move ! (1 ∷ 0 ∷ []) $ done !
@@ -150,7 +161,8 @@ module _ {M : Type 1} (𝓤 : URA M) (H : Heap 𝓤) (A : Atoms 𝓤) (W : Given
   to = (((κ′, tt), (q′, tt), tt, (h .file, (h .place, tt)), passed), tt)
 
   asked : ent 𝓤 (onEntry 𝓤 H A hand.signature (κ′, tt) (q′, tt) (h .file, (h .place, tt)) passed) (Hand 𝓤 H A at-mem run .pre to)
-  asked = qed W ((‵ (flft κ′ q′) ⊛ ‵ ftrue) ∷ ‵ (owns (ShrSlice (named 0) κ′ u8 ∷ P.the-row ∷ []) (h .file, (h .place, tt)) passed) ∷ []) ∵ join ! $ frame ! $ done !
+  asked = qed W ((‵ (flft κ′ q′) ⊛ ‵ ftrue) ∷ ‵ (owns (ShrSlice (named 0) κ′ u8 ∷ P.the-row ∷ []) (h .file, (h .place, tt)) passed) ∷ []) ∵
+      join ! $ frame ! $ done !
 
   said : (r : Handed) → ent 𝓤 (ensured 𝓤 H A hand.ended (hand.clauses 𝓤 H A at-mem run) (κ′, tt) (h .file, (h .place, tt)) tt r) (fact 𝓤 (r ≡ got))
   said r = exE 𝓤 _ (λ ws. snd∗ 𝓤 (sem 𝓤 H A (lasts hand.ended (κ′, tt) (h .file, (h .place, tt)) ws)) (fact 𝓤 (r ≡ got)))
@@ -173,41 +185,59 @@ module _ {M : Type 1} (𝓤 : URA M) (H : Heap 𝓤) (A : Atoms 𝓤) (W : Given
         use1 W (‵ (fat fullShare (T′.mir erased) b o (low h))) (W .laws .raw-at fullShare (T′.mir erased) b o (low h)) $
         move ! (1 ∷ []) $ peeks ! B (Is B) (shows 𝓤 H A B) h (low h ∷ []) (λ g. move ! (1 ∷ 0 ∷ []) $
         -- [the struct's cell; what a Reader owns; the open borrow; obs; auth; 'a's token; true; _4; …; _3; …; _2; …; _1; …; room for _0; …]
-        assigns ! (of-opd ! (load ! (from ! (hop ! (look ! 13 refl) (fld ! refl (stop !)))) (look-in ! 0 (sub ! 0 refl (whole !))))) (from ! (stop !)) (init ! 9 refl (tt, (tt, (record { fits = room g .0 }, tt)))) $
-        assigns ! (of-opd ! (load ! (from ! (hop ! (look ! 13 refl) (fld ! refl (stop !)))) (look-in ! 0 (sub ! 1 refl (whole !))))) (from ! (stop !)) (init ! 7 refl (EL.lawful P.the-type P′.the-laws 𝓤 H A W tt .typed (h .place) _ (place-is g) .0)) $
+        assigns ! (of-opd ! (load ! (from ! (hop ! (look ! 13 refl) (fld ! refl (stop !)))) (look-in ! 0 (sub ! 0 refl (whole !))))) (from ! (stop !))
+        (init ! 9 refl (tt, (tt, (record { fits = room g .0 }, tt)))) $
+        assigns ! (of-opd ! (load ! (from ! (hop ! (look ! 13 refl) (fld ! refl (stop !)))) (look-in ! 0 (sub ! 1 refl (whole !))))) (from ! (stop !))
+        (init ! 7 refl (EL.lawful P.the-type P′.the-laws 𝓤 H A W tt .typed (h .place) _ (place-is g) .0)) $
         -- the struct is Copy: one copy of what it owns is kept, and of the other what file owns goes to the callee
         move ! (1 ∷ []) $ use1 W (‵ (Own (h .place)) ⊛ ‵ (Own (h .place))) (LL.copy D (T′.the-copy α) 𝓤 H A W .twice h (low h ∷ [])) $ split ! $
-        use1 W (given (low h ∷ [] ≡ low h ∷ []) (‵ (all-own (D .parts) L vd))) (own-open 𝓤 H A W D L vd (low h)) $ learn ! (λ _. use1 W (‵ (ownAt (D .parts) L 0 (h .file)) ⊛ ‵ (rest (D .parts) L 0 vd)) (own-out 𝓤 H A W (D .parts) L 0 vd) $ split ! $
-        move ! (1 ∷ []) $ drop ! $ nothing ! $ owned ! P.the-row (Is P.the-row) (EL.makes P.the-type P′.the-plain 𝓤 H A) (h .place) _ (place-is g) $ fjoin ! $ move ! (1 ∷ 0 ∷ []) $ fjoin ! $
+        use1 W (given (low h ∷ [] ≡ low h ∷ []) (‵ (all-own (D .parts) L vd))) (own-open 𝓤 H A W D L vd (low h)) $ learn ! (λ _.
+        use1 W (‵ (ownAt (D .parts) L 0 (h .file)) ⊛ ‵ (rest (D .parts) L 0 vd)) (own-out 𝓤 H A W (D .parts) L 0 vd) $ split ! $
+        move ! (1 ∷ []) $ drop ! $ nothing ! $ owned ! P.the-row (Is P.the-row) (EL.makes P.the-type P′.the-plain 𝓤 H A) (h .place) _ (place-is g) $
+        fjoin ! $ move ! (1 ∷ 0 ∷ []) $ fjoin ! $
         move ! (6 ∷ 0 ∷ []) $ use2 W (raw (Hand 𝓤 H A at-mem run .pre to)) asked $
         -- [what `hand` asks; what the reader owns; its cell; the open borrow; obs; auth; true; _4; …; _3; …; _2; …; _1; …; room for _0; …]
-        calls-at ! fm (Hand 𝓤 H A at-mem run) known to (and-then ! (load ! (from ! (stop !)) (look ! 9 refl)) (and-then ! (load ! (from ! (stop !)) (look ! 7 refl)) (no-more !))) (λ u.
-        use1 W (later (some (λ (r : Handed). ((‵ (flft κ′ q′) ⊛ ‵ ftrue) ⊛ ‵ (S.the-row .own r (u ∷ []))) ⊛ raw (ensured 𝓤 H A hand.ended (hand.clauses 𝓤 H A at-mem run) (κ′, tt) (h .file, (h .place, tt)) tt r)))) (id⊢ 𝓤 _) $ await ! tt $ pick ! (λ r.
+        calls-at ! fm (Hand 𝓤 H A at-mem run) known to
+        (and-then ! (load ! (from ! (stop !)) (look ! 9 refl)) (and-then ! (load ! (from ! (stop !)) (look ! 7 refl)) (no-more !))) (λ u.
+        use1 W (later (some (λ (r : Handed). ((‵ (flft κ′ q′) ⊛ ‵ ftrue) ⊛ ‵ (S.the-row .own r (u ∷ [])))
+        ⊛ raw (ensured 𝓤 H A hand.ended (hand.clauses 𝓤 H A at-mem run) (κ′, tt) (h .file, (h .place, tt)) tt r)))) (id⊢ 𝓤 _) $ await ! tt $ pick ! (λ r.
         split ! $ move ! (1 ∷ []) $ use1 W (raw (fact 𝓤 (r ≡ got))) (said r) $ heard ! (r ≡ got) (λ e. split ! $ move ! (1 ∷ []) $
         peeks ! S.the-row (Is S.the-row) (shows 𝓤 H A S.the-row) r (u ∷ []) (λ is.
         -- [what is handed over owns; 'a's token; what the reader owns; its cell; the open borrow; obs; auth; true; _4; …; _3; …; _2; …; _1; …; room for _0; …]
         land ! (from ! (stop !)) (init ! 12 refl (LL.lawful S.the-type S′.the-laws 𝓤 H A W .typed r _ is .0)) $
         rewrite ! 12 (λ (w : Val). ‵ (fat fullShare S′.mir l₂ 0 w)) (ap only (LL.tells S.the-type S′.the-laws r _ is)) refl $
-        assigns ! (of-opd ! (load ! (from ! (fld ! refl (stop !))) (look-in ! 12 (sub ! 1 refl (whole !))))) (from ! (hop ! (look ! 14 refl) (fld ! refl (stop !)))) (store-in ! 3 (sub ! 1 refl (whole !)) (EL.lawful P.the-type P′.the-laws 𝓤 H A W tt .typed (r .reached) _ (LL.owed S.the-type S′.the-laws r _ is .1 .0) .0)) $
-        assigns ! (of-opd ! (load ! (from ! (fld ! refl (stop !))) (look-in ! 12 (sub ! 0 refl (whole !))))) (from ! (stop !)) (init ! 16 refl (EL.lawful F.the-type F′.the-laws 𝓤 H A W tt .typed (r .standing) _ (LL.owed S.the-type S′.the-laws r _ is .0) .0)) $
+        assigns ! (of-opd ! (load ! (from ! (fld ! refl (stop !))) (look-in ! 12 (sub ! 1 refl (whole !)))))
+        (from ! (hop ! (look ! 14 refl) (fld ! refl (stop !))))
+        (store-in ! 3 (sub ! 1 refl (whole !))
+        (EL.lawful P.the-type P′.the-laws 𝓤 H A W tt .typed (r .reached) _ (LL.owed S.the-type S′.the-laws r _ is .1 .0) .0)) $
+        assigns ! (of-opd ! (load ! (from ! (fld ! refl (stop !))) (look-in ! 12 (sub ! 0 refl (whole !))))) (from ! (stop !))
+        (init ! 16 refl (EL.lawful F.the-type F′.the-laws 𝓤 H A W tt .typed (r .standing) _ (LL.owed S.the-type S′.the-laws r _ is .0) .0)) $
         -- the reader is put together again, with the new place, and the borrow is closed
         move ! (2 ∷ []) $ use1 W (‵ (Own (r .reached))) (again (r .reached) (LL.owed S.the-type S′.the-laws r _ is .1 .0)) $
-        move ! (3 ∷ []) $ use1 W (‵ (cellAt fullShare (B .mir) (low (h′ (r .reached)) ∷ []) b o)) (W .laws .at-raw fullShare (T′.mir erased) b o (low (h′ (r .reached)))) $
+        move ! (3 ∷ []) $ use1 W (‵ (cellAt fullShare (B .mir) (low (h′ (r .reached)) ∷ []) b o))
+        (W .laws .at-raw fullShare (T′.mir erased) b o (low (h′ (r .reached)))) $
         move ! (0 ∷ 1 ∷ 4 ∷ 5 ∷ 6 ∷ []) $ closes ! tt B (h′ (r .reached)) (low (h′ (r .reached)) ∷ []) b o $
         -- [obs; the borrow; the token; what is handed over owns; 'a's token; true; _4; …; _3; …; _2; …; _1; …; _0; …]
         returns ! (look ! 14 refl) $ forget ! 6 refl $ forget ! 8 refl $ forget ! 10 refl $ forget ! 12 refl $ forget ! 14 refl $
-        move ! (14 ∷ 15 ∷ []) $ free1 ! $ move ! (12 ∷ 13 ∷ []) $ free1 ! $ move ! (10 ∷ 11 ∷ []) $ free1 ! $ move ! (8 ∷ 9 ∷ []) $ free1 ! $ move ! (6 ∷ 7 ∷ []) $ free1 ! $ free0 ! $
+        move ! (14 ∷ 15 ∷ []) $ free1 ! $ move ! (12 ∷ 13 ∷ []) $ free1 ! $ move ! (10 ∷ 11 ∷ []) $ free1 ! $ move ! (8 ∷ 9 ∷ []) $ free1 ! $
+        move ! (6 ∷ 7 ∷ []) $ free1 ! $ free0 ! $
         keep ! (0 ∷ 1 ∷ 2 ∷ 4 ∷ []) $ by ! (exits r e (LL.owed S.the-type S′.the-laws r _ is .0))))))))))))))
 
 module _ {M : Type 1} (𝓤 : URA M) (H : Heap 𝓤) (A : Atoms 𝓤) (W : Given 𝓤 H A) (mem : Memory → SProp 𝓤) (run : Routine → Fun 𝓤) where
-  next-walks : (C : Calls 𝓤 H) (Λ : Loops 𝓤 H) → FmC 𝓤 H (W .laws) C → Triple 𝓤 (C #structures·hand) (Hand 𝓤 H A mem run) → Walks 𝓤 H A f.ended stayed (WpFn 𝓤 H C Λ code.function) (f.clauses 𝓤 H A mem run)
-  next-walks C Λ fm known = walked 𝓤 H A f.ended stayed (f.clauses 𝓤 H A mem run) (WpFn 𝓤 H C Λ code.function) (λ κs. (ptr-vals, tt)) (λ κs. (mut-tells (named 0) (κs .0) (T.the-row (namedLft 2 1 tt κs)), tt))
-      (λ κs qs bounds a _ are. via 𝓤 _ (fst∗ 𝓤 _ (emp 𝓤)) (walk 𝓤 H A W mem run (κs .0) (κs .1 .0) (qs .0) (qs .1 .0) bounds (a .0 .ptr .0) (a .0 .ptr .1) (a .0 .name) (a .0 .now) C Λ fm known))
+  next-walks : (C : Calls 𝓤 H) (Λ : Loops 𝓤 H) → FmC 𝓤 H (W .laws) C → Triple 𝓤 (C #structures·hand) (Hand 𝓤 H A mem run)
+      → Walks 𝓤 H A f.ended stayed (WpFn 𝓤 H C Λ code.function) (f.clauses 𝓤 H A mem run)
+  next-walks C Λ fm known =
+      walked 𝓤 H A f.ended stayed (f.clauses 𝓤 H A mem run) (WpFn 𝓤 H C Λ code.function) (λ κs. (ptr-vals, tt))
+      (λ κs. (mut-tells (named 0) (κs .0) (T.the-row (namedLft 2 1 tt κs)), tt))
+      (λ κs qs bounds a _ are. via 𝓤 _ (fst∗ 𝓤 _ (emp 𝓤))
+      (walk 𝓤 H A W mem run (κs .0) (κs .1 .0) (qs .0) (qs .1 .0) bounds (a .0 .ptr .0) (a .0 .ptr .1) (a .0 .name) (a .0 .now) C Λ fm known))
 
 next-meets : {M : Type 1} (𝓤 : URA M) (H : Heap 𝓤) (A : Atoms 𝓤) (W : Given 𝓤 H A) (mem : Memory → SProp 𝓤) (run : Routine → Fun 𝓤) (𝓣 : Tables 𝓤 H)
     → Triple 𝓤 (𝓣 .C #structures·hand) (Hand 𝓤 H A mem run)
     → Meets 𝓤 H A f.signature (WpFn 𝓤 H (𝓣 .C) (𝓣 .Λ) code.function) (f.spec 𝓤 H A mem run)
-next-meets 𝓤 H A W mem run 𝓣 known = walk-meets 𝓤 H A f.ended stayed W (goes-ref 𝓤 H A W 2 0 tt behind, tt) (f.clauses 𝓤 H A mem run) (WpFn 𝓤 H (𝓣 .C) (𝓣 .Λ) code.function) (WpFn-mono 𝓤 H (W .laws) 𝓣 code.function)
+next-meets 𝓤 H A W mem run 𝓣 known =
+    walk-meets 𝓤 H A f.ended stayed W (goes-ref 𝓤 H A W 2 0 tt behind, tt) (f.clauses 𝓤 H A mem run) (WpFn 𝓤 H (𝓣 .C) (𝓣 .Λ) code.function)
+    (WpFn-mono 𝓤 H (W .laws) 𝓣 code.function)
     (next-walks 𝓤 H A W mem run (𝓣 .C) (𝓣 .Λ) (fmOf 𝓤 H (W .laws) 𝓣) known)
 
 pub next-spec : {M : Type 1} → stated.statement M

@@ -19,7 +19,8 @@ with-ahead-requires-2 c κs = search needs
 
 returns-2 : tie.Need-returns-2
 returns-2 c =
-    let a = c .before .before .before .args in c .with-ahead2 .ensures ∙ not-there (a .ahead .head + a .ahead .«head_size») (a .length) _ (a .ahead) (omega arith)
+    let a = c .before .before .before .args in
+    c .with-ahead2 .ensures ∙ not-there (a .ahead .head + a .ahead .«head_size») (a .length) _ (a .ahead) (omega arith)
 
 sub-t8 : tie.Need-sub-t8
 sub-t8 c = search needs
@@ -32,7 +33,8 @@ with-ahead-requires-3 c κs = search needs
 
 returns-3 : tie.Need-returns-3
 returns-3 c =
-    let a = c .before .before .before .before .args in is-there (a .ahead .head + a .ahead .«head_size») (a .length) _ (a .ahead) (omega arith) (head-handed (a .ahead) (c .with-ahead3 .ensures) (omega arith))
+    let a = c .before .before .before .before .args in
+    is-there (a .ahead .head + a .ahead .«head_size») (a .length) _ (a .ahead) (omega arith) (head-handed (a .ahead) (c .with-ahead3 .ensures) (omega arith))
 
 pub hand-head-spec : {M : Type 1} → statement M
 hand-head-spec =

@@ -30,20 +30,30 @@ with-ahead-requires-2 c κs = search needs
 
 returns-2 : tie.Need-returns-2
 returns-2 c =
-    let a = c .before .before .before .before .before .before .args in is-there (a .ahead .place) (length (a .file .now)) _ (a .ahead) (omega arith) (c .with-ahead2 .ensures ∙ instrument-not (a .ahead) (readInstrument (kindAt (a .file .now)) (a .ahead .place) (drop (a .ahead .place) (a .file .now))) (c .before .before .before .read-instrument .ensures) (c .before .enum-told .given .1))
+    let a = c .before .before .before .before .before .before .args in
+    let read = readInstrument (kindAt (a .file .now)) (a .ahead .place) (drop (a .ahead .place) (a .file .now)) in
+    is-there (a .ahead .place) (length (a .file .now)) _ (a .ahead) (omega arith)
+    (c .with-ahead2 .ensures ∙ instrument-not (a .ahead) read (c .before .before .before .read-instrument .ensures) (c .before .enum-told .given .1))
 
 sub-t7 : tie.Need-sub-t7
 sub-t7 c = search needs
 
 add-t11 : tie.Need-add-t11
-add-t11 c = omega (arith, c .before .before .before .before .before .before .before .before .pre .0, part-fits _ _ (sym (c .before .before .before .step .given .1) ∙ c .before .before .before .before .before .read-instrument .ensures))
+add-t11 c =
+    let s = c .before .before .before in
+    omega (arith, s .before .before .before .before .before .pre .0, part-fits _ _ (sym (s .step .given .1) ∙ s .before .before .read-instrument .ensures))
 
 with-ahead-requires-3 : tie.Need-with-ahead-requires-3
 with-ahead-requires-3 c κs = search needs
 
 returns-3 : tie.Need-returns-3
 returns-3 c =
-    let a = c .before .before .before .before .before .before .before .before .before .args in is-there (a .ahead .place) (length (a .file .now)) _ (a .ahead) (omega arith) (instrument-handed (a .ahead) (readInstrument (kindAt (a .file .now)) (a .ahead .place) (drop (a .ahead .place) (a .file .now))) (sym (c .before .before .before .before .step .given .1) ∙ c .before .before .before .before .before .before .read-instrument .ensures) (c .with-ahead3 .ensures) (omega arith))
+    let s = c .before .before .before .before in
+    let a = s .before .before .before .before .before .args in
+    let read = readInstrument (kindAt (a .file .now)) (a .ahead .place) (drop (a .ahead .place) (a .file .now)) in
+    let same = sym (s .step .given .1) ∙ s .before .before .read-instrument .ensures in
+    is-there (a .ahead .place) (length (a .file .now)) _ (a .ahead) (omega arith)
+    (instrument-handed (a .ahead) read same (c .with-ahead3 .ensures) (omega arith))
 
 pub hand-instrument-spec : {M : Type 1} → statement M
 hand-instrument-spec =

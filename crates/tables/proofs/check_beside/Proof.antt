@@ -26,20 +26,28 @@ has-room-requires c κs = search needs
 
 returns-2 : tie.Need-returns-2
 returns-2 c =
-    let a = c .before .before .before .before .before .before .before .before .before .args in
-    let w = beside-cramped (a .file .now) (a .patterns .now) (a .instruments .now) (a .rows) (sym (c .before .before .before .verdict .given .1) ∙ c .before .before .before .before .before .check .ensures) (sym (c .before .has-room .ensures) ∙ not-true _ (c .if1 .taken)) in
+    let told = c .before .before .before in
+    let a = told .before .before .before .before .before .before .args in
+    let w = beside-cramped (a .file .now) (a .patterns .now) (a .instruments .now) (a .rows)
+    (sym (told .verdict .given .1) ∙ told .before .before .check .ensures) (sym (c .before .has-room .ensures) ∙ not-true _ (c .if1 .taken)) in
     (w .answers, (w .leaves-patterns, w .leaves-instruments))
 
 fill-patterns-requires : tie.Need-fill-patterns-requires
 fill-patterns-requires c κs =
-    let a = c .before .before .before .before .before .before .before .before .before .before .args in
-    let w = beside-roomy (a .file .now) (a .patterns .now) (a .instruments .now) (a .rows) (sym (c .before .before .before .before .verdict .given .1) ∙ c .before .before .before .before .before .before .check .ensures) (sym (c .before .before .has-room .ensures) ∙ not-false _ (c .before .if1 .left)) in
+    let s = c .before in
+    let told = s .before .before .before in
+    let a = told .before .before .before .before .before .before .args in
+    let w = beside-roomy (a .file .now) (a .patterns .now) (a .instruments .now) (a .rows)
+    (sym (told .verdict .given .1) ∙ told .before .before .check .ensures) (sym (s .before .has-room .ensures) ∙ not-false _ (s .if1 .left)) in
     (w .accepts, w .for-patterns)
 
 fill-instruments-requires : tie.Need-fill-instruments-requires
 fill-instruments-requires c κs =
-    let a = c .before .before .before .before .before .before .before .before .before .before .before .before .before .before .args in
-    let w = beside-roomy (a .file .now) (a .patterns .now) (a .instruments .now) (a .rows) (sym (c .before .before .before .before .before .before .before .before .verdict .given .1) ∙ c .before .before .before .before .before .before .before .before .before .before .check .ensures) (sym (c .before .before .before .before .before .before .has-room .ensures) ∙ not-false _ (c .before .before .before .before .before .if1 .left)) in
+    let s = c .before .before .before .before .before in
+    let told = s .before .before .before in
+    let a = told .before .before .before .before .before .before .args in
+    let w = beside-roomy (a .file .now) (a .patterns .now) (a .instruments .now) (a .rows)
+    (sym (told .verdict .given .1) ∙ told .before .before .check .ensures) (sym (s .before .has-room .ensures) ∙ not-false _ (s .if1 .left)) in
     (w .accepts, w .for-instruments)
 
 same-length : tie.Need-same-length
@@ -50,11 +58,12 @@ same-length-2 c = search needs
 
 returns-3 : tie.Need-returns-3
 returns-3 c =
-    let a = c .before .before .before .before .before .before .before .before .before .before .before .before .before .before .before .before .before .args in
-    let w =
-    beside-filled (a .file .now) (a .patterns .now) (a .instruments .now) (a .rows) (sym (c .before .before .before .before .before .before .before .before .before .before .before .verdict .given .1) ∙ c .before .before .before .before .before .before .before .before .before .before .before .before .before .check .ensures) (sym (c .before .before .before .before .before .before .before .before .before .has-room .ensures) ∙ not-false _ (c .before .before .before .before .before .before .before .before .if1 .left))
-    (c .before .before .before .before .before .before .fill-patterns .ensures) (c .before .before .fill-instruments .ensures)
-    in
+    let s = c .before .before .before .before .before .before .before .before in
+    let told = s .before .before .before in
+    let a = told .before .before .before .before .before .before .args in
+    let w = beside-filled (a .file .now) (a .patterns .now) (a .instruments .now) (a .rows)
+    (sym (told .verdict .given .1) ∙ told .before .before .check .ensures) (sym (s .before .has-room .ensures) ∙ not-false _ (s .if1 .left))
+    (c .before .before .before .before .before .before .fill-patterns .ensures) (c .before .before .fill-instruments .ensures) in
     (w .answers, (w .leaves-patterns, w .leaves-instruments))
 
 pub check-beside-spec : {M : Type 1} → statement M

@@ -24,14 +24,22 @@ same-length-2 c = search needs
 
 returns : tie.Need-returns
 returns c =
-    let a = c .before .before .before .before .before .before .before .before .before .before .before .before .before .before .args in
-    let w = into-refused (a .file .now) (a .patterns .now) (a .instruments .now) (a .samples .now) (a .tunes .now) (c .before .before .before .before .before .before .before .before .before .rows-lent .ensures) (let w = c .before .before .before .before .before .before .check-beside .ensures in record { answers = w .0; leaves-patterns = w .1 .0; leaves-instruments = w .1 .1 }) (c .enum-told .given .1) in
+    let s = c .before .before .before .before .before .before in
+    let a = s .before .before .before .before .before .before .before .before .args in
+    let told = s .check-beside .ensures in
+    let w = into-refused (a .file .now) (a .patterns .now) (a .instruments .now) (a .samples .now) (a .tunes .now)
+    (s .before .before .before .rows-lent .ensures) (record { answers = told .0; leaves-patterns = told .1 .0; leaves-instruments = told .1 .1 })
+    (c .enum-told .given .1) in
     (w .answers, w .leaves)
 
 fill-samples-requires : tie.Need-fill-samples-requires
 fill-samples-requires c κs =
-    let a = c .before .before .before .before .before .before .before .before .before .before .before .before .before .before .before .before .before .args in
-    let w = into-roomy (a .file .now) (a .patterns .now) (a .instruments .now) (a .samples .now) (a .tunes .now) (c .before .before .before .before .before .before .before .before .before .before .before .before .rows-lent .ensures) (let w = c .before .before .before .before .before .before .before .before .before .check-beside .ensures in record { answers = w .0; leaves-patterns = w .1 .0; leaves-instruments = w .1 .1 }) (c .before .before .before .verdict .given .1) in
+    let s = c .before .before .before .before .before .before .before .before .before in
+    let a = s .before .before .before .before .before .before .before .before .args in
+    let told = s .check-beside .ensures in
+    let w = into-roomy (a .file .now) (a .patterns .now) (a .instruments .now) (a .samples .now) (a .tunes .now)
+    (s .before .before .before .rows-lent .ensures) (record { answers = told .0; leaves-patterns = told .1 .0; leaves-instruments = told .1 .1 })
+    (c .before .before .before .verdict .given .1) in
     (w .count, (w .for-samples, w .for-tunes))
 
 same-length-3 : tie.Need-same-length-3
@@ -48,9 +56,13 @@ same-length-6 c = search needs
 
 returns-2 : tie.Need-returns-2
 returns-2 c =
-    let a = c .before .before .before .before .before .before .before .before .before .before .before .before .before .before .before .before .before .before .before .before .before .args in
+    let s = c .before .before .before .before .before .before .before .before .before .before .before .before .before in
+    let a = s .before .before .before .before .before .before .before .before .args in
+    let told = s .check-beside .ensures in
     let samples = c .before .before .before .fill-samples .ensures in
-    let w = into-filled (a .file .now) (a .patterns .now) (a .instruments .now) (a .samples .now) (a .tunes .now) (c .before .before .before .before .before .before .before .before .before .before .before .before .before .before .before .before .rows-lent .ensures) (let w = c .before .before .before .before .before .before .before .before .before .before .before .before .before .check-beside .ensures in record { answers = w .0; leaves-patterns = w .1 .0; leaves-instruments = w .1 .1 }) (c .before .before .before .before .before .before .before .verdict .given .1) (samples .0) (samples .1) in
+    let w = into-filled (a .file .now) (a .patterns .now) (a .instruments .now) (a .samples .now) (a .tunes .now)
+    (s .before .before .before .rows-lent .ensures) (record { answers = told .0; leaves-patterns = told .1 .0; leaves-instruments = told .1 .1 })
+    (c .before .before .before .before .before .before .before .verdict .given .1) (samples .0) (samples .1) in
     (w .answers, w .leaves)
 
 pub check-into-spec : {M : Type 1} → statement M

@@ -11,7 +11,8 @@ count-structures-requires c κs = search needs
 
 counted-number-requires : tie.Need-counted-number-requires
 counted-number-requires c κs =
-    counted-fits (c .before .before .args .file .now) (c .count-structures .ensures) (record { below = λ i. omega (arith, c .before .shared-slice-known .given i) })
+    counted-fits (c .before .before .args .file .now) (c .count-structures .ensures)
+    (record { below = λ i. omega (arith, c .before .shared-slice-known .given i) })
 
 returns : tie.Need-returns
 returns c = c .counted-number .ensures ∙ counted-same (c .before .before .before .args .file .now) (c .before .count-structures .ensures)

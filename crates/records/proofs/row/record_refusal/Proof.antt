@@ -14,7 +14,9 @@ asked-refusal-requires : tie.Need-asked-refusal-requires
 asked-refusal-requires c κs = search needs
 
 returns : tie.Need-returns
-returns c = let a = c .before .before .before .args in c .asked-refusal .ensures ∙ refusal-asked (askingRows (a .file .now) (rowsGiven (a .asked)) 0) (c .before .ask-record .ensures)
+returns c =
+    let a = c .before .before .before .args in
+    c .asked-refusal .ensures ∙ refusal-asked (askingRows (a .file .now) (rowsGiven (a .asked)) 0) (c .before .ask-record .ensures)
 
 pub record-refusal-spec : {M : Type 1} → statement M
 record-refusal-spec = tie.close (tie.spec ask-record-requires asked-refusal-requires returns)

@@ -14,7 +14,9 @@ asked-stretch-requires : tie.Need-asked-stretch-requires
 asked-stretch-requires c κs = asked-inside (c .before .before .args .file .now) _ 0 _ (c .ask-record .ensures)
 
 returns : tie.Need-returns
-returns c = let a = c .before .before .before .args in c .asked-stretch .ensures ∙ stretch-asked (a .file .now) (askingRows (a .file .now) (rowsGiven (a .asked)) 0) (c .before .ask-record .ensures)
+returns c =
+    let a = c .before .before .before .args in
+    c .asked-stretch .ensures ∙ stretch-asked (a .file .now) (askingRows (a .file .now) (rowsGiven (a .asked)) 0) (c .before .ask-record .ensures)
 
 pub record-stretch-spec : {M : Type 1} → statement M
 record-stretch-spec = tie.close (tie.spec ask-record-requires asked-stretch-requires returns)

@@ -4,7 +4,8 @@ use mathlib.Core.Path.{ap}
 use native.Mathlib.Omega.{arith}
 use Rattle.steps.specs.declared.header.HeaderPart.{HeaderPart}
 use Rattle.tables.proofs.Reading.{accepted-header}
-use Rattle.tables.proofs.FillLaws.{FillingInstruments, instruments-start, instruments-tests, instruments-place, instruments-stands, instruments-room, instruments-on, instruments-done}
+use Rattle.tables.proofs.FillLaws.{FillingInstruments, instruments-start, instruments-tests, instruments-place, instruments-stands, instruments-room}
+use Rattle.tables.proofs.FillLaws.{instruments-on, instruments-done}
 use Rattle.tables.proofs.fill.fill_instruments.Statement.{statement}
 use Rattle.tables.proofs.fill.fill_instruments.Tie as tie
 
@@ -26,38 +27,77 @@ loop-holds c =
     rw (ap HeaderPart.instruments (c .before .header-part .ensures)) (instruments-start _ _ (p .0) (c .first-instrument .ensures) (p .1))
 
 instrument-head-requires : tie.Need-instrument-head-requires Inv-loop μ-loop
-instrument-head-requires c κs = instruments-tests _ _ (c .before .loop .inv) (record { below = λ i. omega (arith, c .before .before .before .before .before .shared-slice-known .given i) }) (c .loop-test .taken)
+instrument-head-requires c κs =
+    let s = c .before in
+    instruments-tests _ _ (s .loop .inv) (record { below = λ i. omega (arith, s .before .before .before .before .shared-slice-known .given i) })
+    (c .loop-test .taken)
 
 cast-put-three : tie.Need-cast-put-three Inv-loop μ-loop
-cast-put-three c = let w = c .before .before .before .loop .inv in omega (arith, instruments-place _ _ w (record { below = λ i. omega (arith, c .before .before .before .before .before .before .before .shared-slice-known .given i) }) (c .before .before .loop-test .taken), w .small)
+cast-put-three c =
+    let t = c .before .before in
+    let s = t .before in
+    omega (
+      arith,
+      instruments-place _ _ (s .loop .inv) (record { below = λ i. omega (arith, s .before .before .before .before .shared-slice-known .given i) })
+          (t .loop-test .taken),
+      s .loop .inv .small,
+    )
 
 cast-put-three-2 : tie.Need-cast-put-three-2 Inv-loop μ-loop
-cast-put-three-2 c = omega (arith, instruments-stands _ _ (c .before .before .before .loop .inv) (record { below = λ i. omega (arith, c .before .before .before .before .before .before .before .shared-slice-known .given i) }) (c .before .before .loop-test .taken) (c .before .instrument-head .ensures) .few)
+cast-put-three-2 c =
+    let t = c .before .before in
+    let s = t .before in
+    omega (
+      arith,
+      instruments-stands _ _ (s .loop .inv) (record { below = λ i. omega (arith, s .before .before .before .before .shared-slice-known .given i) })
+          (t .loop-test .taken) (c .before .instrument-head .ensures) .few,
+    )
 
 cast-put-three-3 : tie.Need-cast-put-three-3 Inv-loop μ-loop
 cast-put-three-3 c = omega (arith, c .before .before .before .loop .inv .few)
 
 put-three-requires : tie.Need-put-three-requires Inv-loop μ-loop
-put-three-requires c κs = instruments-room _ _ (c .before .before .before .loop .inv) (record { below = λ i. omega (arith, c .before .before .before .before .before .before .before .shared-slice-known .given i) }) (c .before .before .loop-test .taken) (c .before .instrument-head .ensures)
+put-three-requires c κs =
+    let t = c .before .before in
+    let s = t .before in
+    instruments-room _ _ (s .loop .inv) (record { below = λ i. omega (arith, s .before .before .before .before .shared-slice-known .given i) })
+    (t .loop-test .taken) (c .before .instrument-head .ensures)
 
 data-end-requires : tie.Need-data-end-requires Inv-loop μ-loop
-data-end-requires c κs = instruments-stands _ _ (c .before .before .before .before .before .before .loop .inv) (record { below = λ i. omega (arith, c .before .before .before .before .before .before .before .before .before .before .shared-slice-known .given i) }) (c .before .before .before .before .before .loop-test .taken) (c .before .before .before .before .instrument-head .ensures)
+data-end-requires c κs =
+    let h = c .before .before .before .before in
+    let s = h .before .before in
+    instruments-stands _ _ (s .loop .inv) (record { below = λ i. omega (arith, s .before .before .before .before .shared-slice-known .given i) })
+    (h .before .loop-test .taken) (h .instrument-head .ensures)
 
 sub-left : tie.Need-sub-left Inv-loop μ-loop
 sub-left c = omega arith
 
 add-first : tie.Need-add-first Inv-loop μ-loop
-add-first c = omega (arith, c .before .before .before .before .before .before .before .loop .inv .few, instruments-stands _ _ (c .before .before .before .before .before .before .before .loop .inv) (record { below = λ i. omega (arith, c .before .before .before .before .before .before .before .before .before .before .before .shared-slice-known .given i) }) (c .before .before .before .before .before .before .loop-test .taken) (c .before .before .before .before .before .instrument-head .ensures) .few)
+add-first c =
+    let h = c .before .before .before .before .before in
+    let s = h .before .before in
+    let stands = instruments-stands _ _ (s .loop .inv) (record { below = λ i. omega (arith, s .before .before .before .before .shared-slice-known .given i) })
+    (h .before .loop-test .taken) (h .instrument-head .ensures) in
+    omega (arith, s .loop .inv .few, stands .few)
 
 add-to : tie.Need-add-to Inv-loop μ-loop
-add-to c = omega (arith, instruments-room _ _ (c .before .before .before .before .before .before .before .loop .inv) (record { below = λ i. omega (arith, c .before .before .before .before .before .before .before .before .before .before .before .shared-slice-known .given i) }) (c .before .before .before .before .before .before .loop-test .taken) (c .before .before .before .before .before .instrument-head .ensures))
+add-to c =
+    let h = c .before .before .before .before .before in
+    let s = h .before .before in
+    let room = instruments-room _ _ (s .loop .inv) (record { below = λ i. omega (arith, s .before .before .before .before .shared-slice-known .given i) })
+    (h .before .loop-test .taken) (h .instrument-head .ensures) in
+    omega (arith, room)
 
 loop-less : tie.Need-loop-less Inv-loop μ-loop
 loop-less c = omega arith
 
 loop-again : tie.Need-loop-again Inv-loop μ-loop
-loop-again c = instruments-on _ _ (c .before .before .before .before .before .before .before .loop .inv) (record { below = λ i. omega (arith, c .before .before .before .before .before .before .before .before .before .before .before .shared-slice-known .given i) }) (c .before .before .before .before .before .before .loop-test .taken) (c .before .before .before .before .before .instrument-head .ensures) (c .before .before .before .put-three .ensures) (c .data-end .ensures)
-    (omega arith)
+loop-again c =
+    let h = c .before .before .before .before .before in
+    let s = h .before .before in
+    instruments-on _ _ (s .loop .inv) (record { below = λ i. omega (arith, s .before .before .before .before .shared-slice-known .given i) })
+    (h .before .loop-test .taken) (h .instrument-head .ensures) (c .before .before .before .put-three .ensures) (c .data-end .ensures) (omega arith)
 
 same-length : tie.Need-same-length Inv-loop μ-loop
 same-length c = c .before .loop .inv .laid .kept

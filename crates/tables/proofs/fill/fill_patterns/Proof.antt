@@ -41,29 +41,37 @@ cast-put-three-2 c =
 
 cast-put-three-3 : tie.Need-cast-put-three-3 Inv-loop μ-loop
 cast-put-three-3 c =
-    let f = patterns-fit _ _ (c .before .before .before .before .before .before .loop .inv) (c .before .before .before .before .before .loop-test .taken) (c .before .before .before .before .pattern-head .ensures) in
+    let h = c .before .before .before .before in
+    let f = patterns-fit _ _ (h .before .before .loop .inv) (h .before .loop-test .taken) (h .pattern-head .ensures) in
     omega (arith, f .few)
 
 put-three-requires : tie.Need-put-three-requires Inv-loop μ-loop
-put-three-requires c κs = patterns-room _ _ (c .before .before .before .before .before .before .loop .inv) (c .before .before .before .before .before .loop-test .taken) (c .before .before .before .before .pattern-head .ensures)
+put-three-requires c κs =
+    let h = c .before .before .before .before in
+    patterns-room _ _ (h .before .before .loop .inv) (h .before .loop-test .taken) (h .pattern-head .ensures)
 
 add-place : tie.Need-add-place Inv-loop μ-loop
 add-place c =
-    let w = c .before .before .before .before .before .before .before .before .before .before .loop .inv in
-    let f = patterns-fit _ _ w (c .before .before .before .before .before .before .before .before .before .loop-test .taken) (c .before .before .before .before .before .before .before .before .pattern-head .ensures) in
+    let h = c .before .before .before .before .before .before .before .before in
+    let w = h .before .before .loop .inv in
+    let f = patterns-fit _ _ w (h .before .loop-test .taken) (h .pattern-head .ensures) in
     omega (arith, f .inside, w .skipping .small)
 
 sub-left : tie.Need-sub-left Inv-loop μ-loop
 sub-left c = omega arith
 
 add-to : tie.Need-add-to Inv-loop μ-loop
-add-to c = omega (arith, patterns-room _ _ (c .before .before .before .before .before .before .before .before .before .before .loop .inv) (c .before .before .before .before .before .before .before .before .before .loop-test .taken) (c .before .before .before .before .before .before .before .before .pattern-head .ensures))
+add-to c =
+    let h = c .before .before .before .before .before .before .before .before in
+    omega (arith, patterns-room _ _ (h .before .before .loop .inv) (h .before .loop-test .taken) (h .pattern-head .ensures))
 
 loop-less : tie.Need-loop-less Inv-loop μ-loop
 loop-less c = omega arith
 
 loop-again : tie.Need-loop-again Inv-loop μ-loop
-loop-again c = patterns-on _ _ (c .before .before .before .before .before .before .before .before .before .before .loop .inv) (c .before .before .before .before .before .before .before .before .before .loop-test .taken) (c .before .before .before .before .before .before .before .before .pattern-head .ensures) (c .before .before .before .put-three .ensures)
+loop-again c =
+    let h = c .before .before .before .before .before .before .before .before in
+    patterns-on _ _ (h .before .before .loop .inv) (h .before .loop-test .taken) (h .pattern-head .ensures) (c .before .before .before .put-three .ensures)
 
 same-length : tie.Need-same-length Inv-loop μ-loop
 same-length c = c .before .loop .inv .laid .kept

@@ -46,11 +46,11 @@ loop-less c = omega (arith, c .before .before .before .before .before .before .b
 
 loop-again : tie.Need-loop-again Inv-loop μ-loop
 loop-again c =
-    let l = c .before .before .before .before .before .before .before .before .before .before .before .loop in
+    let s = c .before .before .before .before .before .before .before .before .before .before .before in
+    let l = s .loop in
     let step = c .before .before .before .before .before .before .before .before .row-step .ensures in
     let put = c .before .before .before .before .put-sample .ensures in (
-      rw (step .1)
-          (samples-on _ _ _ (l .inv .0) (omega (arith, c .before .before .before .before .before .before .before .before .before .before .before .before .before .before .before .pre .0))
+      rw (step .1) (samples-on _ _ _ (l .inv .0) (omega (arith, s .before .before .before .before .pre .0))
           (put .0 ∙ ap (λ (r : SampleRow). lay (l .table) (sampleStride * l .from .number) (numbersOf r)) (step .0))
           (put .1 ∙ ap (λ (r : SampleRow). lay (l .tunes) (tuneStride * l .from .number) (tunesOf r)) (step .0))),
       λ some. step .2,

@@ -34,12 +34,14 @@ data-size-requires c κs = search needs
 
 add-place-2 : tie.Need-add-place-2 Inv-loop μ-loop
 add-place-2 c =
-    let w = left-on _ _ _ (c .before .before .before .loop .inv) (c .before .before .loop-test .taken) (c .data-size .ensures ∙ head-size (c .before .sample-head .ensures)) in
+    let w = left-on _ _ _ (c .before .before .before .loop .inv) (c .before .before .loop-test .taken)
+    (c .data-size .ensures ∙ head-size (c .before .sample-head .ensures)) in
     omega (arith, w .same, w .inside, c .before .before .before .before .before .pre .small)
 
 add-head : tie.Need-add-head Inv-loop μ-loop
 add-head c =
-    omega (arith, left-room _ _ _ (c .before .before .before .loop .inv) (c .before .before .loop-test .taken), c .before .before .before .before .before .pre .small)
+    let s = c .before .before .before in
+    omega (arith, left-room _ _ _ (s .loop .inv) (c .before .before .loop-test .taken), s .before .before .pre .small)
 
 sub-left : tie.Need-sub-left Inv-loop μ-loop
 sub-left c = omega arith
@@ -49,7 +51,8 @@ loop-less c = omega arith
 
 loop-again : tie.Need-loop-again Inv-loop μ-loop
 loop-again c =
-    left-on _ _ _ (c .before .before .before .loop .inv) (c .before .before .loop-test .taken) (c .data-size .ensures ∙ head-size (c .before .sample-head .ensures))
+    left-on _ _ _ (c .before .before .before .loop .inv) (c .before .before .loop-test .taken)
+    (c .data-size .ensures ∙ head-size (c .before .sample-head .ensures))
 
 returns : tie.Need-returns Inv-loop μ-loop
 returns c = left-end _ _ _ (c .before .loop .inv) (omega arith)
@@ -57,4 +60,5 @@ returns c = left-end _ _ _ (c .before .loop .inv) (omega arith)
 pub data-end-spec : {M : Type 1} → statement M
 data-end-spec =
     tie.close
-    (tie.spec Inv-loop μ-loop mul-place add-place loop-holds sample-head-requires data-size-requires add-place-2 add-head sub-left loop-less loop-again returns)
+    (tie.spec Inv-loop μ-loop mul-place add-place loop-holds sample-head-requires data-size-requires add-place-2
+    add-head sub-left loop-less loop-again returns)

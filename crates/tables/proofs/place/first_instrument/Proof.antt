@@ -37,7 +37,8 @@ loop-less c = omega arith
 
 loop-again : tie.Need-loop-again Inv-loop μ-loop
 loop-again c =
-    skipping-on _ (c .before .before .before .loop .inv .1) (c .before .before .loop-test .taken) (c .before .pattern-head .ensures) λ i more ep es en fits rest. (more, rest)
+    skipping-on _ (c .before .before .before .loop .inv .1) (c .before .before .loop-test .taken) (c .before .pattern-head .ensures)
+    λ i more ep es en fits rest. (more, rest)
 
 returns : tie.Need-returns Inv-loop μ-loop
 returns c = skipping-end _ (c .before .loop .inv .1) (omega arith) .1

@@ -17,7 +17,8 @@ returns : tie.Need-returns
 returns c = (ap Sought.number (c .sought-from .ensures), λ some. absurd (omega (arith, some, c .before .if1 .taken)))
 
 first-instrument-requires : tie.Need-first-instrument-requires
-first-instrument-requires c κs = some-accepted sampleRows (readFile (c .before .before .args .file .now)) {number = 0} (omega (arith, c .before .before .pre, c .if1 .left))
+first-instrument-requires c κs =
+    some-accepted sampleRows (readFile (c .before .before .args .file .now)) {number = 0} (omega (arith, c .before .before .pre, c .if1 .left))
 
 sought-from-requires-2 : tie.Need-sought-from-requires-2
 sought-from-requires-2 c κs = search needs
@@ -25,7 +26,10 @@ sought-from-requires-2 c κs = search needs
 returns-2 : tie.Need-returns-2
 returns-2 c = (
   ap Sought.number (c .sought-from2 .ensures),
-  λ some. rw (c .sought-from2 .ensures) (seeks-start _ 0 (omega (arith, some, c .before .before .before .before .pre)) (record { below = λ i. omega (arith, c .before .before .before .shared-slice-known .given i) }) (c .before .first-instrument .ensures)),
+  λ some.
+      let s = c .before .before .before in
+      rw (c .sought-from2 .ensures) (seeks-start _ 0 (omega (arith, some, s .before .pre))
+      (record { below = λ i. omega (arith, s .shared-slice-known .given i) }) (c .before .first-instrument .ensures)),
 )
 
 pub first-sought-spec : {M : Type 1} → statement M

@@ -13,7 +13,8 @@ use Rattle.tables.proofs.sample.row_step.Statement.{statement}
 use Rattle.tables.proofs.sample.row_step.Tie as tie
 
 abbrev Inv-loop : tie.InvT-loop
-Inv-loop file number left₀ head₀ size₀ place₀ left head size place = Seeks file (record { number = number; left = left; head = head; «head_size» = size; «data_place» = place })
+Inv-loop file number left₀ head₀ size₀ place₀ left head size place =
+    Seeks file (record { number = number; left = left; head = head; «head_size» = size; «data_place» = place })
 
 abbrev μ-loop : tie.MeasureT-loop
 μ-loop file number left₀ head₀ size₀ place₀ left head size place = length file - place
@@ -22,23 +23,42 @@ loop-holds : tie.Need-loop-holds Inv-loop μ-loop
 loop-holds c = c .before .pre .2
 
 instrument-head-requires : tie.Need-instrument-head-requires Inv-loop μ-loop
-instrument-head-requires c κs = seeks-tests _ _ (c .before .before .before .pre .0) (record { below = λ i. omega (arith, c .before .before .shared-slice-known .given i) }) (c .before .loop .inv) (c .loop-test .taken)
+instrument-head-requires c κs =
+    let s = c .before in
+    seeks-tests _ _ (s .before .before .pre .0) (record { below = λ i. omega (arith, s .before .shared-slice-known .given i) }) (s .loop .inv)
+    (c .loop-test .taken)
 
 mul-place : tie.Need-mul-place Inv-loop μ-loop
-mul-place c = let w = seeks-stands _ _ (c .before .before .before .before .pre .0) (record { below = λ i. omega (arith, c .before .before .before .shared-slice-known .given i) }) (c .before .before .loop .inv) (c .before .loop-test .taken) (c .instrument-head .ensures) in omega (arith, w .inside, w .small)
+mul-place c =
+    let s = c .before .before in
+    let w = seeks-stands _ _ (s .before .before .pre .0) (record { below = λ i. omega (arith, s .before .shared-slice-known .given i) }) (s .loop .inv)
+    (c .before .loop-test .taken) (c .instrument-head .ensures) in
+    omega (arith, w .inside, w .small)
 
 add-place : tie.Need-add-place Inv-loop μ-loop
-add-place c = let w = seeks-stands _ _ (c .before .before .before .before .pre .0) (record { below = λ i. omega (arith, c .before .before .before .shared-slice-known .given i) }) (c .before .before .loop .inv) (c .before .loop-test .taken) (c .instrument-head .ensures) in omega (arith, w .inside, w .small)
+add-place c =
+    let s = c .before .before in
+    let w = seeks-stands _ _ (s .before .before .pre .0) (record { below = λ i. omega (arith, s .before .shared-slice-known .given i) }) (s .loop .inv)
+    (c .before .loop-test .taken) (c .instrument-head .ensures) in
+    omega (arith, w .inside, w .small)
 
 loop-less : tie.Need-loop-less Inv-loop μ-loop
-loop-less c = seeks-less _ _ (c .before .before .before .before .pre .0) (record { below = λ i. omega (arith, c .before .before .before .shared-slice-known .given i) }) (c .before .before .loop .inv) (c .before .loop-test .taken) (c .instrument-head .ensures)
+loop-less c =
+    let s = c .before .before in
+    seeks-less _ _ (s .before .before .pre .0) (record { below = λ i. omega (arith, s .before .shared-slice-known .given i) }) (s .loop .inv)
+    (c .before .loop-test .taken) (c .instrument-head .ensures)
 
 loop-again : tie.Need-loop-again Inv-loop μ-loop
-loop-again c = seeks-on _ _ (c .before .before .before .before .pre .0) (record { below = λ i. omega (arith, c .before .before .before .shared-slice-known .given i) }) (c .before .before .loop .inv) (c .before .loop-test .taken) (c .instrument-head .ensures)
+loop-again c =
+    let s = c .before .before in
+    seeks-on _ _ (s .before .before .pre .0) (record { below = λ i. omega (arith, s .before .shared-slice-known .given i) }) (s .loop .inv)
+    (c .before .loop-test .taken) (c .instrument-head .ensures)
 
 sample-row-requires : tie.Need-sample-row-requires Inv-loop μ-loop
 sample-row-requires c κs =
-    let w = seeks-fits _ _ (c .before .before .before .pre .0) (record { below = λ i. omega (arith, c .before .before .shared-slice-known .given i) }) (c .before .loop .inv) (omega (arith, c .loop-test .left)) in
+    let s = c .before in
+    let w = seeks-fits _ _ (s .before .before .pre .0) (record { below = λ i. omega (arith, s .before .shared-slice-known .given i) }) (s .loop .inv)
+    (omega (arith, c .loop-test .left)) in
     (w .small, (w .next-head, w .bytes))
 
 add-t13 : tie.Need-add-t13 Inv-loop μ-loop
@@ -48,21 +68,32 @@ sub-t14 : tie.Need-sub-t14 Inv-loop μ-loop
 sub-t14 c = omega (arith, c .before .loop-test .left)
 
 add-t15 : tie.Need-add-t15 Inv-loop μ-loop
-add-t15 c = let w = seeks-fits _ _ (c .before .before .before .before .pre .0) (record { below = λ i. omega (arith, c .before .before .before .shared-slice-known .given i) }) (c .before .before .loop .inv) (omega (arith, c .before .loop-test .left)) in omega (arith, w .small, w .next-head)
+add-t15 c =
+    let s = c .before .before in
+    let w = seeks-fits _ _ (s .before .before .pre .0) (record { below = λ i. omega (arith, s .before .shared-slice-known .given i) }) (s .loop .inv)
+    (omega (arith, c .before .loop-test .left)) in
+    omega (arith, w .small, w .next-head)
 
 cast-t16 : tie.Need-cast-t16 Inv-loop μ-loop
 cast-t16 c = search needs
 
 add-t17 : tie.Need-add-t17 Inv-loop μ-loop
-add-t17 c = let w = seeks-fits _ _ (c .before .before .before .before .before .pre .0) (record { below = λ i. omega (arith, c .before .before .before .before .shared-slice-known .given i) }) (c .before .before .before .loop .inv) (omega (arith, c .before .before .loop-test .left)) in omega (arith, w .small, w .next-bytes, ap SampleRow.length (c .before .sample-row .ensures))
+add-t17 c =
+    let s = c .before .before .before in
+    let w = seeks-fits _ _ (s .before .before .pre .0) (record { below = λ i. omega (arith, s .before .shared-slice-known .given i) }) (s .loop .inv)
+    (omega (arith, c .before .before .loop-test .left)) in
+    omega (arith, w .small, w .next-bytes, ap SampleRow.length (c .before .sample-row .ensures))
 
 returns : tie.Need-returns Inv-loop μ-loop
 returns c =
     let row = c .before .sample-row .ensures in
-    let some : 0 < c .before .before .before .loop .left = omega (arith, c .before .before .loop-test .left) in (
-      row ∙ ap sampleRow (sym (seeks-found _ _ (c .before .before .before .before .before .pre .0) (record { below = λ i. omega (arith, c .before .before .before .before .shared-slice-known .given i) }) (c .before .before .before .loop .inv) some)),
+    let s = c .before .before .before in
+    let some : 0 < s .loop .left = omega (arith, c .before .before .loop-test .left) in (
+      row ∙ ap sampleRow (sym (seeks-found _ _ (s .before .before .pre .0) (record { below = λ i. omega (arith, s .before .shared-slice-known .given i) })
+          (s .loop .inv) some)),
       refl,
-      seeks-after _ _ (c .before .before .before .before .before .pre .0) (record { below = λ i. omega (arith, c .before .before .before .before .shared-slice-known .given i) }) (c .before .before .before .loop .inv) some (omega (arith, ap SampleRow.length row)),
+      seeks-after _ _ (s .before .before .pre .0) (record { below = λ i. omega (arith, s .before .shared-slice-known .given i) }) (s .loop .inv)
+          some (omega (arith, ap SampleRow.length row)),
     )
 
 pub row-step-spec : {M : Type 1} → statement M

@@ -18,13 +18,13 @@ cast-t10 c = omega (arith, c .data-size .ensures, size-small (c .before .before 
 
 cast-loop-number-2 : tie.Need-cast-loop-number-2
 cast-loop-number-2 c =
-    let at = c .before .before .before .before .before .before .sample-head .ensures in
-    omega (arith, c .in-samples .ensures, samples-few (wideBy (c .before .before .before .before .before .before .sample-head .result .form)) (c .before .before .before .before .before .before .sample-head .result .«loop_start»), at .start-small)
+    let h = c .before .before .before .before .before .before .sample-head in
+    omega (arith, c .in-samples .ensures, samples-few (wideBy (h .result .form)) (h .result .«loop_start»), h .ensures .start-small)
 
 cast-loop-number-3 : tie.Need-cast-loop-number-3
 cast-loop-number-3 c =
-    let at = c .before .before .before .before .before .before .before .before .sample-head .ensures in
-    omega (arith, c .in-samples2 .ensures, samples-few (wideBy (c .before .before .before .before .before .before .before .before .sample-head .result .form)) (c .before .before .before .before .before .before .before .before .sample-head .result .«loop_length»), at .looped-small)
+    let h = c .before .before .before .before .before .before .before .before .sample-head in
+    omega (arith, c .in-samples2 .ensures, samples-few (wideBy (h .result .form)) (h .result .«loop_length»), h .ensures .looped-small)
 
 -- A signed field is its own number again: it fits, which the step before gives
 returns : tie.Need-returns
@@ -36,10 +36,14 @@ returns c =
     let fits = c .struct-told .given in
     row-path refl refl (omega (arith, c .before .before .before .before .before .before .before .before .data-size .ensures, head-size at))
     (c .before .before .before .before .before .before .before .width-of .ensures ∙ ap (λ (h : SampleHead). cond (wideBy (h .form)) 16 8) head)
-    (c .before .before .before .before .before .loop-number .ensures ∙ looped looping refl ∙ ap (λ (h : SampleHead). cond (loopsBy (h .form) (h .«loop_length»)) (h .form % 4) 0) head)
-    (c .before .before .before .loop-number2 .ensures ∙ looped looping (c .before .before .before .before .in-samples .ensures) ∙ ap (λ (h : SampleHead). cond (loopsBy (h .form) (h .«loop_length»)) (inSamples (cond (wideBy (h .form)) 16 8) (h .«loop_start»)) 0) head)
-    (c .before .loop-number3 .ensures ∙ looped looping (c .before .before .in-samples2 .ensures) ∙ ap (λ (h : SampleHead). cond (loopsBy (h .form) (h .«loop_length»)) (inSamples (cond (wideBy (h .form)) 16 8) (h .«loop_length»)) 0) head)
-    (toZ-ofZ {w = w8} (record { sfits = fits .1 .1 .1 .0 .1 }) ∙ ap SampleHead.finetune head) (toZ-ofZ {w = w8} (record { sfits = fits .1 .1 .1 .1 .1 .0 .1 }) ∙ ap SampleHead.«relative_note» head)
+    (c .before .before .before .before .before .loop-number .ensures ∙ looped looping refl
+    ∙ ap (λ (h : SampleHead). cond (loopsBy (h .form) (h .«loop_length»)) (h .form % 4) 0) head)
+    (c .before .before .before .loop-number2 .ensures ∙ looped looping (c .before .before .before .before .in-samples .ensures)
+    ∙ ap (λ (h : SampleHead). cond (loopsBy (h .form) (h .«loop_length»)) (inSamples (cond (wideBy (h .form)) 16 8) (h .«loop_start»)) 0) head)
+    (c .before .loop-number3 .ensures ∙ looped looping (c .before .before .in-samples2 .ensures)
+    ∙ ap (λ (h : SampleHead). cond (loopsBy (h .form) (h .«loop_length»)) (inSamples (cond (wideBy (h .form)) 16 8) (h .«loop_length»)) 0) head)
+    (toZ-ofZ {w = w8} (record { sfits = fits .1 .1 .1 .0 .1 }) ∙ ap SampleHead.finetune head)
+    (toZ-ofZ {w = w8} (record { sfits = fits .1 .1 .1 .1 .1 .0 .1 }) ∙ ap SampleHead.«relative_note» head)
   where
     looped : {loops loops′ : Bool} {n m : ℕ} → loops ≡ loops′ → n ≡ m → cond loops n 0 ≡ cond loops′ m 0
     looped p q = ap₂ (λ (b : Bool) (k : ℕ). cond b k 0) p q
