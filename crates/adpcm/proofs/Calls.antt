@@ -20,10 +20,12 @@ module _ (count : ℕ) (bytes : List ℕ) (lent : List ℤ) where
   decode-one d e = (d .0 ∙ sym (e .0), d .1 ∙ sym (e .1))
 
   -- The paper's numbers
-  pub decode-numbers : {answer : Decoded} {held : List ℤ} → Decodes count bytes lent answer held → decodedNumbers answer ≡ adpcmNumbers count bytes (length lent)
+  pub decode-numbers : {answer : Decoded} {held : List ℤ} → Decodes count bytes lent answer held
+      → decodedNumbers answer ≡ adpcmNumbers count bytes (length lent)
   decode-numbers d = ap decodedNumbers (d .0) ∙ decode-cases (adpcmDecoding count bytes (length lent))
 
   -- A refusal leaves the memory as it was
   pub decode-unchanged : {answer : Decoded} {held : List ℤ} → Decodes count bytes lent answer held → (accepts (decodedNumbers answer) → ⊥) → held ≡ lent
   decode-unchanged d refused =
-      d .1 ∙ refused-unchanged (λ (values : List ℤ). values) (adpcmDecoding count bytes (length lent)) lent (λ a. refused (subst accepts (sym (decode-numbers d)) a))
+      d .1 ∙ refused-unchanged (λ (values : List ℤ). values) (adpcmDecoding count bytes (length lent)) lent
+      (λ a. refused (subst accepts (sym (decode-numbers d)) a))

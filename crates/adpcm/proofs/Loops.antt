@@ -26,10 +26,17 @@ pub record Writing (count : ℕ) (bytes : List ℕ) (lent values : List ℤ) (su
   pub place : at ≡ deltaTable + i / 2
   pub laid : Laid lent (adpcmDecoded count bytes) values i (valuesFrom 8 sum (drop i (chosen count bytes)))
 
-pub writing-start : (count : ℕ) (bytes : List ℕ) (lent : List ℤ) → length bytes ≡ adpcmSize count → count ≤ length lent → Writing count bytes lent lent 0 deltaTable 0
+pub writing-start : (count : ℕ) (bytes : List ℕ) (lent : List ℤ) → length bytes ≡ adpcmSize count → count ≤ length lent
+    → Writing count bytes lent lent 0 deltaTable 0
 unfolding adpcmDecoded decoded storedNumbers
 writing-start count bytes lent fit h =
-    record { fit = fit; some = omega arith; low = refl; place = refl; laid = laid-none lent (adpcmDecoded count bytes) (omega (arith, adpcm-length count bytes fit)) }
+    record {
+      fit = fit;
+      some = omega arith;
+      low = refl;
+      place = refl;
+      laid = laid-none lent (adpcmDecoded count bytes) (omega (arith, adpcm-length count bytes fit));
+    }
 
 module _ {count : ℕ} {bytes : List ℕ} {lent values : List ℤ} {sum at i : ℕ} (w : Writing count bytes lent values sum at i) where
   -- a value is left: its byte, and the table, are there
@@ -72,9 +79,11 @@ module _ {count : ℕ} {bytes : List ℕ} {lent values : List ℤ} {sum at i : �
   }
 
   -- the last one, at an odd length; and none
-  pub writing-last : {index next : ℕ} {x : ℤ} → i < count → count < i + 2 → index ≡ getD bytes at 0 % 16 → next ≡ (sum + getD bytes index 0) % 2 ^ 8 → x ≡ signed 8 next
+  pub writing-last : {index next : ℕ} {x : ℤ} → i < count → count < i + 2 → index ≡ getD bytes at 0 % 16 → next ≡ (sum + getD bytes index 0) % 2 ^ 8
+      → x ≡ signed 8 next
       → set values i x ≡ inFront (adpcmDecoded count bytes) lent
-  writing-last {next = next} h l e n v = laid-done (writing-low h e n v) (values-end 8 next (i + 1) (chosen count bytes) (omega (arith, chosen-length count bytes (w .fit))))
+  writing-last {next = next} h l e n v =
+      laid-done (writing-low h e n v) (values-end 8 next (i + 1) (chosen count bytes) (omega (arith, chosen-length count bytes (w .fit))))
 
   pub writing-done : count ≤ i → values ≡ inFront (adpcmDecoded count bytes) lent
   writing-done h = laid-done (w .laid) (values-end 8 sum i (chosen count bytes) (omega (arith, chosen-length count bytes (w .fit))))

@@ -32,14 +32,102 @@ trailing-times (suc j) (suc k) n h = go (trailing-times j k (n / 2)) (n % 2) ref
 
 -- The bytes of a word
 pub byte-at : (s : List ℕ) (place word : ℕ) → ((i : ℕ) → getD s i 0 ≤ 255) → word ≡ eightAt s place → (i : ℕ) → i ≤ 7 → byteIn word i ≡ getD s (place + i) 0
-byte-at s place word small e zero h = rw add-zero (omega (arith, small place, small (place + 1), small (place + 2), small (place + 3), small (place + 4), small (place + 5), small (place + 6), small (place + 7)))
-byte-at s place word small e (suc zero) h = omega (arith, small place, small (place + 1), small (place + 2), small (place + 3), small (place + 4), small (place + 5), small (place + 6), small (place + 7))
-byte-at s place word small e (suc (suc zero)) h = omega (arith, small place, small (place + 1), small (place + 2), small (place + 3), small (place + 4), small (place + 5), small (place + 6), small (place + 7))
-byte-at s place word small e (suc (suc (suc zero))) h = omega (arith, small place, small (place + 1), small (place + 2), small (place + 3), small (place + 4), small (place + 5), small (place + 6), small (place + 7))
-byte-at s place word small e (suc (suc (suc (suc zero)))) h = omega (arith, small place, small (place + 1), small (place + 2), small (place + 3), small (place + 4), small (place + 5), small (place + 6), small (place + 7))
-byte-at s place word small e (suc (suc (suc (suc (suc zero))))) h = omega (arith, small place, small (place + 1), small (place + 2), small (place + 3), small (place + 4), small (place + 5), small (place + 6), small (place + 7))
-byte-at s place word small e (suc (suc (suc (suc (suc (suc zero)))))) h = omega (arith, small place, small (place + 1), small (place + 2), small (place + 3), small (place + 4), small (place + 5), small (place + 6), small (place + 7))
-byte-at s place word small e (suc (suc (suc (suc (suc (suc (suc zero))))))) h = omega (arith, small place, small (place + 1), small (place + 2), small (place + 3), small (place + 4), small (place + 5), small (place + 6), small (place + 7))
+byte-at s place word small e zero h =
+    rw add-zero (omega (
+      arith,
+      small place,
+      small (place + 1),
+      small (place + 2),
+      small (place + 3),
+      small (place + 4),
+      small (place + 5),
+      small (place + 6),
+      small (place + 7),
+    ))
+byte-at s place word small e (suc zero) h =
+    omega (
+      arith,
+      small place,
+      small (place + 1),
+      small (place + 2),
+      small (place + 3),
+      small (place + 4),
+      small (place + 5),
+      small (place + 6),
+      small (place + 7),
+    )
+byte-at s place word small e (suc (suc zero)) h =
+    omega (
+      arith,
+      small place,
+      small (place + 1),
+      small (place + 2),
+      small (place + 3),
+      small (place + 4),
+      small (place + 5),
+      small (place + 6),
+      small (place + 7),
+    )
+byte-at s place word small e (suc (suc (suc zero))) h =
+    omega (
+      arith,
+      small place,
+      small (place + 1),
+      small (place + 2),
+      small (place + 3),
+      small (place + 4),
+      small (place + 5),
+      small (place + 6),
+      small (place + 7),
+    )
+byte-at s place word small e (suc (suc (suc (suc zero)))) h =
+    omega (
+      arith,
+      small place,
+      small (place + 1),
+      small (place + 2),
+      small (place + 3),
+      small (place + 4),
+      small (place + 5),
+      small (place + 6),
+      small (place + 7),
+    )
+byte-at s place word small e (suc (suc (suc (suc (suc zero))))) h =
+    omega (
+      arith,
+      small place,
+      small (place + 1),
+      small (place + 2),
+      small (place + 3),
+      small (place + 4),
+      small (place + 5),
+      small (place + 6),
+      small (place + 7),
+    )
+byte-at s place word small e (suc (suc (suc (suc (suc (suc zero)))))) h =
+    omega (
+      arith,
+      small place,
+      small (place + 1),
+      small (place + 2),
+      small (place + 3),
+      small (place + 4),
+      small (place + 5),
+      small (place + 6),
+      small (place + 7),
+    )
+byte-at s place word small e (suc (suc (suc (suc (suc (suc (suc zero))))))) h =
+    omega (
+      arith,
+      small place,
+      small (place + 1),
+      small (place + 2),
+      small (place + 3),
+      small (place + 4),
+      small (place + 5),
+      small (place + 6),
+      small (place + 7),
+    )
 byte-at s place word small e (suc (suc (suc (suc (suc (suc (suc (suc i)))))))) h = absurd (omega arith)
 
 -- Those of a number, less seven times 128, below its lowest digit that is set
@@ -92,9 +180,21 @@ run-at s place word count small e r =
 -- What a word has ahead
 module _ (s : List ℕ) (place word : ℕ) (small : (i : ℕ) → getD s i 0 ≤ 255) (e : word ≡ eightAt s place) where
   pub lead-at : word % 256 ≡ getD s place 0
-  lead-at = omega (arith, small place, small (place + 1), small (place + 2), small (place + 3), small (place + 4), small (place + 5), small (place + 6), small (place + 7))
+  lead-at =
+      omega (
+        arith,
+        small place,
+        small (place + 1),
+        small (place + 2),
+        small (place + 3),
+        small (place + 4),
+        small (place + 5),
+        small (place + 6),
+        small (place + 7),
+      )
 
-  last-at : (k bits : ℕ) → k ≤ 7 → bits ≡ 8 * k → place + bits / 8 + lengthBy (word / 2 ^ bits % 256) ≡ place + bits / 8 + lengthBy (getD s (place + bits / 8) 0)
+  last-at : (k bits : ℕ) → k ≤ 7 → bits ≡ 8 * k
+      → place + bits / 8 + lengthBy (word / 2 ^ bits % 256) ≡ place + bits / 8 + lengthBy (getD s (place + bits / 8) 0)
   last-at k bits h b =
       let p : place + k ≡ place + bits / 8 = omega arith in
       ap (λ (x : ℕ). place + bits / 8 + lengthBy x) (ap (λ (x : ℕ). word / 2 ^ x % 256) b ∙ byte-at s place word small e k h ∙ ap (λ (x : ℕ). getD s x 0) p)

@@ -43,7 +43,8 @@ module _ {S : Type 0} (pass : ℕ → S → S) (lengths : List ℕ) (size : ℕ)
   walked-less (suc left) at state = go (walked-less left (at + getD lengths at 0) (pass at state)) (ltb at size)
     where
       go : walked pass lengths size left (at + getD lengths at 0) (pass at state) .left ≤ left → (t : Bool)
-          → cond t (walked pass lengths size left (at + getD lengths at 0) (pass at state)) (record { at = at; left = suc left; state = state }) .left ≤ suc left
+          → cond t (walked pass lengths size left (at + getD lengths at 0) (pass at state)) (record { at = at; left = suc left; state = state }) .left
+          ≤ suc left
       go h true = omega arith
       go h false = omega arith
 
@@ -54,20 +55,21 @@ module _ {S : Type 0} (pass : ℕ → S → S) (lengths : List ℕ) (size : ℕ)
 
   -- What holds in front of the first cell, and then behind each that ends in time, holds behind all
   module _ (P : (at left : ℕ) → S → Type 0) (end : ℕ)
-      (next : (at left : ℕ) (state : S) → at < size → at + getD lengths at 0 ≤ end → P at (suc left) state → P (at + getD lengths at 0) left (pass at state)) where
-    pub walked-over : (left at : ℕ) (state : S) → P at left state
-        → (let w = walked pass lengths size left at state in w .at ≤ end → P (w .at) (w .left) (w .state))
-    unfolding walked
-    walked-over zero at state p h = p
-    walked-over (suc left) at state p h = go (walked-over left (at + getD lengths at 0) (pass at state)) (ltb at size) refl h
-      where
-        more : Walked S
-        more = walked pass lengths size left (at + getD lengths at 0) (pass at state)
+      (next : (at left : ℕ) (state : S) → at < size → at + getD lengths at 0 ≤ end → P at (suc left) state → P (at + getD lengths at 0) left (pass at state))
+    where
+      pub walked-over : (left at : ℕ) (state : S) → P at left state
+          → (let w = walked pass lengths size left at state in w .at ≤ end → P (w .at) (w .left) (w .state))
+      unfolding walked
+      walked-over zero at state p h = p
+      walked-over (suc left) at state p h = go (walked-over left (at + getD lengths at 0) (pass at state)) (ltb at size) refl h
+        where
+          more : Walked S
+          more = walked pass lengths size left (at + getD lengths at 0) (pass at state)
 
-        walk : Bool → Walked S
-        walk t = cond t more (record { at = at; left = suc left; state = state })
+          walk : Bool → Walked S
+          walk t = cond t more (record { at = at; left = suc left; state = state })
 
-        go : (P (at + getD lengths at 0) left (pass at state) → more .at ≤ end → P (more .at) (more .left) (more .state))
-            → (t : Bool) → ltb at size ≡ t → walk t .at ≤ end → P (walk t .at) (walk t .left) (walk t .state)
-        go on true e k = on (next at left state (ltb-true at size e) (omega (arith, walked-on left (at + getD lengths at 0) (pass at state))) p) k
-        go on false e k = p
+          go : (P (at + getD lengths at 0) left (pass at state) → more .at ≤ end → P (more .at) (more .left) (more .state))
+              → (t : Bool) → ltb at size ≡ t → walk t .at ≤ end → P (walk t .at) (walk t .left) (walk t .state)
+          go on true e k = on (next at left state (ltb-true at size e) (omega (arith, walked-on left (at + getD lengths at 0) (pass at state))) p) k
+          go on false e k = p

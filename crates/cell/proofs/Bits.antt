@@ -66,4 +66,11 @@ all-ones b h =
     let q₂ = odd₁₆ (b / 2) (q₁ .1) in
     let q₃ = odd₈ (b / 2 / 2) (q₂ .1) in
     let q₄ = odd₄ (b / 2 / 2 / 2) (q₃ .1) in
-    rw (ones-next 4 b (q₁ .0), ones-next 3 (b / 2) (q₂ .0), ones-next 2 (b / 2 / 2) (q₃ .0), ones-next 1 (b / 2 / 2 / 2) (q₄ .0), ones-next 0 (b / 2 / 2 / 2 / 2) (q₄ .1), ones-none) (omega arith)
+    rw (
+      ones-next 4 b (q₁ .0),
+      ones-next 3 (b / 2) (q₂ .0),
+      ones-next 2 (b / 2 / 2) (q₃ .0),
+      ones-next 1 (b / 2 / 2 / 2) (q₄ .0),
+      ones-next 0 (b / 2 / 2 / 2 / 2) (q₄ .1),
+      ones-none,
+    ) (omega arith)

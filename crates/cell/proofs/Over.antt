@@ -25,7 +25,8 @@ pub record PutOver (lent goal out : List ℕ) (to : ℕ) (rest : List ℕ) : Typ
   pub long : length out ≡ length lent
 
 -- A field is put, and the next one goes behind it, or over it if it is 0
-pub over-more : {lent goal out : List ℕ} {to : ℕ} (x : ℕ) (xs : List ℕ) → PutOver lent goal out to (kepts (x ∷ xs)) → {new : List ℕ} {next : ℕ} → to < overMost → overMost ≤ length lent
+pub over-more : {lent goal out : List ℕ} {to : ℕ} (x : ℕ) (xs : List ℕ) → PutOver lent goal out to (kepts (x ∷ xs)) → {new : List ℕ} {next : ℕ} → to < overMost
+    → overMost ≤ length lent
     → (next ≡ to + bit x) × ((next ≤ to + 1) × (new ≡ set out to x)) → PutOver lent goal new next (kepts xs)
 unfolding kept kepts
 over-more {lent} {goal} {out} {to} x xs p {new} {next} h room q = record {
@@ -58,7 +59,12 @@ module _ (lent : List ℕ) (a b c d e lead place : ℕ) (isLead : lead ≡ 128 +
       put : take place (set lent 0 lead) ++ kepts cell ≡ writeCell cell → place ≤ 1 → PutOver lent (writeCell cell) (set lent 0 lead) place (kepts cell)
       put same h = record {
         holds = same;
-        ends = omega (arith, ap length same, length-append (take place (set lent 0 lead)) (kepts cell), length-take-le place (set lent 0 lead) (omega (arith, length-set lent 0 lead)));
+        ends = omega (
+          arith,
+          ap length same,
+          length-append (take place (set lent 0 lead)) (kepts cell),
+          length-take-le place (set lent 0 lead) (omega (arith, length-set lent 0 lead)),
+        );
         beyond = drop-set-lt overMost lent 0 lead (omega arith);
         long = length-set lent 0 lead;
       }
@@ -79,14 +85,17 @@ laid-over {lent} {goal} {out} {rest} {to} l w rest′ {ys} {next} e n six o long
     let lo : length ys ≡ length (drop to out) = rw (part-all to out) at long in
     let q = ap length e ∙ length-append w rest′ in
     let t : length (take to out) ≡ to = length-take-le to out (omega (arith, l .room)) in
-    let ln : length (putMid to (length out - to) out ys) ≡ length out = ap length new ∙ length-append (take to out) ys ∙ omega (arith, t, lo, length-drop to out, l .room) in
+    let ln : length (putMid to (length out - to) out ys) ≡ length out = ap length new ∙ length-append (take to out) ys
+    ∙ omega (arith, t, lo, length-drop to out, l .room) in
     let more : ℕ = length rest - overMost in
     let front : take (to + length w) (take to out ++ ys) ≡ take to out ++ w =
-    ap (λ (x : ℕ). take (x + length w) (take to out ++ ys)) (sym t) ∙ take-append-add (take to out) ys (length w) ∙ ap (λ (x : List ℕ). take to out ++ x) (o .front) in
+    ap (λ (x : ℕ). take (x + length w) (take to out ++ ys)) (sym t) ∙ take-append-add (take to out) ys (length w)
+    ∙ ap (λ (x : List ℕ). take to out ++ x) (o .front) in
     let k : to + length w + length rest′ ≡ length (take to out) + (overMost + more) = omega (arith, q, t) in
     let beyond : drop (to + length w + length rest′) (take to out ++ ys) ≡ drop (to + length rest) out =
     ap (λ (x : ℕ). drop x (take to out ++ ys)) k ∙ drop-append-add (take to out) ys (overMost + more) ∙ sym (drop-drop more overMost ys)
-    ∙ ap (drop more) (o .beyond ∙ ap (drop overMost) (part-all to out)) ∙ drop-drop more overMost (drop to out) ∙ drop-drop (overMost + more) to out ∙ ap (λ (x : ℕ). drop (to + x) out) (omega arith) in
+    ∙ ap (drop more) (o .beyond ∙ ap (drop overMost) (part-all to out)) ∙ drop-drop more overMost (drop to out) ∙ drop-drop (overMost + more) to out
+    ∙ ap (λ (x : ℕ). drop (to + x) out) (omega arith) in
     record {
       kept = ln ∙ l .kept;
       room = omega (arith, q, n, ln, l .room);

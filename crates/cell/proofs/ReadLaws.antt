@@ -13,7 +13,8 @@ use lib.ListN.{length, getD, drop, replicate, length-drop}
 use lib.Seq.{drop-drop, getD-drop}
 use Rattle.xm.specs.Got.{got, refused, _at_}
 use Rattle.xm.specs.Cell.{five, lengthBy, fieldBy, fieldsBy, needed, cellAt, readCell, kepts}
-use Rattle.xm.proofs.Cell.{five-same, kepts-sum, ones-five, length-plain, length-marked, cell-plain, cell-marked, length-some, cell-length, fields-at, read-short, read-got, cell-read}
+use Rattle.xm.proofs.Cell.{five-same, kepts-sum, ones-five, length-plain, length-marked, cell-plain, cell-marked, length-some, cell-length, fields-at}
+use Rattle.xm.proofs.Cell.{read-short, read-got, cell-read}
 use Rattle.xm.proofs.Lay.{head-at}
 use Rattle.xm.proofs.Got.{got-both}
 use Rattle.refusal.specs.declared.Step.{Step}
@@ -70,7 +71,8 @@ pub record Tried (place : ℕ) (s : List ℕ) (next : ℕ) : Type 0 where
   pub fits : place + lengthBy (getD s place 0) ≤ length s
   pub long : next ≡ place + lengthBy (getD s place 0)
 
-pub tried : (place : ℕ) (s : List ℕ) {step : Step} {next : ℕ} → place ≤ length s → step ≡ placeStep place (readCell place (drop place s)) → step ≡ Next next → Tried place s next
+pub tried : (place : ℕ) (s : List ℕ) {step : Step} {next : ℕ} → place ≤ length s → step ≡ placeStep place (readCell place (drop place s)) → step ≡ Next next
+    → Tried place s next
 tried place s inside e told =
     next-got place (readCell place (drop place s)) (sym told ∙ e) λ cell used ec en.
     let r = cell-read place (drop place s) cell used ec in
@@ -140,7 +142,8 @@ last-ends : (field : Field) → field .place ≡ field .place + onesIn 0 (field 
 unfolding onesIn
 last-ends field = omega arith
 
-pub fields-end : {lead place : ℕ} {first second third fourth fifth behind : Field} → FirstField lead place first → NextField first second → NextField second third
+pub fields-end : {lead place : ℕ} {first second third fourth fifth behind : Field} → FirstField lead place first → NextField first second
+    → NextField second third
     → NextField third fourth → NextField fourth fifth → NextField fifth behind → behind .place ≡ place + lengthBy lead
 fields-end {lead} {place} {first} {behind = behind} f g h i j k =
     let start : first .place + onesIn 5 (first .bits) ≡ place + lengthBy lead = rw (f .place, f .bits) (length-bits place lead) in

@@ -58,7 +58,8 @@ module _ (s : List ℕ) (place : ℕ) where
       }
 
   -- The cells of a row, accepted or not, as the first and the rest
-  pub cells-first : (left : ℕ) → 0 < left → cellsIn left (drop place s) ≡ cellAt (drop place s) ∷ cellsIn (left - 1) (drop (place + lengthBy (getD s place 0)) s)
+  pub cells-first : (left : ℕ) → 0 < left
+      → cellsIn left (drop place s) ≡ cellAt (drop place s) ∷ cellsIn (left - 1) (drop (place + lengthBy (getD s place 0)) s)
   unfolding cellsIn
   cells-first zero some = absurd (omega arith)
   cells-first (suc left) some = let one : suc left - 1 ≡ left = omega arith in rw (one, drop-drop, head-at place s 0)
@@ -73,7 +74,8 @@ module _ (channels rows : ℕ) (d : List ℕ) (some : 1 ≤ length d) where
     pub stored-left : used < length d → readStored channels rows 0 d ≡ refused (8 at used)
     unfolding readCells
     stored-left h =
-        stored-some channels rows 0 d some ∙ step _ e (test-fails _ _ _ (λ k. omega arith)) ∙ ap {B = Got Pattern} (λ (n : ℕ). refused (8 at n)) (zero-add used)
+        stored-some channels rows 0 d some ∙ step _ e (test-fails _ _ _ (λ k. omega arith))
+        ∙ ap {B = Got Pattern} (λ (n : ℕ). refused (8 at n)) (zero-add used)
 
     pub stored-whole : length d ≤ used → readStored channels rows 0 d ≡ got (record { rows = rows; cells = cells }) used
     unfolding readCells

@@ -11,7 +11,8 @@ use lib.Seq.{drop-drop}
 use Rattle.xm.specs.Answer.{inFront}
 use Rattle.xm.specs.Lay.{lay}
 use Rattle.xm.specs.Cell.{cellSize, bit, kept, marks, kepts, marked, standsPlain, plainShorter, plainBy, goesPlain, writeCell}
-use Rattle.xm.proofs.Cell.{bit-most, kept-length, kepts-sum, marks-sum, kepts-most, marked-length, write-plain, write-marked, plain-many, many-plain, few-marked, marked-high}
+use Rattle.xm.proofs.Cell.{bit-most, kept-length, kepts-sum, marks-sum, kepts-most, marked-length, write-plain, write-marked, plain-many, many-plain}
+use Rattle.xm.proofs.Cell.{few-marked, marked-high}
 use Rattle.xm.proofs.Lay.{Laid, laid-none, laid-more, laid-set, laid-done, laid-long}
 
 -- Plain or marked, by the note and by how many fields are kept
@@ -47,7 +48,8 @@ module _ (a b c d e lead : ℕ) (isLead : lead ≡ 128 + marks (a ∷ b ∷ c �
   lead-less : (lead ≡ 159 → ⊥) → length (kepts (a ∷ b ∷ c ∷ d ∷ e ∷ [])) < 5
   lead-less h =
       rw (kepts-sum a b c d e)
-      (less (bit a) (bit b) (bit c) (bit d) (bit e) (bit-most a) (bit-most b) (bit-most c) (bit-most d) (bit-most e) (λ z. h (omega (arith, isLead, marks-sum a b c d e))))
+      (less (bit a) (bit b) (bit c) (bit d) (bit e) (bit-most a) (bit-most b) (bit-most c) (bit-most d) (bit-most e)
+      (λ z. h (omega (arith, isLead, marks-sum a b c d e))))
 
   -- So it tells, with the note, whether the cell goes plain
   pub lead-plain : (eqb lead 159 && ltb a 128) ≡ plainBy a (length (kepts (a ∷ b ∷ c ∷ d ∷ e ∷ [])))
@@ -64,9 +66,11 @@ unfolding writeCell goesPlain plainBy standsPlain plainShorter marked marks kept
 empty-written = refl
 
 -- The lead byte, and behind it the fields that are kept, which are still to be laid
-pub put-first : (lent cell : List ℕ) (lead : ℕ) → lead ≡ 128 + marks cell → 1 + length (kepts cell) ≤ length lent → Laid lent (marked cell) (set lent 0 lead) 1 (kepts cell)
+pub put-first : (lent cell : List ℕ) (lead : ℕ) → lead ≡ 128 + marks cell → 1 + length (kepts cell) ≤ length lent
+    → Laid lent (marked cell) (set lent 0 lead) 1 (kepts cell)
 unfolding marked
-put-first lent cell lead e h = laid-set (laid-none lent (marked cell) (omega (arith, marked-length cell))) lead (kepts cell) (ap (λ (x : ℕ). x ∷ kepts cell) (sym e))
+put-first lent cell lead e h =
+    laid-set (laid-none lent (marked cell) (omega (arith, marked-length cell))) lead (kepts cell) (ap (λ (x : ℕ). x ∷ kepts cell) (sym e))
 
 pub put-more : {lent goal out : List ℕ} {to : ℕ} (x : ℕ) (xs : List ℕ) → Laid lent goal out to (kepts (x ∷ xs)) → {new : List ℕ} {next : ℕ}
     → (next ≡ to + bit x) × (new ≡ lay out to (kept x)) → Laid lent goal new next (kepts xs)

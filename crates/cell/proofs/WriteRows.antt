@@ -17,13 +17,15 @@ pub first-length : {rest rest′ : List (List ℕ)} {cell : List ℕ} → rest �
     → length (joined writeCell rest) ≡ length (writeCell cell) + length (joined writeCell rest′)
 first-length {rest′ = rest′} {cell} e = ap (λ (r : List (List ℕ)). length (joined writeCell r)) e ∙ length-append (writeCell cell) (joined writeCell rest′)
 
-module _ {lent goal out : List ℕ} {to : ℕ} {rest rest′ : List (List ℕ)} {cell : List ℕ} (l : Laid lent goal out to (joined writeCell rest)) (first : rest ≡ cell ∷ rest′) where
+module _ {lent goal out : List ℕ} {to : ℕ} {rest rest′ : List (List ℕ)} {cell : List ℕ} (l : Laid lent goal out to (joined writeCell rest))
+    (first : rest ≡ cell ∷ rest′) where
   pub writing-room : to + length (writeCell cell) ≤ length out
   writing-room = omega (arith, l .room, first-length first)
 
   -- by a writer of one cell that was lent `&mut out[to..]`
   module _ (ys : List ℕ) (used : ℕ) (isUsed : used ≡ length (writeCell cell)) where
-    pub writing-part : ys ≡ inFront (writeCell cell) (take (length out - to) (drop to out)) → Laid lent goal (putMid to (length out - to) out ys) (to + used) (joined writeCell rest′)
+    pub writing-part : ys ≡ inFront (writeCell cell) (take (length out - to) (drop to out))
+        → Laid lent goal (putMid to (length out - to) out ys) (to + used) (joined writeCell rest′)
     writing-part e = laid-part l (writeCell cell) (joined writeCell rest′) (ap (joined writeCell) first) refl (ap (λ (n : ℕ). to + n) isUsed) e
 
     -- and may write too much, while there is more to write than that

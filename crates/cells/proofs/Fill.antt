@@ -38,7 +38,8 @@ pub record Filling (s goal lent out : List ℕ) (at to left : ℕ) : Type 0 wher
   pub room : to + left * 5 ≤ length out
   pub writes : Laid lent goal out to (flat (cellsIn left (drop at s)))
 
-pub filling-none : (s : List ℕ) (at count : ℕ) {out : List ℕ} {left : ℕ} → at ≤ length s → accepted (readRow count at (drop at s)) ≡ true → count * 5 ≤ length out
+pub filling-none : (s : List ℕ) (at count : ℕ) {out : List ℕ} {left : ℕ} → at ≤ length s → accepted (readRow count at (drop at s)) ≡ true
+    → count * 5 ≤ length out
     → left ≡ count → Filling s (flat (cellsIn count (drop at s))) out out at 0 left
 filling-none s at count {out} i a h e = rw e (record {
   inside = i;
@@ -48,11 +49,13 @@ filling-none s at count {out} i a h e = rw e (record {
 })
 
 module _ {s goal lent : List ℕ} where
-  move : {out : List ℕ} {at at′ to to′ left left′ : ℕ} → Filling s goal lent out at to left → at′ ≡ at → to′ ≡ to → left′ ≡ left → Filling s goal lent out at′ to′ left′
+  move : {out : List ℕ} {at at′ to to′ left left′ : ℕ} → Filling s goal lent out at to left → at′ ≡ at → to′ ≡ to → left′ ≡ left
+      → Filling s goal lent out at′ to′ left′
   move f a b c = rw (a, b, c) f
 
   -- w is written in front of what was lent from `to` on
-  module _ {out : List ℕ} {at to left : ℕ} (f : Filling s goal lent out at to left) {written : List ℕ} (w : List ℕ) (e : written ≡ inFront w (take (length out - to) (drop to out))) where
+  module _ {out : List ℕ} {at to left : ℕ} (f : Filling s goal lent out at to left) {written : List ℕ} (w : List ℕ)
+      (e : written ≡ inFront w (take (length out - to) (drop to out))) where
     put : putMid to (length out - to) out written ≡ take to out ++ inFront w (drop to out)
     put =
         let room = f .room in
@@ -90,7 +93,8 @@ lay-over out to v r h l =
     let front : length (take to out) ≡ to = length-take-le to out (omega arith) in
     let x : List ℕ = take to out ++ v in
     let lx : length x ≡ to + length v = length-append (take to out) v ∙ ap (λ (n : ℕ). n + length v) front in
-    let both : take to out ++ (v ++ drop (to + length v) out) ≡ x ++ drop (to + length v) out = sym (append-assoc (take to out) v (drop (to + length v) out)) in
+    let both : take to out ++ (v ++ drop (to + length v) out) ≡ x ++ drop (to + length v) out =
+    sym (append-assoc (take to out) v (drop (to + length v) out)) in
     let t : take to (take to out ++ (v ++ drop (to + length v) out)) ≡ take to out = take-at (take to out) _ to front in
     let e : to + length r ≡ length x + (length r - length v) = omega (arith, lx) in
     let f : to + length v + (length r - length v) ≡ to + length r = omega arith in
@@ -105,7 +109,8 @@ record Past (s : List ℕ) (left at k : ℕ) : Type 0 where
   fine : accepted (readRow (left - k) (at + k) (drop (at + k) s)) ≡ true
   cells : flat (cellsIn left (drop at s)) ≡ replicate (k * 5) 0 ++ flat (cellsIn (left - k) (drop (at + k) s))
 
-past-run : (s : List ℕ) (left at k : ℕ) → k ≤ left → at ≤ length s → accepted (readRow left at (drop at s)) ≡ true → ((i : ℕ) → i < k → getD s (at + i) 0 ≡ 128) → Past s left at k
+past-run : (s : List ℕ) (left at k : ℕ) → k ≤ left → at ≤ length s → accepted (readRow left at (drop at s)) ≡ true
+    → ((i : ℕ) → i < k → getD s (at + i) 0 ≡ 128) → Past s left at k
 past-run s left at k h i a all = run-over (Past s left at) s at k all none more
   where
     none : Past s left at 0
@@ -126,7 +131,8 @@ past-run s left at k h i a all = run-over (Past s left at) s at k all none more
           inside = omega (arith, r .fits);
           fine = rw (p, q) at (r .rest);
           cells =
-              w .cells ∙ ap (λ (x : List ℕ). replicate (i * 5) 0 ++ x) (ap flat (cells-first s (at + i) (left - i) (omega arith)) ∙ rw (p, q, empty-cell (at + i) s e))
+              w .cells ∙ ap (λ (x : List ℕ). replicate (i * 5) 0 ++ x)
+              (ap flat (cells-first s (at + i) (left - i) (omega arith)) ∙ rw (p, q, empty-cell (at + i) s e))
               ∙ sym (append-assoc (replicate (i * 5) 0) (replicate 5 0) rest)
               ∙ ap (λ (x : List ℕ). x ++ rest) (replicate-append-replicate (i * 5) 5 0 ∙ ap (λ (m : ℕ). replicate m 0) z);
         }

@@ -41,7 +41,8 @@ pub record Found (channels rows : ℕ) (d : List ℕ) : Type 0 where
   pub used : ℕ
   pub reads : readStored channels rows 0 d ≡ got pattern used
 
-pub found-of : (channels rows : ℕ) (d : List ℕ) {step : Step} {next : ℕ} → step ≡ placeStep 0 (readStored channels rows 0 d) → step ≡ Next next → Found channels rows d
+pub found-of : (channels rows : ℕ) (d : List ℕ) {step : Step} {next : ℕ} → step ≡ placeStep 0 (readStored channels rows 0 d) → step ≡ Next next
+    → Found channels rows d
 found-of channels rows d e told = next-got 0 (readStored channels rows 0 d) (sym told ∙ e) λ p n q en. record { pattern = p; used = n; reads = q }
 
 -- With some data, the cells of the pattern are those in a row, and they were accepted
@@ -105,7 +106,8 @@ refused-kept : (answer : Answer Pattern) (lent : List ℕ) {fault : Fault} → R
 refused-kept (gives p) lent e = absurd (let z : _≡_ {A = ℕ} 0 1 = cc in omega arith)
 refused-kept (refuses r) lent e = refl
 
-pub unpack-unchanged : (rows channels : ℕ) (stored lent : List ℕ) {fault : Fault} {held : List ℕ} → RefusedUnpacked fault ≡ unpackedOf (unpacking rows channels stored (length lent))
+pub unpack-unchanged : (rows channels : ℕ) (stored lent : List ℕ) {fault : Fault} {held : List ℕ}
+    → RefusedUnpacked fault ≡ unpackedOf (unpacking rows channels stored (length lent))
     → held ≡ unpackAfter rows channels stored lent → held ≡ lent
 unpack-unchanged rows channels stored lent told met = met ∙ refused-kept (unpacking rows channels stored (length lent)) lent told
 

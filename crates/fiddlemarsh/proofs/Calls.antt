@@ -33,7 +33,8 @@ tells : {A : Type 0} (value : A → ℕ) (answer : Answer A) {number other : ℕ
 tells value answer e t = rw e (record { loaded = t; refused-exactly = refused-exactly value answer t })
 
 -- and then the memory is as it was
-kept : {A M : Type 0} (value : A → ℕ) (memory : Answer A → M) (answer : Answer A) (lent : M) {number other : ℕ} {held : M} → ((r : Refusal) → memory (refuses r) ≡ lent)
+kept : {A M : Type 0} (value : A → ℕ) (memory : Answer A → M) (answer : Answer A) (lent : M) {number other : ℕ} {held : M}
+    → ((r : Refusal) → memory (refuses r) ≡ lent)
     → number ≡ other → held ≡ memory answer → LoaderTells value answer other → TellsKept value answer number lent held
 kept value memory answer lent stays e m t =
     let told = tells value answer e t in
@@ -47,7 +48,8 @@ tells-kept : {A B : Type 0} (value : A → ℕ) (written : A → List B) (answer
 tells-kept value written answer lent = kept value (λ a. after written a lent) answer lent (λ r. refl)
 
 -- No second number and no second memory
-once : {M : Type 0} {fixed number other : ℕ} {then held kept : M} → (number ≡ fixed) × (held ≡ then) → (other ≡ fixed) × (kept ≡ then) → (number ≡ other) × (held ≡ kept)
+once : {M : Type 0} {fixed number other : ℕ} {then held kept : M} → (number ≡ fixed) × (held ≡ then) → (other ≡ fixed) × (kept ≡ then)
+    → (number ≡ other) × (held ≡ kept)
 once met e = (met .0 ∙ sym (e .0), met .1 ∙ sym (e .1))
 
 -- Check
@@ -60,30 +62,38 @@ module _ (file : List ℕ) where
 
 -- Unpack
 module _ (rows channels : ℕ) (stored lent : List ℕ) where
-  pub unpack-tells : {number : ℕ} {held : List ℕ} → Unpacks rows channels stored lent number held → Bytes stored → TellsKept rowsRead (unpacking rows channels stored (length lent)) number lent held
+  pub unpack-tells : {number : ℕ} {held : List ℕ} → Unpacks rows channels stored lent number held → Bytes stored
+      → TellsKept rowsRead (unpacking rows channels stored (length lent)) number lent held
   unpack-tells met b =
-      tells-kept rowsRead cellBytes (unpacking rows channels stored (length lent)) lent (met .0) (met .1) (loaders-tell .unpack rows channels stored (length lent) b)
+      tells-kept rowsRead cellBytes (unpacking rows channels stored (length lent)) lent (met .0) (met .1)
+      (loaders-tell .unpack rows channels stored (length lent) b)
 
-  pub unpack-once : {number other : ℕ} {held kept : List ℕ} → Unpacks rows channels stored lent number held → Unpacks rows channels stored lent other kept → (number ≡ other) × (held ≡ kept)
+  pub unpack-once : {number other : ℕ} {held kept : List ℕ} → Unpacks rows channels stored lent number held → Unpacks rows channels stored lent other kept
+      → (number ≡ other) × (held ≡ kept)
   unpack-once = once
 
 -- Pack
 module _ (rows channels : ℕ) (cells lent : List ℕ) where
-  pub pack-tells : {number : ℕ} {held : List ℕ} → Packs rows channels cells lent number held → TellsKept lengthAndRows (packing rows channels cells (length lent)) number lent held
+  pub pack-tells : {number : ℕ} {held : List ℕ} → Packs rows channels cells lent number held
+      → TellsKept lengthAndRows (packing rows channels cells (length lent)) number lent held
   pack-tells met =
-      tells-kept lengthAndRows writeStored (packing rows channels cells (length lent)) lent (met .0) (met .1) (loaders-tell .pack rows channels cells (length lent))
+      tells-kept lengthAndRows writeStored (packing rows channels cells (length lent)) lent (met .0) (met .1)
+      (loaders-tell .pack rows channels cells (length lent))
 
   -- the length and the rows come back
-  pub pack-apart : {number : ℕ} {held : List ℕ} → Packs rows channels cells lent number held → (p : Pattern) → packing rows channels cells (length lent) ≡ gives p
+  pub pack-apart : {number : ℕ} {held : List ℕ} → Packs rows channels cells lent number held → (p : Pattern)
+      → packing rows channels cells (length lent) ≡ gives p
       → (number % 65536 ≡ length (writeStored p)) × (number / 65536 ≡ p .rows)
   pack-apart met p e = rw (met .0) (loaders-tell .pack-apart rows channels cells (length lent) p e)
 
-  pub pack-once : {number other : ℕ} {held kept : List ℕ} → Packs rows channels cells lent number held → Packs rows channels cells lent other kept → (number ≡ other) × (held ≡ kept)
+  pub pack-once : {number other : ℕ} {held kept : List ℕ} → Packs rows channels cells lent number held → Packs rows channels cells lent other kept
+      → (number ≡ other) × (held ≡ kept)
   pack-once = once
 
 -- Press
 module _ (file lent : List ℕ) where
-  pub press-tells : {number : ℕ} {held : List ℕ} → Presses file lent number held → Bytes file → TellsKept pressedLength (pressing file (length lent)) number lent held
+  pub press-tells : {number : ℕ} {held : List ℕ} → Presses file lent number held → Bytes file
+      → TellsKept pressedLength (pressing file (length lent)) number lent held
   press-tells met b =
       tells-kept pressedLength (λ (bytes : List ℕ). bytes) (pressing file (length lent)) lent (met .0) (met .1) (loaders-tell .press file (length lent) b)
 
@@ -92,48 +102,62 @@ module _ (file lent : List ℕ) where
 
 -- To either kind
 module _ (to : ModuleKind) (file lent : List ℕ) where
-  pub convert-tells : {number : ℕ} {held : List ℕ} → Converts to file lent number held → Bytes file → TellsKept pressedLength (converting to file (length lent)) number lent held
+  pub convert-tells : {number : ℕ} {held : List ℕ} → Converts to file lent number held → Bytes file
+      → TellsKept pressedLength (converting to file (length lent)) number lent held
   convert-tells met b =
-      tells-kept pressedLength (λ (bytes : List ℕ). bytes) (converting to file (length lent)) lent (met .0) (met .1) (loaders-tell .convert to file (length lent) b)
+      tells-kept pressedLength (λ (bytes : List ℕ). bytes) (converting to file (length lent)) lent (met .0) (met .1)
+      (loaders-tell .convert to file (length lent) b)
 
-  pub convert-once : {number other : ℕ} {held kept : List ℕ} → Converts to file lent number held → Converts to file lent other kept → (number ≡ other) × (held ≡ kept)
+  pub convert-once : {number other : ℕ} {held kept : List ℕ} → Converts to file lent number held → Converts to file lent other kept
+      → (number ≡ other) × (held ≡ kept)
   convert-once = once
 
 -- The check with tables
 module _ (file : List ℕ) (lent : Tables) where
-  pub tables-tells : {number : ℕ} {held : Tables} → Fills file lent number held → Bytes file → TellsKept Checked.end (checkingInto (roomOf lent) file) number lent held
+  pub tables-tells : {number : ℕ} {held : Tables} → Fills file lent number held → Bytes file
+      → TellsKept Checked.end (checkingInto (roomOf lent) file) number lent held
   unfolding tablesAfter
   tables-tells met b =
-      kept Checked.end (λ a. tablesAfter a lent) (checkingInto (roomOf lent) file) lent (λ r. refl) (met .0) (met .1) (loaders-tell .tables (roomOf lent) file b)
+      kept Checked.end (λ a. tablesAfter a lent) (checkingInto (roomOf lent) file) lent (λ r. refl) (met .0) (met .1)
+      (loaders-tell .tables (roomOf lent) file b)
 
   pub tables-once : {number other : ℕ} {held kept : Tables} → Fills file lent number held → Fills file lent other kept → (number ≡ other) × (held ≡ kept)
   tables-once = once
 
 -- Deltas to values
 module _ (width : ℕ) (bytes : List ℕ) (lent : List ℤ) where
-  pub decode-tells : {number : ℕ} {held : List ℤ} → Decodes width bytes lent number held → TellsKept countWritten (decodingLimited width bytes (length lent)) number lent held
+  pub decode-tells : {number : ℕ} {held : List ℤ} → Decodes width bytes lent number held
+      → TellsKept countWritten (decodingLimited width bytes (length lent)) number lent held
   decode-tells met =
-      tells-kept countWritten (λ (values : List ℤ). values) (decodingLimited width bytes (length lent)) lent (met .0) (met .1) (loaders-tell .decode width bytes (length lent))
+      tells-kept countWritten (λ (values : List ℤ). values) (decodingLimited width bytes (length lent)) lent (met .0) (met .1)
+      (loaders-tell .decode width bytes (length lent))
 
-  pub decode-once : {number other : ℕ} {held kept : List ℤ} → Decodes width bytes lent number held → Decodes width bytes lent other kept → (number ≡ other) × (held ≡ kept)
+  pub decode-once : {number other : ℕ} {held kept : List ℤ} → Decodes width bytes lent number held → Decodes width bytes lent other kept
+      → (number ≡ other) × (held ≡ kept)
   decode-once = once
 
 -- Values to deltas
 module _ (width : ℕ) (values : List ℤ) (lent : List ℕ) where
-  pub code-tells : {number : ℕ} {held : List ℕ} → Codes width values lent number held → TellsKept countWritten (codingLimited width values (length lent)) number lent held
+  pub code-tells : {number : ℕ} {held : List ℕ} → Codes width values lent number held
+      → TellsKept countWritten (codingLimited width values (length lent)) number lent held
   code-tells met =
-      tells-kept countWritten (λ (bytes : List ℕ). bytes) (codingLimited width values (length lent)) lent (met .0) (met .1) (loaders-tell .code width values (length lent))
+      tells-kept countWritten (λ (bytes : List ℕ). bytes) (codingLimited width values (length lent)) lent (met .0) (met .1)
+      (loaders-tell .code width values (length lent))
 
-  pub code-once : {number other : ℕ} {held kept : List ℕ} → Codes width values lent number held → Codes width values lent other kept → (number ≡ other) × (held ≡ kept)
+  pub code-once : {number other : ℕ} {held kept : List ℕ} → Codes width values lent number held → Codes width values lent other kept
+      → (number ≡ other) × (held ≡ kept)
   code-once = once
 
 -- ADPCM to values
 module _ (count : ℕ) (bytes : List ℕ) (lent : List ℤ) where
-  pub adpcm-tells : {number : ℕ} {held : List ℤ} → DecodesAdpcm count bytes lent number held → TellsKept countWritten (adpcmLimited count bytes (length lent)) number lent held
+  pub adpcm-tells : {number : ℕ} {held : List ℤ} → DecodesAdpcm count bytes lent number held
+      → TellsKept countWritten (adpcmLimited count bytes (length lent)) number lent held
   adpcm-tells met =
-      tells-kept countWritten (λ (values : List ℤ). values) (adpcmLimited count bytes (length lent)) lent (met .0) (met .1) (loaders-tell .adpcm count bytes (length lent))
+      tells-kept countWritten (λ (values : List ℤ). values) (adpcmLimited count bytes (length lent)) lent (met .0) (met .1)
+      (loaders-tell .adpcm count bytes (length lent))
 
-  pub adpcm-once : {number other : ℕ} {held kept : List ℤ} → DecodesAdpcm count bytes lent number held → DecodesAdpcm count bytes lent other kept → (number ≡ other) × (held ≡ kept)
+  pub adpcm-once : {number other : ℕ} {held kept : List ℤ} → DecodesAdpcm count bytes lent number held → DecodesAdpcm count bytes lent other kept
+      → (number ≡ other) × (held ≡ kept)
   adpcm-once = once
 
 -- The period

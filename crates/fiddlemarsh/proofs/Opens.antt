@@ -35,7 +35,8 @@ told : {A B : Type 0} (value : A → ℕ) (written : A → List B) (answer : Ans
 unfolding loaderNumber
 told value written answer lent e met = (met .0 ∙ ap (loaderNumber value) e, met .1 ∙ ap (λ (a : Answer _). after written a lent) e)
 
-module _ (file : List ℕ) (plain : Bytes file) (lent : Tables) (c : Checked) (accepted : checkingInto (roomOf lent) file ≡ gives c) {number : ℕ} {held : Tables} (met : Fills file lent number held)
+module _ (file : List ℕ) (plain : Bytes file) (lent : Tables) (c : Checked) (accepted : checkingInto (roomOf lent) file ≡ gives c) {number : ℕ} {held : Tables}
+    (met : Fills file lent number held)
   where
     abbrev channels : ℕ
     channels = c .found .0 .content .channels
@@ -47,7 +48,8 @@ module _ (file : List ℕ) (plain : Bytes file) (lent : Tables) (c : Checked) (a
     abbrev pub patternNumber : (k column : ℕ) → ℕ
     patternNumber k column = getD (held .patterns) (patternStride * k + column) 0
 
-    pub opens-pattern : (k : ℕ) (cells : List ℕ) {answer : ℕ} {then : List ℕ} → k < length (patternRows (c .found)) → length (cellBytes (patternIn k)) ≤ length cells
+    pub opens-pattern : (k : ℕ) (cells : List ℕ) {answer : ℕ} {then : List ℕ} → k < length (patternRows (c .found))
+        → length (cellBytes (patternIn k)) ≤ length cells
         → Unpacks (patternNumber k 2) channels (part (patternNumber k 0) (patternNumber k 1) file) cells answer then
         → (answer ≡ patternIn k .rows) × (then ≡ inFront (cellBytes (patternIn k)) cells)
     opens-pattern k cells low enough = rw (met .1) (told rowsRead cellBytes _ cells (filled-unpacks file plain lent c accepted k (length cells) low enough))
@@ -70,7 +72,8 @@ module _ (file : List ℕ) (plain : Bytes file) (lent : Tables) (c : Checked) (a
     dataIn k = part (sampleNumber k 1) (sampleNumber k 2) file
 
     -- A normal module's header stands whole at its place
-    pub opens-head : c .found .0 .kind ≡ normal → (k : ℕ) → k < length (sampleRows (c .found)) → (offset : ℕ) → offset < leastHead → byteAt offset (headIn k) ≡ byteAt (sampleNumber k 0 + offset) file
+    pub opens-head : c .found .0 .kind ≡ normal → (k : ℕ) → k < length (sampleRows (c .found)) → (offset : ℕ) → offset < leastHead
+        → byteAt offset (headIn k) ≡ byteAt (sampleNumber k 0 + offset) file
     opens-head q k low offset l = rw (met .1) (filled-whole file plain lent c accepted q k low offset l)
 
     -- No sample of a file is above the loader's limits
@@ -81,7 +84,8 @@ module _ (file : List ℕ) (plain : Bytes file) (lent : Tables) (c : Checked) (a
 
     -- A sample's loop is that of its header, in samples, and lies within the content's values
     pub opens-loop : (k : ℕ) → k < length (sampleRows (c .found))
-        → LoopReads (headAt c k) (sampleNumber k 3) (sampleNumber k 4) (sampleNumber k 5) (sampleNumber k 6) × (sampleNumber k 5 + sampleNumber k 6 ≤ length (valuesAt c k))
+        → LoopReads (headAt c k) (sampleNumber k 3) (sampleNumber k 4) (sampleNumber k 5) (sampleNumber k 6)
+        × (sampleNumber k 5 + sampleNumber k 6 ≤ length (valuesAt c k))
     opens-loop k low = rw (met .1) (filled-loops file plain lent c accepted k low)
 
     -- By the kind that stands in its header a sample's data decode to the content's values
@@ -90,7 +94,8 @@ module _ (file : List ℕ) (plain : Bytes file) (lent : Tables) (c : Checked) (a
       by-kind =
           let at : (column : ℕ) → column < sampleStride → _ = λ column l. sample-number file plain lent c accepted k column low l in
           rw (met .1) (rw (at 0 (omega arith), at 1 (omega arith), at 2 (omega arith), at 3 (omega arith))
-          (decodes-at file (c .found) (c .end) (accepted-files file (c .found) (c .end) plain (into-accepted (roomOf lent) file c accepted λ q room. q)) k low (length values) enough))
+          (decodes-at file (c .found) (c .end) (accepted-files file (c .found) (c .end) plain (into-accepted (roomOf lent) file c accepted λ q room. q)) k low
+          (length values) enough))
 
       -- of any kind but AD,
       pub opens-sample : {answer : ℕ} {then : List ℤ} → (kindIn k ≡ adpcm → ⊥) → Decodes (sampleNumber k 3) (dataIn k) values answer then

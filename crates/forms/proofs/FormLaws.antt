@@ -12,7 +12,8 @@ use Rattle.xm.specs.Got.{Told}
 use Rattle.xm.specs.Format.{each, joined, flat}
 use Rattle.xm.specs.Header.{kindAt}
 use Rattle.xm.specs.Sample.{leastHead, Stretch, headFormat, dataFormat, smallestHead}
-use Rattle.xm.specs.Instrument.{leastInstrument, leastStripped, samplesMost, instrumentSizeAt, countAt, headerSizeAt, fieldsOf, Instrument, GoodInstrument, readInstrument, countOf, writeFields, writeInstrument, instrumentView}
+use Rattle.xm.specs.Instrument.{leastInstrument, leastStripped, samplesMost, instrumentSizeAt, countAt, headerSizeAt, fieldsOf, Instrument, GoodInstrument}
+use Rattle.xm.specs.Instrument.{readInstrument, countOf, writeFields, writeInstrument, instrumentView}
 use Rattle.xm.proofs.Number.{bytes-drop}
 use Rattle.xm.proofs.Sample.{smallest-fits, cut-heads, cut-heads-size}
 use Rattle.xm.proofs.Instrument.{instrument-size}

@@ -193,7 +193,8 @@ module _ {file : List ℕ} {heads size count head most left : ℕ} (w : HeadsLef
     pub head-inside : head + size ≤ length file
     head-inside = omega (arith, w .inside, less)
 
-    pub heads-on : {more next : ℕ} → more ≡ length (trimmed (part most (leastHead - most) (take size (drop head file)))) → more ≤ leastHead - most → next ≡ most + more
+    pub heads-on : {more next : ℕ} → more ≡ length (trimmed (part most (leastHead - most) (take size (drop head file)))) → more ≤ leastHead - most
+        → next ≡ most + more
         → HeadsLeft file heads size count (head + size) next (left - 1)
     heads-on e l q =
         let rest : smallestHead (headsFrom (left - 1) size (drop size (drop head file))) ≡ smallestHead (headsFrom (left - 1) size (drop (head + size) file)) =

@@ -13,7 +13,8 @@ use Rattle.forms.specs.declared.Form.{Form}
 -- "I = 29 or 263 .. H = 40"; "Our stripped press uses the smallest H, then the smallest I".
 abbrev pub formBy : ModuleKind → Instrument → Form
 formBy normal x = record { size = leastInstrument (countOf x); «head_size» = leastHead; length = length (writeInstrument normal x) }
-formBy stripped x = record { size = leastStripped + length (writeFields x); «head_size» = smallestHead (x .samples .0); length = length (writeInstrument stripped x) }
+formBy stripped x =
+    record { size = leastStripped + length (writeFields x); «head_size» = smallestHead (x .samples .0); length = length (writeInstrument stripped x) }
 
 -- Of an instrument that was read from a place to the next: it may be longer, but by no more than fields and headers take.
 pub record FormIs (kind : ModuleKind) (place next : ℕ) (x : Instrument) (form : Form) : Type 0 where

@@ -14,7 +14,8 @@ use Rattle.xm.specs.ModuleKind.{padded}
 use Rattle.xm.specs.Answer.{inFront}
 use Rattle.xm.specs.Got.{Got, got, refused, _>>=_, _>>_, checked, _at_}
 use Rattle.xm.specs.Format.{each}
-use Rattle.xm.specs.Sample.{leastHead, headBytes, adpcm, adpcmSize, dataSizeBy, dataSize, Stretch, readHead, readData, headFormat, dataFormat, SamplesFound, samplesFormat, sizeOfFirst}
+use Rattle.xm.specs.Sample.{leastHead, headBytes, adpcm, adpcmSize, dataSizeBy, dataSize, Stretch, readHead, readData, headFormat, dataFormat, SamplesFound}
+use Rattle.xm.specs.Sample.{samplesFormat, sizeOfFirst}
 use Rattle.xm.proofs.Number.{Agree, agree-byte, agree-long}
 use Rattle.xm.proofs.Cut.{padded-length, take-padded, front-padded, padded-zeros}
 use Rattle.xm.proofs.Got.{pass, step, test-holds, test-fails, step-refused, passed, bind-got, got-value, got-used, got-carry}
@@ -42,7 +43,15 @@ module _ (bytes : List ℕ) (place : ℕ) where
 
   pub head-made : {length start looped form kind : ℕ} {finetune note : ℤ} → Long 0 from length → Long 4 from start → Long 8 from looped
       → finetune ≡ signed 8 (getD bytes (place + 13) 0) → Byte 14 from form → note ≡ signed 8 (getD bytes (place + 16) 0) → Byte 17 from kind
-      → HeadAt from (record { length = length; «loop_start» = start; «loop_length» = looped; finetune = finetune; form = form; «relative_note» = note; kind = kind })
+      → HeadAt from (record {
+        length = length;
+        «loop_start» = start;
+        «loop_length» = looped;
+        finetune = finetune;
+        form = form;
+        «relative_note» = note;
+        kind = kind;
+      })
   head-made l s o f t n k = record {
     value = cc (tune 13 f, tune 16 n);
     length-small = l .small;
@@ -53,7 +62,15 @@ module _ (bytes : List ℕ) (place : ℕ) where
 -- and are the same of any bytes that begin alike
 pub head-alike : {s t : List ℕ} → Agree fieldsEnd s t → {r : SampleHead} → HeadAt s r → HeadAt t r
 head-alike a v = record {
-  value = v .value ∙ cc (agree-long a 0 (omega arith), agree-long a 4 (omega arith), agree-long a 8 (omega arith), agree-byte a 13 (omega arith), agree-byte a 14 (omega arith), agree-byte a 16 (omega arith), agree-byte a 17 (omega arith));
+  value = v .value ∙ cc (
+    agree-long a 0 (omega arith),
+    agree-long a 4 (omega arith),
+    agree-long a 8 (omega arith),
+    agree-byte a 13 (omega arith),
+    agree-byte a 14 (omega arith),
+    agree-byte a 16 (omega arith),
+    agree-byte a 17 (omega arith),
+  );
   length-small = v .length-small;
   start-small = v .start-small;
   looped-small = v .looped-small;
@@ -99,7 +116,8 @@ module _ (file : List ℕ) (place size : ℕ) {head : SampleHead} (v : HeadAt (h
 
     pub head-passed : fault ≡ 0 → Next (place + size) ≡ placeStep place (readHead size place (drop place file))
     head-passed z =
-        sym (ap (placeStep place) (read-by ∙ pass (headTestsOf place head) (fault-holds place (headTestsOf place head) (omega arith) (e ∙ same-fault place head) z) refl))
+        sym (ap (placeStep place)
+        (read-by ∙ pass (headTestsOf place head) (fault-holds place (headTestsOf place head) (omega arith) (e ∙ same-fault place head) z) refl))
 
 -- Sample data: as many bytes as the header says, which are no more than a length can say
 module _ {bytes : List ℕ} {head : SampleHead} (v : HeadAt bytes head) where
@@ -125,7 +143,8 @@ module _ (file : List ℕ) (headPlace size place : ℕ) {head : SampleHead} (v :
   unfolding readData
   data-cut h l = sym (ap (placeStep place) (test-fails _ _ _ (λ q. omega (arith, same-size, length-drop place file))))
 
-  pub data-there : place + bytes ≤ length file → Next (place + bytes) ≡ placeStep place (readData (headBytes size (drop headPlace file)) place (drop place file))
+  pub data-there : place + bytes ≤ length file
+      → Next (place + bytes) ≡ placeStep place (readData (headBytes size (drop headPlace file)) place (drop place file))
   unfolding readData
   data-there h = ap (λ (n : ℕ). Next (place + n)) same-size ∙ sym (ap (placeStep place) (pass _ (omega (arith, same-size, length-drop place file), tt) refl))
 
@@ -151,13 +170,16 @@ module _ (file : List ℕ) (start size count : ℕ) where
 
     pub heads-on : j < count → {next : ℕ} → Next next ≡ placeStep place (readHead size place (drop place file)) → HeadsRead file start size count (j + 1) next
     heads-on h e = next-got place _ e λ i n ei q. record {
-      reached = reached-on headFormat _ file start (w .reached) size (rw length-replicate h) (getD-replicate count j size size h) (λ done. Unit {0}) ei q (λ t. tt);
+      reached = reached-on headFormat _ file start (w .reached) size (rw length-replicate h) (getD-replicate count j size size h) (λ done. Unit {0}) ei q
+          (λ t. tt);
       there = omega (arith, w .there, head-used size place (drop place file) ei .1);
     }
 
     pub heads-out : j < count → {step : Step} {f : Fault} → step ≡ placeStep place (readHead size place (drop place file)) → step ≡ Refused f
         → step ≡ placeStep start (each headFormat .read (replicate count size) start (drop start file))
-    heads-out h e told = refused-on place start _ _ e told λ r er. reached-out headFormat _ file start (w .reached) size (rw length-replicate h) (getD-replicate count j size size h) er
+    heads-out h e told =
+        refused-on place start _ _ e told λ r er.
+        reached-out headFormat _ file start (w .reached) size (rw length-replicate h) (getD-replicate count j size size h) er
 
     pub heads-end : count ≤ j → Next place ≡ placeStep start (each headFormat .read (replicate count size) start (drop start file))
     heads-end h = reached-place headFormat _ file start (w .reached) (rw length-replicate h)
@@ -199,16 +221,20 @@ module _ (file : List ℕ) (heads size count start : ℕ) where
       same-head d =
           getD-heads count size j (drop heads file) d h ∙ ap (headBytes size) (drop-drop (j * size) heads file ∙ ap (λ (n : ℕ). drop n file) (sym (w .there)))
 
-      pub data-on : {next : ℕ} → Next next ≡ placeStep place (readData (headBytes size (drop head file)) place (drop place file)) → DataRead file heads size count start (j + 1) (head + size) next
+      pub data-on : {next : ℕ} → Next next ≡ placeStep place (readData (headBytes size (drop head file)) place (drop place file))
+          → DataRead file heads size count start (j + 1) (head + size) next
       data-on e = next-got place _ e λ i n ei q. record {
-        reached = reached-on dataFormat _ file start (w .reached) (headBytes size (drop head file)) (rw length-heads h) (same-head _) (λ done. Unit {0}) ei q (λ t. tt);
+        reached =
+            reached-on dataFormat _ file start (w .reached) (headBytes size (drop head file)) (rw length-heads h) (same-head _) (λ done. Unit {0}) ei q
+            (λ t. tt);
         there = omega (arith, w .there);
         inside = omega (arith, w .inside, data-inside _ place (drop place file) ei, length-drop place file);
       }
 
       pub data-out : {step : Step} {f : Fault} → step ≡ placeStep place (readData (headBytes size (drop head file)) place (drop place file)) → step ≡ Refused f
           → step ≡ placeStep start (each dataFormat .read (headsFrom count size (drop heads file)) start (drop start file))
-      data-out e told = refused-on place start _ _ e told λ r er. reached-out dataFormat _ file start (w .reached) (headBytes size (drop head file)) (rw length-heads h) (same-head _) er
+      data-out e told = refused-on place start _ _ e told λ r er.
+          reached-out dataFormat _ file start (w .reached) (headBytes size (drop head file)) (rw length-heads h) (same-head _) er
 
     pub data-end : count ≤ j → Next place ≡ placeStep start (each dataFormat .read (headsFrom count size (drop heads file)) start (drop start file))
     data-end h = reached-place dataFormat _ file start (w .reached) (rw length-heads h)
@@ -243,7 +269,8 @@ module _ (file : List ℕ) (start size count : ℕ) where
       → placeStep next (each dataFormat .read (headsFrom count size (drop start file)) next (drop next file)) ≡ placeStep start samples
   samples-on e = next-got start heads e λ hs n eh q.
       rw q
-      (ap₂ (λ (views : List (List ℕ)) (s : List ℕ). placeStep (start + n) (each dataFormat .read views (start + n) s)) (sym (heads-viewed count size start (drop start file) hs n eh)) (sym (drop-drop n start file))
+      (ap₂ (λ (views : List (List ℕ)) (s : List ℕ). placeStep (start + n) (each dataFormat .read views (start + n) s))
+      (sym (heads-viewed count size start (drop start file) hs n eh)) (sym (drop-drop n start file))
       ∙ place-then hs start n _
       ∙ ap (placeStep start) (sym (step _ eh refl)))
 
@@ -254,7 +281,8 @@ module _ (file : List ℕ) (start size count : ℕ) where
 heads-written : (count size place : ℕ) (s : List ℕ) (is : List Stretch) (n : ℕ) → each headFormat .read (replicate count size) place s ≡ got is n
     → length (each headFormat .write (each headFormat .view is)) ≡ count * leastHead
 unfolding readHead
-heads-written zero size place s is n e = got-carry (λ (r : List Stretch) (u : ℕ). length (each headFormat .write (each headFormat .view r)) ≡ 0 * leastHead) e refl
+heads-written zero size place s is n e =
+    got-carry (λ (r : List Stretch) (u : ℕ). length (each headFormat .write (each headFormat .view r)) ≡ 0 * leastHead) e refl
 heads-written (suc count) size place s is n e =
     bind-got _ _ e λ i k ei e₁. bind-got _ _ e₁ λ js m ej e₂.
     passed _ _ ei λ h ei.
@@ -273,7 +301,8 @@ data-written (h ∷ hs) place s ds n e =
     got-carry (λ (r : List Stretch) (u : ℕ). length (each dataFormat .write (each dataFormat .view r)) ≡ u) e₂
     (rw length-append (omega (arith, one, got-used ei, data-written hs (place + k) (drop k s) js m ej)))
 
-first-size : (count size place : ℕ) (s : List ℕ) (is : List Stretch) (n : ℕ) → each headFormat .read (replicate (suc count) size) place s ≡ got is n → sizeOfFirst is ≡ size
+first-size : (count size place : ℕ) (s : List ℕ) (is : List Stretch) (n : ℕ) → each headFormat .read (replicate (suc count) size) place s ≡ got is n
+    → sizeOfFirst is ≡ size
 unfolding readHead
 first-size count size place s is n e =
     bind-got _ _ e λ i k ei e₁. bind-got _ _ e₁ λ js m ej e₂.
@@ -287,7 +316,8 @@ pub record SamplesSize (count size : ℕ) (v : SamplesFound) (n : ℕ) : Type 0 
   pub headed : length (each headFormat .write (each headFormat .view (v .0))) ≡ count * leastHead
   pub behind : length (each dataFormat .write (each dataFormat .view (v .1))) + count * size ≡ n
 
-pub samples-size : (count size place : ℕ) (s : List ℕ) (v : SamplesFound) (n : ℕ) → samplesFormat .read (replicate count size) place s ≡ got v n → SamplesSize count size v n
+pub samples-size : (count size place : ℕ) (s : List ℕ) (v : SamplesFound) (n : ℕ) → samplesFormat .read (replicate count size) place s ≡ got v n
+    → SamplesSize count size v n
 samples-size count size place s v n e =
     bind-got _ _ e λ hs m eh e₁. bind-got _ _ e₁ λ ds k ed e₂.
     let used = heads-used count size place s hs m eh in

@@ -47,7 +47,8 @@ module _ (file : List ℕ) (at size from count : ℕ) where
   cut = drop from (take size (drop at file))
 
   pub cut-none : size ≤ from → replicate count 0 ≡ padded count cut
-  cut-none h = sym (ap (padded count) (drop-of-length-le (take size (drop at file)) {i = from} (omega (arith, length-take size (drop at file)))) ∙ padded-none count)
+  cut-none h =
+      sym (ap (padded count) (drop-of-length-le (take size (drop at file)) {i = from} (omega (arith, length-take size (drop at file)))) ∙ padded-none count)
 
   module _ (there : at + size ≤ length file) (some : from < size) where
     own : cut ≡ take (size - from) (drop (at + from) file)

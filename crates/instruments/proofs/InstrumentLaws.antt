@@ -11,7 +11,9 @@ use Rattle.xm.specs.Got.{got, AllHold, listIn, Told}
 use Rattle.xm.specs.Format.{each, joined, flat}
 use Rattle.xm.specs.Header.{kindAt}
 use Rattle.xm.specs.Sample.{leastHead, Stretch, readData, headFormat, dataFormat, SamplesFound, samplesFormat, cutSamplesFormat, smallestHead}
-use Rattle.xm.specs.Instrument.{leastInstrument, leastStripped, voiceFrom, voiceSize, instrumentSizeAt, countAt, headerSizeAt, fieldsOf, instrumentTests, Instrument, InstrumentFound, voiceOf, readInstrument, writeVoice, countOf, writeFields, writeInstrument, GoodInstrument, instrumentView}
+use Rattle.xm.specs.Instrument.{leastInstrument, leastStripped, voiceFrom, voiceSize, instrumentSizeAt, countAt, headerSizeAt, fieldsOf, instrumentTests}
+use Rattle.xm.specs.Instrument.{Instrument, InstrumentFound, voiceOf, readInstrument, writeVoice, countOf, writeFields, writeInstrument, GoodInstrument}
+use Rattle.xm.specs.Instrument.{instrumentView}
 use Rattle.xm.proofs.Number.{bytes-drop, bytes-take}
 use Rattle.xm.proofs.Got.{no-true, passed, bind-got, got-value, got-used, got-carry}
 use Rattle.xm.proofs.Cut.{padded-length, padded-bytes, padded-drop, padded-long, take-padded, trimmed-le, trimmed-take}
@@ -40,18 +42,22 @@ module _ (kind : ModuleKind) (place : ℕ) (s : List ℕ) (h : AllHold (instrume
   abbrev own : List ℕ
   own = take (instrumentSizeAt s) s
 
-  fields-part : (from count : ℕ) → 1 ≤ count → from + count ≤ 241 → (kind ≡ normal → from + count ≤ instrumentSizeAt s) → part from count fields ≡ padded count (drop from own)
+  fields-part : (from count : ℕ) → 1 ≤ count → from + count ≤ 241 → (kind ≡ normal → from + count ≤ instrumentSizeAt s)
+      → part from count fields ≡ padded count (drop from own)
   fields-part from count some low whole = go kind h whole
     where
-      go : (kind : ModuleKind) → AllHold (instrumentTests kind place s) → (kind ≡ normal → from + count ≤ instrumentSizeAt s) → part from count (fieldsOf kind s) ≡ padded count (drop from own)
+      go : (kind : ModuleKind) → AllHold (instrumentTests kind place s) → (kind ≡ normal → from + count ≤ instrumentSizeAt s)
+          → part from count (fieldsOf kind s) ≡ padded count (drop from own)
       go normal h whole =
           let size = whole refl in
           let n : count ≡ 0 + from + count - (0 + from) = omega arith in
           let at : from ≡ 0 + from = omega arith in
-          ap₂ (λ (a b : ℕ). take a (drop b s)) n at ∙ cut-whole s 0 (instrumentSizeAt s) from count (omega (arith, fields-pass normal place s h .there)) (omega arith) (omega arith)
+          ap₂ (λ (a b : ℕ). take a (drop b s)) n at ∙ cut-whole s 0 (instrumentSizeAt s) from count (omega (arith, fields-pass normal place s h .there))
+          (omega arith) (omega arith)
       go stripped h whole =
           let n : 241 ≡ from + (241 - from) = omega arith in
-          ap (λ (k : ℕ). part from count (padded k own)) n ∙ ap (take count) (padded-drop from (241 - from) own) ∙ take-padded count (241 - from) (drop from own) (omega arith)
+          ap (λ (k : ℕ). part from count (padded k own)) n ∙ ap (take count) (padded-drop from (241 - from) own)
+          ∙ take-padded count (241 - from) (drop from own) (omega arith)
 
   fields-plain : Bytes s → Bytes fields
   fields-plain b = go kind
@@ -73,7 +79,8 @@ module _ (kind : ModuleKind) (place : ℕ) (s : List ℕ) (h : AllHold (instrume
       sym
       (part-split 4 22 3 fields
       ∙ ap (λ (l : List ℕ). part 4 22 fields ++ l)
-      (part-split 26 1 2 fields ∙ ap₂ (λ (x y : List ℕ). x ++ y) (byte-kept 26 fields (omega (arith, fields-there))) (word-kept 27 (fields-plain b) fields-there)))
+      (part-split 26 1 2 fields
+      ∙ ap₂ (λ (x y : List ℕ). x ++ y) (byte-kept 26 fields (omega (arith, fields-there))) (word-kept 27 (fields-plain b) fields-there)))
       ∙ fields-part 4 25 (omega arith) (omega arith) (least kind h)
     where
       least : (kind : ModuleKind) → AllHold (instrumentTests kind place s) → kind ≡ normal → 29 ≤ instrumentSizeAt s
@@ -90,7 +97,8 @@ module _ (kind : ModuleKind) (place : ℕ) (s : List ℕ) (h : AllHold (instrume
       least stripped h some e = absurd (no-true (cc))
 
 -- What is written of an instrument, by these bytes
-regroup : (size name type count voice samples : List ℕ) → size ++ (name ++ (type ++ (count ++ (voice ++ (samples ++ []))))) ≡ (size ++ (name ++ (type ++ (count ++ voice)))) ++ samples
+regroup : (size name type count voice samples : List ℕ)
+    → size ++ (name ++ (type ++ (count ++ (voice ++ (samples ++ []))))) ≡ (size ++ (name ++ (type ++ (count ++ voice)))) ++ samples
 regroup size name type count voice samples = simp (append-assoc, append-nil)
 
 regroup-fields : (name type count head voice : List ℕ) → name ++ (type ++ (count ++ (head ++ (voice ++ [])))) ≡ (name ++ (type ++ count)) ++ (head ++ voice)
@@ -107,14 +115,18 @@ module _ (x : Instrument) (s : List ℕ) (front : x .name ++ (byte (x .type) ++ 
   start = padded 25 (drop 4 s)
 
   -- in a normal module
-  normal-fields : (n : ℕ) → countOf x ≡ n → x .name ++ (byte (x .type) ++ (word (countOf x) ++ writeVoice n (x .voice))) ≡ padded (leastInstrument n - leastStripped) (start ++ voiceIn leastHead s)
+  normal-fields : (n : ℕ) → countOf x ≡ n
+      → x .name ++ (byte (x .type) ++ (word (countOf x) ++ writeVoice n (x .voice)))
+      ≡ padded (leastInstrument n - leastStripped) (start ++ voiceIn leastHead s)
   unfolding writeVoice
   normal-fields zero e =
-      ap (λ (l : List ℕ). x .name ++ (byte (x .type) ++ l)) (append-nil (word (countOf x))) ∙ front ∙ sym (fields-short 29 (drop 4 s) (voiceIn leastHead s) (omega arith))
+      ap (λ (l : List ℕ). x .name ++ (byte (x .type) ++ l)) (append-nil (word (countOf x))) ∙ front
+      ∙ sym (fields-short 29 (drop 4 s) (voiceIn leastHead s) (omega arith))
   normal-fields (suc n) e =
       let voice = padded voiceSize (drop voiceFrom s) in
       let long-all : length (start ++ voiceIn leastHead s) ≡ 237 =
-      length-append start (voiceIn leastHead s) ∙ omega (arith, padded-length 25 (drop 4 s), length-append (long leastHead) voice, padded-length voiceSize (drop voiceFrom s)) in
+      length-append start (voiceIn leastHead s)
+      ∙ omega (arith, padded-length 25 (drop 4 s), length-append (long leastHead) voice, padded-length voiceSize (drop voiceFrom s)) in
       regroup (x .name) (byte (x .type)) (word (countOf x)) (long leastHead) (x .voice) (replicate 22 0)
       ∙ ap (λ (l : List ℕ). l ++ replicate 22 0) (sym (regroup-four (x .name) (byte (x .type)) (word (countOf x)) (long leastHead) (x .voice)))
       ∙ ap₂ (λ (a b : List ℕ). (a ++ (long leastHead ++ b)) ++ replicate 22 0) front (voiced (omega arith))
@@ -126,7 +138,8 @@ module _ (x : Instrument) (s : List ℕ) (front : x .name ++ (byte (x .type) ++ 
   written-normal : writeInstrument normal x ≡ fieldsIn (leastInstrument (countOf x)) leastHead s ++ samplesFormat .write (x .samples)
   unfolding writeInstrument
   written-normal =
-      regroup (long (leastInstrument (countOf x))) (x .name) (byte (x .type)) (word (countOf x)) (writeVoice (countOf x) (x .voice)) (samplesFormat .write (x .samples))
+      regroup (long (leastInstrument (countOf x))) (x .name) (byte (x .type)) (word (countOf x)) (writeVoice (countOf x) (x .voice))
+      (samplesFormat .write (x .samples))
       ∙ ap (λ (l : List ℕ). (long (leastInstrument (countOf x)) ++ l) ++ samplesFormat .write (x .samples)) (normal-fields (countOf x) refl)
 
   -- in a stripped one
@@ -146,14 +159,17 @@ module _ (x : Instrument) (s : List ℕ) (front : x .name ++ (byte (x .type) ++ 
   trimmed-short : countOf x ≡ 0 → length (writeFields x) ≤ length start
   unfolding writeFields trimmed before
   trimmed-short z =
-      let none : length (trimmed (long H ++ x .voice)) ≡ 0 = ap₂ (λ (h : ℕ) (v : List ℕ). length (trimmed (long h ++ v))) (none-smallest (x .samples .0) z) (bare z) in
+      let none : length (trimmed (long H ++ x .voice)) ≡ 0 =
+      ap₂ (λ (h : ℕ) (v : List ℕ). length (trimmed (long h ++ v))) (none-smallest (x .samples .0) z) (bare z) in
       omega (arith, ap (λ (l : List ℕ). length (trimmed l)) all-parts, ap length (trimmed-front start (long H ++ x .voice) none), trimmed-le start)
 
   stripped-fields : (n : ℕ) → countOf x ≡ n → writeFields x ≡ padded (length (writeFields x)) (start ++ voiceIn H s)
   stripped-fields zero e =
       let n = length (writeFields x) in
-      trimmed-all ∙ ap (padded n) all-parts ∙ padded-front n start (long H ++ x .voice) (trimmed-short e) ∙ sym (padded-front n start (voiceIn H s) (trimmed-short e))
-  stripped-fields (suc n) e = trimmed-all ∙ ap (padded (length (writeFields x))) (all-parts ∙ ap (λ (l : List ℕ). start ++ (long H ++ l)) (voiced (omega arith)))
+      trimmed-all ∙ ap (padded n) all-parts ∙ padded-front n start (long H ++ x .voice) (trimmed-short e)
+      ∙ sym (padded-front n start (voiceIn H s) (trimmed-short e))
+  stripped-fields (suc n) e =
+      trimmed-all ∙ ap (padded (length (writeFields x))) (all-parts ∙ ap (λ (l : List ℕ). start ++ (long H ++ l)) (voiced (omega arith)))
 
   written-stripped : writeInstrument stripped x ≡ fieldsIn (leastStripped + length (writeFields x)) H s ++ cutSamplesFormat H .write (x .samples)
   unfolding writeInstrument
@@ -162,13 +178,22 @@ module _ (x : Instrument) (s : List ℕ) (front : x .name ++ (byte (x .type) ++ 
       let n : length (writeFields x) ≡ leastStripped + length (writeFields x) - leastStripped = omega arith in
       ap (λ (l : List ℕ). size ++ (writeFields x ++ l)) (append-nil (cutSamplesFormat H .write (x .samples)))
       ∙ sym (append-assoc size (writeFields x) (cutSamplesFormat H .write (x .samples)))
-      ∙ ap (λ (l : List ℕ). (size ++ l) ++ cutSamplesFormat H .write (x .samples)) (stripped-fields (countOf x) refl ∙ ap (λ (k : ℕ). padded k (start ++ voiceIn H s)) n)
+      ∙ ap (λ (l : List ℕ). (size ++ l) ++ cutSamplesFormat H .write (x .samples))
+      (stripped-fields (countOf x) refl ∙ ap (λ (k : ℕ). padded k (start ++ voiceIn H s)) n)
 
   -- its fields are no more than there are
   stripped-high : length (writeFields x) ≤ 237
   unfolding writeFields
   stripped-high =
-      omega (arith, trimmed-le all, ap length all-parts, length-append start (long H ++ x .voice), length-append (long H) (x .voice), padded-length 25 (drop 4 s), voice-few (countOf x) refl)
+      omega (
+        arith,
+        trimmed-le all,
+        ap length all-parts,
+        length-append start (long H ++ x .voice),
+        length-append (long H) (x .voice),
+        padded-length 25 (drop 4 s),
+        voice-few (countOf x) refl,
+      )
     where
       voice-few : (n : ℕ) → countOf x ≡ n → length (x .voice) ≤ 208
       voice-few zero e = omega (arith, ap length (bare e))
@@ -254,7 +279,9 @@ module _ (file : List ℕ) (place : ℕ) (piece : InstrumentPart) where
         ∙ ap (λ (n : ℕ). padded 25 (drop 4 (take n from))) (sym (lies .size))
 
     voiced : 1 ≤ countOf x → x .voice ≡ padded voiceSize (drop voiceFrom cut)
-    voiced some = voice-read kind place from (r .tests) k refl (omega (arith, counted)) ∙ ap (λ (n : ℕ). padded voiceSize (drop voiceFrom (take n from))) (sym (lies .size))
+    voiced some =
+        voice-read kind place from (r .tests) k refl (omega (arith, counted))
+        ∙ ap (λ (n : ℕ). padded voiceSize (drop voiceFrom (take n from))) (sym (lies .size))
 
     bare : countOf x ≡ 0 → x .voice ≡ []
     bare z = ap (λ (n : ℕ). voiceOf n (fieldsOf kind from)) (sym counted ∙ z)
@@ -313,7 +340,8 @@ module _ (file : List ℕ) (place : ℕ) (piece : InstrumentPart) where
       written = written-stripped x cut front voiced bare ∙ ap (λ (l : List ℕ). fieldsBy (formBy stripped x) ++ l) (samples-cut (smallestHead (x .samples .0)));
     }
 
-    pub instrument-lies : {to : ModuleKind} {form : Form} → Told (λ i. FormIs to place (piece .next) (instrumentView i) form) (readInstrument kind place from) → InstrumentLies to form
+    pub instrument-lies : {to : ModuleKind} {form : Form} → Told (λ i. FormIs to place (piece .next) (instrumentView i) form) (readInstrument kind place from)
+        → InstrumentLies to form
     instrument-lies {to} {form} told =
         let f : FormIs to place (piece .next) x form = rw (r .is) at told in
         let w : Shape to form = rw (f .is) (shape to) in

@@ -29,7 +29,8 @@ few-zeros (suc (suc zero)) s h = refl
 few-zeros (suc (suc (suc zero))) s h = refl
 few-zeros (suc (suc (suc (suc n)))) s h = absurd (omega arith)
 
-pub voice-short : (count headSize : ℕ) (s : List ℕ) → 1 ≤ count → count < 4 → headSize < 256 → padded count (voiceIn headSize s) ≡ byte headSize ++ replicate (count - 1) 0
+pub voice-short : (count headSize : ℕ) (s : List ℕ) → 1 ≤ count → count < 4 → headSize < 256
+    → padded count (voiceIn headSize s) ≡ byte headSize ++ replicate (count - 1) 0
 voice-short count headSize s some few low =
     let rest = padded voiceSize (drop voiceFrom s) in
     ap (λ (l : List ℕ). padded count (l ++ rest)) (long-low headSize low)
@@ -48,7 +49,8 @@ module _ (size : ℕ) (d v : List ℕ) where
 
 pub fields-size : (size headSize : ℕ) (s : List ℕ) → leastStripped ≤ size → length (fieldsIn size headSize s) ≡ size
 fields-size size headSize s h =
-    length-append (long size) (padded (size - 4) (padded 25 (drop 4 s) ++ voiceIn headSize s)) ∙ omega (arith, padded-length (size - 4) (padded 25 (drop 4 s) ++ voiceIn headSize s))
+    length-append (long size) (padded (size - 4) (padded 25 (drop 4 s) ++ voiceIn headSize s))
+    ∙ omega (arith, padded-length (size - 4) (padded 25 (drop 4 s) ++ voiceIn headSize s))
 
 -- Headers in a row, of each as many bytes as are kept: the first of them, and how many they are
 module _ (size kept : ℕ) (few : kept ≤ leastHead) where
@@ -64,14 +66,20 @@ module _ (size kept : ℕ) (few : kept ≤ leastHead) where
   heads-size zero s = sym (zero-mul kept)
   heads-size (suc count) s =
       length-append (take kept (headBytes size s)) (headsIn count size kept (drop size s))
-      ∙ omega (arith, suc-mul count kept, length-take-le kept (headBytes size s) (omega (arith, padded-length leastHead (take size s))), heads-size count (drop size s))
+      ∙ omega (
+        arith,
+        suc-mul count kept,
+        length-take-le kept (headBytes size s) (omega (arith, padded-length leastHead (take size s))),
+        heads-size count (drop size s),
+      )
 
 -- whole ones are those of 40 bytes
 pub heads-whole : (count size : ℕ) (s : List ℕ) → joined (λ (head : List ℕ). head) (headsFrom count size s) ≡ headsIn count size leastHead s
 unfolding headsFrom
 heads-whole zero size s = refl
 heads-whole (suc count) size s =
-    ap₂ (λ (a b : List ℕ). a ++ b) (sym (take-all leastHead (headBytes size s) (omega (arith, padded-length leastHead (take size s))))) (heads-whole count size (drop size s))
+    ap₂ (λ (a b : List ℕ). a ++ b) (sym (take-all leastHead (headBytes size s) (omega (arith, padded-length leastHead (take size s)))))
+    (heads-whole count size (drop size s))
 
 -- The loop over them: those that are left are still to be laid
 pub record HeadsLeft (file lent goal : List ℕ) (size kept left head : ℕ) (out : List ℕ) (to : ℕ) : Type 0 where
@@ -90,7 +98,9 @@ module _ (file lent : List ℕ) (size kept : ℕ) (few : kept ≤ leastHead) whe
 
     module _ (some : 0 < left) where
       less : left * size ≡ size + (left - 1) * size
-      less = let n : left ≡ 1 + (left - 1) = omega arith in ap (λ (m : ℕ). m * size) n ∙ add-mul 1 (left - 1) size ∙ ap (λ (m : ℕ). m + (left - 1) * size) (one-mul size)
+      less =
+          let n : left ≡ 1 + (left - 1) = omega arith in
+          ap (λ (m : ℕ). m * size) n ∙ add-mul 1 (left - 1) size ∙ ap (λ (m : ℕ). m + (left - 1) * size) (one-mul size)
 
       pub head-inside : head + size ≤ length file
       head-inside = omega (arith, w .inside, less)

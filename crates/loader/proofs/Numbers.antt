@@ -90,7 +90,8 @@ module _ (rows channels : ℕ) (stored : List ℕ) (room : ℕ) {unpacked : Unpa
 
   pub unpack-fits : Bytes stored → unpackNumber unpacked < 2 ^ 64
   unpack-fits b =
-      rw unpack-same (fits rowsRead (unpacking rows channels stored room) (unpackLoader rows channels stored room) (loaders-tell .unpack rows channels stored room b)
+      rw unpack-same (fits rowsRead (unpacking rows channels stored room) (unpackLoader rows channels stored room)
+      (loaders-tell .unpack rows channels stored room b)
       (λ r e. demand₁ .unpack rows channels stored b .numbered room r e .1))
 
 module _ (rows channels : ℕ) (cells : List ℕ) (room : ℕ) {packed : Packed} (met : packed ≡ packedOf (packing rows channels cells room)) where

@@ -81,7 +81,8 @@ module _ (marks : List ℕ) (number mark : ℕ) (small : mark < 4) (inside : num
   kept : (other : ℕ) → (other ≡ number → ⊥) → markAt (set marks (number / 32) word) other ≡ markAt marks other
   kept other apart = go (eqb (other / 32) (number / 32)) refl
     where
-      stays : (below : Bool) → ltb other number ≡ below → other / 32 ≡ number / 32 → twoAt word (bitsOf other) ≡ twoAt (getD marks (number / 32) 0) (bitsOf other)
+      stays : (below : Bool) → ltb other number ≡ below → other / 32 ≡ number / 32
+          → twoAt word (bitsOf other) ≡ twoAt (getD marks (number / 32) 0) (bitsOf other)
       stays true l q = two-lower _ _ _ small (bitsOf other) (omega (arith, ltb-true other number l))
       stays false l q = two-higher _ _ _ small (bitsOf other) (omega (arith, ltb-false other number l, apart))
 
@@ -93,7 +94,9 @@ module _ (marks : List ℕ) (number mark : ℕ) (small : mark < 4) (inside : num
   mark-put = record { size = length-set marks (number / 32) word; put = ap (λ (n : ℕ). twoAt n (bitsOf number)) there ∙ two-put _ _ _ small; kept = kept }
 
 -- One more mark, behind those of the patterns that were read
-pub marks-more : (file : List ℕ) (first : ℕ) (done : List PatternFound) {marks after : List ℕ} {i : PatternFound} {number mark : ℕ} → number ≡ first + length done → Put marks number mark after
+pub marks-more : (file : List ℕ) (first : ℕ) (done : List PatternFound) {marks after : List ℕ} {i : PatternFound} {number mark : ℕ}
+    → number ≡ first + length done → Put marks number mark after
     → Marks file first done marks → Marked file i mark → Marks file first (done ++ (i ∷ [])) after
 marks-more file first [] {after = after} e p m t = (record { is = ap (markAt after) (omega arith) ∙ p .put ∙ t .is }, tt)
-marks-more file first (d ∷ done) e p m t = (record { is = p .kept first (λ q. omega arith) ∙ m .0 .is }, marks-more file (suc first) done (omega arith) p (m .1) t)
+marks-more file first (d ∷ done) e p m t =
+    (record { is = p .kept first (λ q. omega arith) ∙ m .0 .is }, marks-more file (suc first) done (omega arith) p (m .1) t)

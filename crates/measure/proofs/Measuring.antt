@@ -71,7 +71,8 @@ size-path p q r = cc
 -- One cell more
 measured-more : (s : List ℕ) (left used shortest : ℕ) (same : Bool) → 0 < left → {cell : List ℕ} {k : ℕ} → readCell used (drop used s) ≡ got cell k
     → measuredOn used shortest same (drop used s) (readRow left used (drop used s))
-    ≡ measuredOn (used + k) (shortest + length (writeCell cell)) (same && isShort (drop used s)) (drop (used + k) s) (readRow (left - 1) (used + k) (drop (used + k) s))
+    ≡ measuredOn (used + k) (shortest + length (writeCell cell)) (same && isShort (drop used s)) (drop (used + k) s)
+    (readRow (left - 1) (used + k) (drop (used + k) s))
 measured-more s left used shortest same some {cell} {k} e =
     ap (measuredOn used shortest same d) (row-more s used left some e) ∙ go (readRow (left - 1) (used + k) (drop (used + k) s)) refl
   where
@@ -82,7 +83,8 @@ measured-more s left used shortest same some {cell} {k} e =
     r = cell-read used d cell k e
 
     go : (g : Got (List (List ℕ))) → readRow (left - 1) (used + k) (drop (used + k) s) ≡ g
-        → measuredOn used shortest same d (onto cell k g) ≡ measuredOn (used + k) (shortest + length (writeCell cell)) (same && isShort d) (drop (used + k) s) g
+        → measuredOn used shortest same d (onto cell k g)
+        ≡ measuredOn (used + k) (shortest + length (writeCell cell)) (same && isShort d) (drop (used + k) s) g
     go (refused r) q = refl
     go (got js m) q =
         let w = writeCell cell in
@@ -96,7 +98,8 @@ measured-more s left used shortest same some {cell} {k} e =
         size-path (sym (add-assoc used k m)) (ap (λ (n : ℕ). shortest + n) (length-append w rest) ∙ sym (add-assoc shortest (length w) (length rest)))
         (ap (λ (b : Bool). same && b)
         (ap (λ (l : List ℕ). sameBytes l (w ++ rest)) (take-add k m d ∙ ap (λ (l : List ℕ). take k d ++ take m l) (drop-drop k used s))
-        ∙ same-append (take k d) (take m (drop (used + k) s)) w rest (isShort d) (omega (arith, ap length written, r .long, write-short d)) (omega (arith, row .short))
+        ∙ same-append (take k d) (take m (drop (used + k) s)) w rest (isShort d) (omega (arith, ap length written, r .long, write-short d))
+        (omega (arith, row .short))
         (λ t. written ∙ x .0 t ∙ sym stands) (λ t. x .1 (sym written ∙ t ∙ stands)))
         ∙ sym (and-assoc same (isShort d) (sameBytes (take m (drop (used + k) s)) rest)))
 
@@ -113,7 +116,8 @@ module _ {s : List ℕ} {answer : StoredStep} where
 
   module _ {used shortest : ℕ} {same : Bool} {left : ℕ} (v : Measuring s answer used shortest same left) where
     pub measuring-more : 0 < left → {k cost next : ℕ} {same′ : Bool} → readCell used (drop used s) ≡ got (cellAt (drop used s)) k → next ≡ used + k
-        → cost ≡ length (writeCell (cellAt (drop used s))) → same′ ≡ (same && isShort (drop used s)) → Measuring s answer next (shortest + cost) same′ (left - 1)
+        → cost ≡ length (writeCell (cellAt (drop used s))) → same′ ≡ (same && isShort (drop used s))
+        → Measuring s answer next (shortest + cost) same′ (left - 1)
     measuring-more some {k} e en ec es =
         let i = v .inside in
         let m = v .small in
@@ -140,7 +144,8 @@ kept-five s k = omega (arith, k, kepts-most (cellAt s), cell-length s)
 pub measuring-cell : {s : List ℕ} {answer : StoredStep} {used shortest : ℕ} {same : Bool} {left : ℕ} → Measuring s answer used shortest same left → 0 < left
     → readCell used (drop used s) ≡ got (cellAt (drop used s)) (lengthBy (getD s used 0)) → {next long kept least : ℕ} {same′ : Bool}
     → next ≡ used + lengthBy (getD s used 0) → long ≡ lengthBy (getD s used 0) → kept ≡ length (kepts (cellAt (drop used s)))
-    → least ≡ shortestBy (getD (cellAt (drop used s)) 0 0) kept → same′ ≡ (same && shortBy (getD s used 0) long kept least) → Measuring s answer next (shortest + least) same′ (left - 1)
+    → least ≡ shortestBy (getD (cellAt (drop used s)) 0 0) kept → same′ ≡ (same && shortBy (getD s used 0) long kept least)
+    → Measuring s answer next (shortest + least) same′ (left - 1)
 measuring-cell {s} {answer} {used} {shortest} {same} v some reads en el ek eleast es =
     let d = drop used s in
     let cost = eleast ∙ ap (shortestBy (getD (cellAt d) 0 0)) ek ∙ shortest-by (cellAt d) (cell-length d) in

@@ -22,11 +22,13 @@ use Rattle.measure.specs.declared.StoredStep.the-variants.{Read, Refused
 use Rattle.measure.specs.Measure.{sameBytes, measuredOn, storedOf}
 
 -- No data: empty cells, which are written as no bytes
-pub measured-none : (channels rows : ℕ) (d : List ℕ) → length d ≡ 0 → Read (record { used = 0; shortest = 0; same = true }) ≡ storedOf d (readStored channels rows 0 d)
+pub measured-none : (channels rows : ℕ) (d : List ℕ) → length d ≡ 0
+    → Read (record { used = 0; shortest = 0; same = true }) ≡ storedOf d (readStored channels rows 0 d)
 unfolding sameBytes
 measured-none channels rows [] h =
     sym (ap (storedOf []) (stored-none channels rows 0 [] refl)
-    ∙ ap (λ (w : List ℕ). Read (record { used = 0; shortest = length w; same = sameBytes [] w })) (write-none (emptyRows channels rows) (rows-none channels rows)))
+    ∙ ap (λ (w : List ℕ). Read (record { used = 0; shortest = length w; same = sameBytes [] w }))
+    (write-none (emptyRows channels rows) (rows-none channels rows)))
 measured-none channels rows (x ∷ d) h = absurd (omega arith)
 
 same-nothing : (d : List ℕ) → 1 ≤ length d → false ≡ sameBytes d []
@@ -39,7 +41,8 @@ module _ (channels rows : ℕ) (d : List ℕ) (some : 1 ≤ length d) {step : St
   pub measured-refused : {f : Fault} → step ≡ Refused f → step ≡ storedOf d (readStored channels rows 0 d)
   measured-refused {f} told = go (readRow (rows * channels) 0 d) refl (sym told ∙ e)
     where
-      go : (g : Got (List (List ℕ))) → readRow (rows * channels) 0 d ≡ g → Refused f ≡ measuredOn 0 0 true d g → step ≡ storedOf d (readStored channels rows 0 d)
+      go : (g : Got (List (List ℕ))) → readRow (rows * channels) 0 d ≡ g → Refused f ≡ measuredOn 0 0 true d g
+          → step ≡ storedOf d (readStored channels rows 0 d)
       go (got cells used) q t = absurd (no-true (cc))
       go (refused r) q t = told ∙ t ∙ sym (ap (storedOf d) (stored-refused channels rows d some q))
 
@@ -61,7 +64,9 @@ module _ (channels rows : ℕ) (d : List ℕ) (some : 1 ≤ length d) {step : St
     measured-left h = found λ cells reads l b. sym (ap (storedOf d) (stored-left channels rows d some reads h))
 
     module _ (all : length d ≤ size .used) {shortest : ℕ} (long : shortest ≡ sizeBy (rows * channels) (size .shortest)) where
-      whole : {R : Type 0} → ((p : Pattern) → readStored channels rows 0 d ≡ got p (size .used) → shortest ≡ length (writeStored p) → size .shortest ≡ length (joined writeCell (p .cells))
+      whole : {R : Type 0}
+          → ((p : Pattern) → readStored channels rows 0 d ≡ got p (size .used) → shortest ≡ length (writeStored p)
+          → size .shortest ≡ length (joined writeCell (p .cells))
           → size .same ≡ sameBytes d (joined writeCell (p .cells)) → R) → R
       whole k = found λ cells reads l b.
           let p : Pattern = record { rows = rows; cells = cells } in
@@ -75,9 +80,11 @@ module _ (channels rows : ℕ) (d : List ℕ) (some : 1 ≤ length d) {step : St
       unfolding sameBytes
       measured-nothing z = whole λ p reads w l b.
           ap (λ (x : Bool). Read (record { used = size .used; shortest = 0; same = x })) (same-nothing d some)
-          ∙ sym (ap (storedOf d) reads ∙ ap (λ (x : List ℕ). Read (record { used = size .used; shortest = length x; same = sameBytes d x })) (stored-nothing p (sym w ∙ z)))
+          ∙ sym (ap (storedOf d) reads
+          ∙ ap (λ (x : List ℕ). Read (record { used = size .used; shortest = length x; same = sameBytes d x })) (stored-nothing p (sym w ∙ z)))
 
       pub measured-whole : (shortest ≡ 0 → ⊥) → Read size ≡ storedOf d (readStored channels rows 0 d)
       measured-whole z = whole λ p reads w l b.
           ap₂ (λ (n : ℕ) (x : Bool). Read (record { used = size .used; shortest = n; same = x })) l b
-          ∙ sym (ap (storedOf d) reads ∙ ap (λ (x : List ℕ). Read (record { used = size .used; shortest = length x; same = sameBytes d x })) (stored-cells p (omega (arith, w))))
+          ∙ sym (ap (storedOf d) reads
+          ∙ ap (λ (x : List ℕ). Read (record { used = size .used; shortest = length x; same = sameBytes d x })) (stored-cells p (omega (arith, w))))

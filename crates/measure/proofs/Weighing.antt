@@ -62,7 +62,8 @@ module _ (odd more shortest least used long : ℕ) (h : shortest ≤ used) (k : 
       let t = and-both (eqb (odd + more) 0) (eqb (shortest + least) (used + long)) e in
       let p = eqb-true (odd + more) 0 (t .0) in
       let q = eqb-true (shortest + least) (used + long) (t .1) in
-      both-and (both-and (eq-eqb odd 0 (omega arith)) (eq-eqb shortest used (omega arith))) (both-and (eq-eqb more 0 (omega arith)) (eq-eqb least long (omega arith))))
+      both-and (both-and (eq-eqb odd 0 (omega arith)) (eq-eqb shortest used (omega arith)))
+      (both-and (eq-eqb more 0 (omega arith)) (eq-eqb least long (omega arith))))
 
 -- Of `count` cells `left` are still to come, from `used` on, and the loop's answer is to be `answer`
 pub record Weighing (s : List ℕ) (answer : StoredStep) (count used left extra odd : ℕ) : Type 0 where
@@ -87,7 +88,8 @@ weighing-start s count = record {
 }
 
 module _ {s : List ℕ} {answer : StoredStep} {count : ℕ} (bytes : (i : ℕ) → getD s i 0 ≤ 255) where
-  move : {used used′ left left′ extra extra′ odd odd′ : ℕ} → Weighing s answer count used left extra odd → used′ ≡ used → left′ ≡ left → extra′ ≡ extra → odd′ ≡ odd
+  move : {used used′ left left′ extra extra′ odd odd′ : ℕ} → Weighing s answer count used left extra odd → used′ ≡ used → left′ ≡ left → extra′ ≡ extra
+      → odd′ ≡ odd
       → Weighing s answer count used′ left′ extra′ odd′
   move v p q r t = rw (p, q, r, t) v
 
@@ -112,15 +114,18 @@ module _ {s : List ℕ} {answer : StoredStep} {count : ℕ} (bytes : (i : ℕ) �
       }
 
   -- The cells of a block, as far as they stand inside what there is
-  pub weighing-block : (place size : ℕ) (lengths weights : List ℕ) → Follows (lengthsFrom s place) size lengths → Follows (weightsFrom s place) size weights → place + size ≤ length s
+  pub weighing-block : (place size : ℕ) (lengths weights : List ℕ) → Follows (lengthsFrom s place) size lengths → Follows (weightsFrom s place) size weights
+      → place + size ≤ length s
       → {left extra odd : ℕ} {walk : Weigh} → Weighing s answer count place left extra odd → walk ≡ weighOf (weighed lengths weights size left 0 extra odd)
       → place + walk .at ≤ length s → Weighing s answer count (place + walk .at) (walk .left) (walk .extra) (walk .odd)
   weighing-block place size lengths weights long heavy inside {left} {extra} {odd} {walk} v e h =
-      rw e (walked-over (added weights) lengths size (λ (at left : ℕ) (sums : Sums). Weighing s answer count (place + at) left (sums .extra) (sums .odd)) (length s - place)
+      rw e (walked-over (added weights) lengths size (λ (at left : ℕ) (sums : Sums). Weighing s answer count (place + at) left (sums .extra) (sums .odd))
+      (length s - place)
       (λ at left sums below far w.
       let l = long .right at below in
       let g = heavy .right at below in
-      move (weighing-more w (omega arith) (omega arith)) (omega arith) (omega arith) (omega arith) (omega arith)) left 0 (record { extra = extra; odd = odd }) (move v (omega arith) refl refl refl)
+      move (weighing-more w (omega arith) (omega arith)) (omega arith) (omega arith) (omega arith) (omega arith)) left 0 (record { extra = extra; odd = odd })
+      (move v (omega arith) refl refl refl)
       (omega (arith, ap Weigh.at e)))
 
   -- Cells in their shortest form, of bytes none of which is 0: each has the weight 1
@@ -130,7 +135,8 @@ module _ {s : List ℕ} {answer : StoredStep} {count : ℕ} (bytes : (i : ℕ) �
     weighing-one {used} {left} v some wide e =
         let d = drop used s in
         let few = v .fewer in
-        let one = weight-one d (λ i h z. some-all (length s) s none (used + i) (omega arith) (sym (getD-drop used s i 0) ∙ z)) (rw (head-at used s 0, getD-drop used s 1 0) e) in
+        let one = weight-one d (λ i h z. some-all (length s) s none (used + i) (omega arith) (sym (getD-drop used s i 0) ∙ z))
+        (rw (head-at used s 0, getD-drop used s 1 0) e) in
         move (weighing-more v some (omega (arith, length-six (getD s used 0)))) refl refl (omega (arith, one)) (omega (arith, one))
 
     -- A turn: empty cells, or one, and a last one
@@ -149,17 +155,20 @@ module _ {s : List ℕ} {answer : StoredStep} {count : ℕ} (bytes : (i : ℕ) �
             move (run-over (λ i. Weighing s answer count (used + i) (left - i) (count - (left - i)) 0) s used (r .cells) (e .0 .all)
             (move v (omega arith) (omega arith) (omega arith) refl)
             (λ i h empty w.
-            move (weighing-one w (omega arith) (omega arith) (empty-lead (getD s (used + i) 0) (getD s (used + i + 1) 0) empty)) (omega (arith, empty-length (used + i) s empty)) (omega arith) (omega arith) refl)) (e .1) refl refl refl
+            move (weighing-one w (omega arith) (omega arith) (empty-lead (getD s (used + i) 0) (getD s (used + i + 1) 0) empty))
+            (omega (arith, empty-length (used + i) s empty)) (omega arith) (omega arith) refl)) (e .1) refl refl refl
         front false p =
             let e = a .one (eqb-false (getD s used 0) 128 p) in
             move (weighing-one v (omega arith) (omega arith) first) (e .1) (omega (arith, e .0)) (omega (arith, e .0)) refl
 
 -- A block with some bytes has one cell or more
-pub block-less : (lengths weights : List ℕ) (size left extra odd : ℕ) {walk : Weigh} → 0 < size → 0 < left → walk ≡ weighOf (weighed lengths weights size left 0 extra odd) → walk .left < left
+pub block-less : (lengths weights : List ℕ) (size left extra odd : ℕ) {walk : Weigh} → 0 < size → 0 < left
+    → walk ≡ weighOf (weighed lengths weights size left 0 extra odd) → walk .left < left
 block-less lengths weights size left extra odd h k e = rw e (walked-some (added weights) lengths size left (record { extra = extra; odd = odd }) h k)
 
 -- What was skipped, as a weighing, and the other way round
-pub skip-start : (s : List ℕ) (count : ℕ) (r : Skip) → Skipped s count r → Weighing s (measuredOn 0 0 true s (readRow count 0 s)) count (r .used) (r .left) (count - r .left) 0
+pub skip-start : (s : List ℕ) (count : ℕ) (r : Skip) → Skipped s count r
+    → Weighing s (measuredOn 0 0 true s (readRow count 0 s)) count (r .used) (r .left) (count - r .left) 0
 skip-start s count r k =
     let i = k .inside in
     let f = k .fewer in
@@ -173,7 +182,8 @@ skip-start s count r k =
       small = (omega arith, omega arith);
     }
 
-pub skip-end : (s : List ℕ) (count used left : ℕ) → someOf (length s) s ≡ length s → Weighing s (measuredOn 0 0 true s (readRow count 0 s)) count used left (count - left) 0
+pub skip-end : (s : List ℕ) (count used left : ℕ) → someOf (length s) s ≡ length s
+    → Weighing s (measuredOn 0 0 true s (readRow count 0 s)) count used left (count - left) 0
     → Skipped s count (record { used = used; left = left })
 skip-end s count used left none v =
     let i = v .measuring .inside in
@@ -183,7 +193,12 @@ skip-end s count used left none v =
     omega (arith, some-add used (length s - used) s, ap (λ (n : ℕ). someOf n s) rest, some-most used s, some-most (length s - used) (drop used s)) in
     let short : v .shortest ≡ used = omega (arith, v .sum) in
     let same : v .same ≡ true = v .even ∙ eq-eqb (v .shortest) used short in
-    record { inside = i; fewer = f; some = all; rest = v .measuring .rest ∙ ap₂ (λ (n : ℕ) (b : Bool). measuredOn used n b (drop used s) (readRow left used (drop used s))) short same }
+    record {
+      inside = i;
+      fewer = f;
+      some = all;
+      rest = v .measuring .rest ∙ ap₂ (λ (n : ℕ) (b : Bool). measuredOn used n b (drop used s) (readRow left used (drop used s))) short same;
+    }
 
 pub skip-none : (s : List ℕ) (count : ℕ) → Skipped s count (record { used = 0; left = count })
 unfolding someOf

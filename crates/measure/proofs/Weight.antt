@@ -11,7 +11,8 @@ use lib.ListN.{length, getD, drop, length-append}
 use lib.Seq.{drop-drop, getD-drop}
 use Rattle.xm.specs.Cell.{five, fieldsBy, needed, cellAt, bit, kept, kepts, writeCell}
 use Rattle.xm.specs.Short.{shortestBy, isShort}
-use Rattle.xm.proofs.Cell.{bit-most, bit-none, bit-some, kept-length, kepts-most, kepts-sum, ones-five, length-plain, length-marked, cell-plain, cell-marked, cell-length, many-plain, few-marked, marked-high}
+use Rattle.xm.proofs.Cell.{bit-most, bit-none, bit-some, kept-length, kepts-most, kepts-sum, ones-five, length-plain, length-marked, cell-plain, cell-marked}
+use Rattle.xm.proofs.Cell.{cell-length, many-plain, few-marked, marked-high}
 use Rattle.xm.proofs.Lay.{head-at}
 use Rattle.xm.proofs.Short.{shortest-by}
 use Rattle.cell.proofs.Bits.{ones-all, all-ones}
@@ -117,7 +118,8 @@ module _ (d : List ℕ) (small : getD d 0 0 ≤ 255) where
         (omega arith, rw (lt-ltb lead 160 (omega arith), eq-eqb (lead / 128 + fields) (needed d) (omega arith)), omega arith)
     plain-says false e =
         let lacks = eqb-false (bit lead + others) 5 e in
-        let few : fields ≤ 4 = omega (arith, plain-kept, lacks, bit-most lead, bit-most (getD d 1 0), bit-most (getD d 2 0), bit-most (getD d 3 0), bit-most (getD d 4 0)) in
+        let few : fields ≤ 4 =
+        omega (arith, plain-kept, lacks, bit-most lead, bit-most (getD d 1 0), bit-most (getD d 2 0), bit-most (getD d 3 0), bit-most (getD d 4 0)) in
         let c : shortest ≡ 1 + fields = cost ∙ rw (few-marked note fields few) in
         let n = length-plain lead plain in
         (omega arith, rw (lt-ltb lead 160 (omega arith), ne-eqb (lead / 128 + fields) (needed d) (λ z. omega arith)), omega arith)
@@ -158,7 +160,8 @@ module _ (d : List ℕ) (small : getD d 0 0 ≤ 255) where
         → (ltb lead 160 && (eqb (lead / 128 + fields) (needed d) && eqb shortest (needed d))) ≡ (eqb (weight / 16) 0 && eqb shortest (needed d))
     marked-same weight least true e q =
         rw (e, q) (and-implied (eqb (lead / 128 + fields) (needed d)) (eqb shortest (needed d))
-        (λ t. eq-eqb (lead / 128 + fields) (needed d) (omega (arith, eqb-true shortest (needed d) t, marked-length, marked-kept, some-most (onesIn 5 lead) (drop 1 d)))))
+        (λ t. eq-eqb (lead / 128 + fields) (needed d)
+        (omega (arith, eqb-true shortest (needed d) t, marked-length, marked-kept, some-most (onesIn 5 lead) (drop 1 d)))))
     marked-same weight least false e q = rw (e, q)
 
     odd-weight : (x : ℕ) → x ≤ 1 → (v : Bool) → eqb ((x + cond v 0 16) / 16) 0 ≡ v
@@ -218,7 +221,21 @@ pub weight-by : (s : List ℕ) (place : ℕ) {a b c d e plain marked weight : �
     → weight ≡ cond (ltb (getD s place 0) 128) plain marked → weight ≡ weightOf (drop place s)
 unfolding weightOf
 weight-by s place ea eb ec ed ee ep em ew =
-    ew ∙ rw (ep, em, ea, eb, ec, ed, ee, head-at place s 0, getD-drop place s 1 0, getD-drop place s 2 0, getD-drop place s 3 0, getD-drop place s 4 0, getD-drop place s 5 0)
+    ew ∙ rw (
+      ep,
+      em,
+      ea,
+      eb,
+      ec,
+      ed,
+      ee,
+      head-at place s 0,
+      getD-drop place s 1 0,
+      getD-drop place s 2 0,
+      getD-drop place s 3 0,
+      getD-drop place s 4 0,
+      getD-drop place s 5 0,
+    )
 
 pub cond-most : (t : Bool) {a b n : ℕ} → a ≤ n → b ≤ n → cond t a b ≤ n
 cond-most true h k = h

@@ -64,4 +64,5 @@ pub record Skipped (s : List ℕ) (count : ℕ) (r : Skip) : Type 0 where
   pub inside : r .used ≤ length s
   pub fewer : r .left ≤ count
   pub some : someOf (r .used) s ≡ r .used
-  pub rest : measuredOn 0 0 true s (readRow count 0 s) ≡ measuredOn (r .used) (r .used) true (drop (r .used) s) (readRow (r .left) (r .used) (drop (r .used) s))
+  pub rest : measuredOn 0 0 true s (readRow count 0 s)
+      ≡ measuredOn (r .used) (r .used) true (drop (r .used) s) (readRow (r .left) (r .used) (drop (r .used) s))

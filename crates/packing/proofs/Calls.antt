@@ -36,9 +36,11 @@ module _ (rows channels : ℕ) (cells lent : List ℕ) {answer : Packed} {out : 
   packs-unchanged refused = met .1 ∙ refused-unchanged writeStored asked lent (λ a. refused (subst accepts (sym reported) a))
 
   -- Unpacking what was packed returns its cells
-  pub packs-unpack : (room : List ℕ) → Bytes cells → accepts (packedNumbers answer) → length cells ≤ length room → UnpacksToCells rows channels cells room (packedNumbers answer) out
+  pub packs-unpack : (room : List ℕ) → Bytes cells → accepts (packedNumbers answer) → length cells ≤ length room
+      → UnpacksToCells rows channels cells room (packedNumbers answer) out
   packs-unpack room b a h =
-      subst₂ (UnpacksToCells rows channels cells room) (sym reported) (sym (met .1)) (demand₂ .unpack rows channels cells lent room b (subst accepts reported a) h)
+      subst₂ (UnpacksToCells rows channels cells room) (sym reported) (sym (met .1))
+      (demand₂ .unpack rows channels cells lent room b (subst accepts reported a) h)
 
   -- 15 and 14 exactly when: of well-formed cells
   refused-with : (number : ℕ) → 1 ≤ number → (packedNumbers answer ≡ number ∷ 0 ∷ 0 ∷ 0 ∷ []) ↔ (asked ≡ refuses (number at 0))
@@ -60,7 +62,8 @@ module _ (rows channels : ℕ) (cells lent : List ℕ) {answer : Packed} {out : 
       small-enough : asked ≡ refuses (15 at 0) → ⊥
       small-enough e = fits (refused-with 15 (omega arith) .1 e)
 
-      pub packs-no-room : (packedNumbers answer ≡ 14 ∷ 0 ∷ 0 ∷ 0 ∷ []) ↔ ((row : ℕ) (bytes : List ℕ) → StoredFormOf channels pattern row bytes → length lent < length bytes)
+      pub packs-no-room : (packedNumbers answer ≡ 14 ∷ 0 ∷ 0 ∷ 0 ∷ []) ↔
+          ((row : ℕ) (bytes : List ℕ) → StoredFormOf channels pattern row bytes → length lent < length bytes)
       packs-no-room =
           let d = demand₃ .patterns rows channels cells (length lent) well .no-room-exactly small-enough in
           let w = refused-with 14 (omega arith) in
@@ -71,7 +74,8 @@ module _ (rows channels : ℕ) (cells lent : List ℕ) {answer : Packed} {out : 
       packs-written room =
           let d = demand₃ .patterns rows channels cells (length lent) well in
           let given = d .given-else small-enough (λ e. room (refused-with 14 (omega arith) .1 e)) in
-          let stands : take (length (writeStored pattern)) (inFront (writeStored pattern) lent) ≡ writeStored pattern = take-append-seam (writeStored pattern) _ in
+          let stands : take (length (writeStored pattern)) (inFront (writeStored pattern) lent) ≡ writeStored pattern =
+          take-append-seam (writeStored pattern) _ in
           subst₂ (PackWritten channels pattern lent) (sym (reported ∙ ap (numbers (storedLength ∷ rowsRead ∷ [])) given))
           (sym (met .1 ∙ ap (λ (a : Answer Pattern). after writeStored a lent) given))
           (record { accepted = refl; reads = rw stands (d .written given); shortest = d .shortest; beyond = drop-append-seam (writeStored pattern) _ })

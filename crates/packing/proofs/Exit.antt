@@ -23,7 +23,8 @@ use Rattle.packing.specs.declared.Packed.{Packed}
 use Rattle.packing.specs.declared.Packed.the-variants.{Stored}
 use Rattle.packing.specs.Packed.{packedOf}
 
-pub form-path : {size size′ rows rows′ : ℕ} → size ≡ size′ → rows ≡ rows′ → Stored (record { length = size; rows = rows }) ≡ Stored (record { length = size′; rows = rows′ })
+pub form-path : {size size′ rows rows′ : ℕ} → size ≡ size′ → rows ≡ rows′
+    → Stored (record { length = size; rows = rows }) ≡ Stored (record { length = size′; rows = rows′ })
 form-path p q = cc
 
 -- The tests for 16 and for 15 hold, and the length is known
@@ -48,7 +49,8 @@ sized rows channels cells range {shortest} h k l = record {
   long = l ∙ ap₂ sizeBy (sym (cells-length (rows * channels) cells)) k ∙ size-by (patternOf rows channels cells) (cells-fives (rows * channels) cells);
 }
 
-pub sized-cells : {rows channels : ℕ} {cells : List ℕ} {size : ℕ} → Sized rows channels cells size → 0 < size → size ≡ length (joined writeCell (cellsOf (rows * channels) cells))
+pub sized-cells : {rows channels : ℕ} {cells : List ℕ} {size : ℕ} → Sized rows channels cells size → 0 < size
+    → size ≡ length (joined writeCell (cellsOf (rows * channels) cells))
 sized-cells {rows} {channels} {cells} s h = s .long ∙ ap length (stored-cells (patternOf rows channels cells) (omega (arith, s .long)))
 
 -- Cells that take more than data can be: so does the stored form, for no pattern has so many that are empty
@@ -81,7 +83,8 @@ module _ (rows channels : ℕ) (cells lent : List ℕ) where
     pub packs-narrow : {answer : Packed} → answer ≡ packedOf (refuses (14 at 0)) → length lent < size → Packs answer lent
     packs-narrow a h = packs-refused (pack-room rows channels cells (length lent) (s .range) (omega (arith, s .small, s .long)) (omega (arith, s .long))) a
 
-    packs-stored : size ≤ length lent → {answer : Packed} (out : List ℕ) → answer ≡ Stored (record { length = size; rows = rows }) → out ≡ inFront (writeStored (patternOf rows channels cells)) lent
+    packs-stored : size ≤ length lent → {answer : Packed} (out : List ℕ) → answer ≡ Stored (record { length = size; rows = rows })
+        → out ≡ inFront (writeStored (patternOf rows channels cells)) lent
         → Packs answer out
     packs-stored h out a o =
         rw (pack-gives rows channels cells (length lent) (s .range) (omega (arith, s .small, s .long)) (omega (arith, s .long)))

@@ -21,7 +21,8 @@ five-zero a b c d e h =
     let he : e ≡ 0 = omega arith in
     cc
 
-pub lent-first : (n place : ℕ) (s : List ℕ) {cell : List ℕ} → 0 < n → five (drop place s) ≡ cell → cellsOf n (drop place s) ≡ cell ∷ cellsOf (n - 1) (drop (place + 5) s)
+pub lent-first : (n place : ℕ) (s : List ℕ) {cell : List ℕ} → 0 < n → five (drop place s) ≡ cell
+    → cellsOf n (drop place s) ≡ cell ∷ cellsOf (n - 1) (drop (place + 5) s)
 unfolding cellsOf
 lent-first zero place s h e = absurd (omega arith)
 lent-first (suc n) place s h e =

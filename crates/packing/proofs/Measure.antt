@@ -36,11 +36,13 @@ module _ {cells : List ℕ} {count place shortest left : ℕ} (m : Measuring cel
   }
 
   -- one more, by its note and by how many of its fields are kept
-  module _ (h : 0 < left) {kept used : ℕ} (isKept : kept ≡ length (kepts (five (drop place cells)))) (isUsed : used ≡ shortestBy (getD cells place 0) kept) where
+  module _ (h : 0 < left) {kept used : ℕ} (isKept : kept ≡ length (kepts (five (drop place cells))))
+      (isUsed : used ≡ shortestBy (getD cells place 0) kept) where
     more-bytes : shortest + used + length (joined writeCell (cellsOf (left - 1) (drop (place + 5) cells))) ≡ length (joined writeCell (cellsOf count cells))
     more-bytes =
         let cell = five (drop place cells) in
-        let long : used ≡ length (writeCell cell) = isUsed ∙ ap (λ (n : ℕ). shortestBy n kept) (sym (head-at place cells 0)) ∙ ap (shortestBy (getD cell 0 0)) isKept ∙ shortest-by cell refl in
+        let long : used ≡ length (writeCell cell) = isUsed ∙ ap (λ (n : ℕ). shortestBy n kept) (sym (head-at place cells 0))
+        ∙ ap (shortestBy (getD cell 0 0)) isKept ∙ shortest-by cell refl in
         omega (arith, m .bytes, first-length (lent-first left place cells h refl))
 
     pub measuring-small : shortest + used ≤ count * cellMost

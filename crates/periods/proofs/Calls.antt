@@ -11,7 +11,8 @@ use Rattle.xm.specs.Answer.{Answer, gives, refuses, numbers}
 use Rattle.xm.specs.Demands.{LoaderTells}
 use Rattle.xm.proofs.Got.{refused-tests, got-never}
 use Rattle.xm.proofs.Answer.{gives-passed, gives-same, refuses-refused, loader-tells}
-use Rattle.periods.specs.Period.{periodTab, doubled, sumAt, entryE, remaining, position, Period, periodAt, tuningTests, tuning, periodNumbers, bothNumbers, periodLoader}
+use Rattle.periods.specs.Period.{periodTab, doubled, sumAt, entryE, remaining, position, Period, periodAt, tuningTests, tuning, periodNumbers}
+use Rattle.periods.specs.Period.{bothNumbers, periodLoader}
 use Rattle.periods.specs.Tuned.{tunedOf, tunedNumbers}
 use Rattle.periods.specs.Promise.{WorkedPeriods, PeriodTells}
 use Rattle.periods.specs.declared.Tuned.{Tuned}
@@ -47,14 +48,17 @@ module _ (note : ℕ) (finetune : ℤ) where
   small : (period : Period) → tuning note finetune ≡ gives period → Small period
   unfolding tuning
   small period e =
-      gives-passed (λ (period : Period) (used : ℕ). period) (tuningTests note finetune) (got (periodAt (natAbs (position note finetune)) (remaining finetune 16)) 0) e λ h d.
+      gives-passed (λ (period : Period) (used : ℕ). period) (tuningTests note finetune)
+      (got (periodAt (natAbs (position note finetune)) (remaining finetune 16)) 0) e λ h d.
       subst Small (gives-same d)
-      (small-at (natAbs (position note finetune)) (remaining finetune 16) (position-most note finetune (h .0) (h .1 .0) (h .1 .1 .0)) (remaining-below finetune))
+      (small-at (natAbs (position note finetune)) (remaining finetune 16) (position-most note finetune (h .0) (h .1 .0) (h .1 .1 .0))
+      (remaining-below finetune))
 
   refused : (r : Refusal) → tuning note finetune ≡ refuses r → r ≡ 16 at 0
   unfolding tuning
   refused r e =
-      refused-tests (λ (q : Refusal). q ≡ 16 at 0) (tuningTests note finetune) _ (refuses-refused _ _ e) (refl, (refl, (refl, tt))) (λ h d. absurd (got-never d))
+      refused-tests (λ (q : Refusal). q ≡ 16 at 0) (tuningTests note finetune) _ (refuses-refused _ _ e) (refl, (refl, (refl, tt)))
+      (λ h d. absurd (got-never d))
 
   loads : LoaderTells bothNumbers (tuning note finetune) (periodLoader note finetune)
   loads =

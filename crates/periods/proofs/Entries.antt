@@ -58,7 +58,8 @@ pub follows-rule : FollowsRule
 unfolding sumAt doubled periodTab
 follows-rule =
     record {
-      within = λ p f h k. entry-at p f k ∙ ap₂ (λ (a b : ℕ). a * (16 - f) + b * f) (doubled-whole p (omega arith)) (doubled-whole (p + 1) (omega arith)) ∙ twice-sum (tabEntry p) (tabEntry (p + 1)) (16 - f) f;
+      within = λ p f h k. entry-at p f k ∙ ap₂ (λ (a b : ℕ). a * (16 - f) + b * f) (doubled-whole p (omega arith)) (doubled-whole (p + 1) (omega arith))
+          ∙ twice-sum (tabEntry p) (tabEntry (p + 1)) (16 - f) f;
       last = λ f k. entry-at 95 f k ∙ ap (λ (n : ℕ). n + 907 * f) (mul-assoc 2 457 (16 - f));
     }
 

@@ -58,7 +58,8 @@ never-below : {A : Type 0} (n : ℕ) → ltZ (pos n) (pos 0) ≡ true → A
 never-below n e = absurd (not-suc-le-zero (ltb-true n 0 e))
 
 -- Something below 0 is left over: the quotient is one too large, and the remainder 16 too small
-below-zero : (z : ℤ) → ltZ (remZ z (pos 16)) (pos 0) ≡ true → (quotZ z (pos 16) -ℤ pos 1 ≡ roundedDown z 16) × (remZ z (pos 16) +ℤ pos 16 ≡ pos (remaining z 16))
+below-zero : (z : ℤ) → ltZ (remZ z (pos 16)) (pos 0) ≡ true
+    → (quotZ z (pos 16) -ℤ pos 1 ≡ roundedDown z 16) × (remZ z (pos 16) +ℤ pos 16 ≡ pos (remaining z 16))
 below-zero (pos n) e = never-below (n % 16) e
 below-zero (negsuc n) e =
     let some : 0 < suc n % 16 = turned-below (suc n % 16) e in

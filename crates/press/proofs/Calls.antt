@@ -45,7 +45,8 @@ module _ (fixed : Answer (List ℕ)) (lent : List ℕ) {answer : Pressed} {held 
       (λ e. w .0 (sym fixed-numbers ∙ e), λ e. fixed-numbers ∙ w .1 e)
 
   -- what is given is reported and held
-  fixed-given : (P : List ℕ → List ℕ → Type 0) (bytes : List ℕ) → fixed ≡ gives bytes → P (0 ∷ 0 ∷ length bytes ∷ []) (inFront bytes lent) → P (pressedNumbers answer) held
+  fixed-given : (P : List ℕ → List ℕ → Type 0) (bytes : List ℕ) → fixed ≡ gives bytes
+      → P (0 ∷ 0 ∷ length bytes ∷ []) (inFront bytes lent) → P (pressedNumbers answer) held
   fixed-given P bytes e =
       subst₂ P (sym (fixed-numbers ∙ ap (numbers (pressedLength ∷ [])) e)) (sym (p .1 ∙ ap (λ (x : Answer (List ℕ)). after (λ (b : List ℕ). b) x lent) e))
 
@@ -54,22 +55,27 @@ pub press-one : (file lent : List ℕ) {answer other : Pressed} {held kept : Lis
     → (answer ≡ other) × (held ≡ kept)
 press-one file lent p q = (p .0 ∙ sym (q .0), p .1 ∙ sym (q .1))
 
-pub convert-one : (to : ModuleKind) (file lent : List ℕ) {answer other : Pressed} {held kept : List ℕ} → Converts to file lent answer held → Converts to file lent other kept
+pub convert-one : (to : ModuleKind) (file lent : List ℕ) {answer other : Pressed} {held kept : List ℕ}
+    → Converts to file lent answer held → Converts to file lent other kept
     → (answer ≡ other) × (held ≡ kept)
 convert-one to file lent p q = (p .0 ∙ sym (q .0), p .1 ∙ sym (q .1))
 
 -- The numbers are the paper's
-pub press-numbers : (file lent : List ℕ) {answer : Pressed} {held : List ℕ} → Presses file lent answer held → pressedNumbers answer ≡ pressNumbers file (length lent)
+pub press-numbers : (file lent : List ℕ) {answer : Pressed} {held : List ℕ} → Presses file lent answer held
+    → pressedNumbers answer ≡ pressNumbers file (length lent)
 press-numbers file lent p = fixed-numbers (pressing file (length lent)) lent p
 
-pub convert-numbers : (to : ModuleKind) (file lent : List ℕ) {answer : Pressed} {held : List ℕ} → Converts to file lent answer held → pressedNumbers answer ≡ convertNumbers to file (length lent)
+pub convert-numbers : (to : ModuleKind) (file lent : List ℕ) {answer : Pressed} {held : List ℕ}
+    → Converts to file lent answer held → pressedNumbers answer ≡ convertNumbers to file (length lent)
 convert-numbers to file lent p = fixed-numbers (converting to file (length lent)) lent p
 
 -- A refusal leaves the memory as it was
-pub press-unchanged : (file lent : List ℕ) {answer : Pressed} {held : List ℕ} → Presses file lent answer held → (accepts (pressedNumbers answer) → ⊥) → held ≡ lent
+pub press-unchanged : (file lent : List ℕ) {answer : Pressed} {held : List ℕ} → Presses file lent answer held → (accepts (pressedNumbers answer) → ⊥)
+    → held ≡ lent
 press-unchanged file lent p = fixed-unchanged (pressing file (length lent)) lent p
 
-pub convert-unchanged : (to : ModuleKind) (file lent : List ℕ) {answer : Pressed} {held : List ℕ} → Converts to file lent answer held → (accepts (pressedNumbers answer) → ⊥) → held ≡ lent
+pub convert-unchanged : (to : ModuleKind) (file lent : List ℕ) {answer : Pressed} {held : List ℕ}
+    → Converts to file lent answer held → (accepts (pressedNumbers answer) → ⊥) → held ≡ lent
 convert-unchanged to file lent p = fixed-unchanged (converting to file (length lent)) lent p
 
 -- Of an acceptable file of a kind
@@ -94,7 +100,8 @@ module _ (kind : ModuleKind) (content : Content) (file : List ℕ) (f : FileOf (
         beyond = drop-append-seam bytes _;
         again = λ room h q.
             let pressed-again = take (length bytes) (inFront bytes lent) in
-            let given = ap (λ (s : List ℕ). pressing s (length room)) stands ∙ kinds-told kind content bytes (d .written) .presses (length room) ∙ press-gives (moduleFormat kind) (module-back kind) (module-keeps kind) (d .written) (length room) h in (
+            let given = ap (λ (s : List ℕ). pressing s (length room)) stands ∙ kinds-told kind content bytes (d .written) .presses (length room)
+            ∙ press-gives (moduleFormat kind) (module-back kind) (module-keeps kind) (d .written) (length room) h in (
               fixed-numbers (pressing pressed-again (length room)) room q ∙ ap (numbers (pressedLength ∷ [])) given,
               ap (take (length bytes)) (q .1 ∙ ap (λ (x : Answer (List ℕ)). after (λ (b : List ℕ). b) x room) given)
                   ∙ take-append-seam bytes _ ∙ sym stands,
@@ -136,7 +143,8 @@ module _ (kind : ModuleKind) (content : Content) (file : List ℕ) (f : FileOf (
 
     module _ (small : pressedNumbers answer ≡ 2 ∷ 0 ∷ 0 ∷ [] → ⊥) where
       -- else 14 exactly when none fits the room
-      pub convert-no-room : (pressedNumbers answer ≡ 14 ∷ 0 ∷ 0 ∷ []) ↔ ((other : List ℕ) → FileOf (moduleFormat to) (converted content) other → length lent < length other)
+      pub convert-no-room : (pressedNumbers answer ≡ 14 ∷ 0 ∷ 0 ∷ []) ↔
+          ((other : List ℕ) → FileOf (moduleFormat to) (converted content) other → length lent < length other)
       convert-no-room =
           let exactly = d .no-room-exactly (λ e. small (large .1 e)) in
           (λ e. exactly .0 (narrow .0 e), λ none. narrow .1 (exactly .1 none))
@@ -156,20 +164,25 @@ module _ (kind : ModuleKind) (content : Content) (file : List ℕ) (f : FileOf (
           })
 
 -- A file that is refused gets its own refusal from a conversion too
-pub convert-refuses : (to : ModuleKind) (file lent : List ℕ) {answer : Pressed} {held : List ℕ} → Converts to file lent answer held → (r : Refusal) → 0 < r .number → readFile file ≡ refused r
+pub convert-refuses : (to : ModuleKind) (file lent : List ℕ) {answer : Pressed} {held : List ℕ}
+    → Converts to file lent answer held → (r : Refusal) → 0 < r .number → readFile file ≡ refused r
     → pressedNumbers answer ≡ r .number ∷ r .place ∷ 0 ∷ []
 convert-refuses to file lent p r some e = fixed-refused (converting to file (length lent)) lent p r some .1 (own-refusal-first to file (length lent) r e)
 
 -- What stands in the output, by the length reported, is what the definition says
-pressed-left : (kind : ModuleKind) (content : Content) (file : List ℕ) → FileOf (moduleFormat kind) content file → (lent : List ℕ) {answer : Pressed} {held : List ℕ} → Presses file lent answer held
+pressed-left : (kind : ModuleKind) (content : Content) (file : List ℕ) → FileOf (moduleFormat kind) content file
+    → (lent : List ℕ) {answer : Pressed} {held : List ℕ} → Presses file lent answer held
     → (take (resultIn (pressedNumbers answer) 0) held ≡ pressedInto (moduleFormat kind) file lent)
 pressed-left kind content file f lent p =
     let is = kinds-told kind content file f .is in
-    ap₂ (λ (ns held : List ℕ). take (resultIn ns 0) held) (press-numbers file lent p) (p .1) ∙ ap (λ (k : ModuleKind). pressedInto (moduleFormat k) file lent) is
+    ap₂ (λ (ns held : List ℕ). take (resultIn ns 0) held) (press-numbers file lent p) (p .1)
+    ∙ ap (λ (k : ModuleKind). pressedInto (moduleFormat k) file lent) is
 
 -- Two files of one kind are one song exactly if they press to the same bytes, each in a room that does
-pub press-same : (kind : ModuleKind) (content content′ : Content) (file file′ lent lent′ : List ℕ) {answer answer′ : Pressed} {held held′ : List ℕ} → FileOf (moduleFormat kind) content file
-    → FileOf (moduleFormat kind) content′ file′ → Presses file lent answer held → Presses file′ lent′ answer′ held′ → accepts (pressedNumbers answer) → accepts (pressedNumbers answer′)
+pub press-same : (kind : ModuleKind) (content content′ : Content) (file file′ lent lent′ : List ℕ) {answer answer′ : Pressed} {held held′ : List ℕ}
+    → FileOf (moduleFormat kind) content file
+    → FileOf (moduleFormat kind) content′ file′ → Presses file lent answer held → Presses file′ lent′ answer′ held′ → accepts (pressedNumbers answer)
+    → accepts (pressedNumbers answer′)
     → (take (resultIn (pressedNumbers answer) 0) held ≡ take (resultIn (pressedNumbers answer′) 0) held′) ↔ (content ≡ content′)
 press-same kind content content′ file file′ lent lent′ f f′ p p′ a a′ =
     let left = pressed-left kind content file f lent p in

@@ -32,12 +32,23 @@ module _ {H I A : Type 0} (F G : Format H I A) (h : H) (file lent goal : List �
     pub sum : used ≡ size + others
     pub reads : readAt (each F) (replicate (left - 1) h) file (place + size) ≡ got later others
 
-  first-left : (left place : ℕ) {rest : List I} {used : ℕ} → 0 < left → readAt (each F) (replicate left h) file place ≡ got rest used → FirstLeft left place rest used
+  first-left : (left place : ℕ) {rest : List I} {used : ℕ} → 0 < left → readAt (each F) (replicate left h) file place ≡ got rest used
+      → FirstLeft left place rest used
   first-left zero place some e = absurd (omega arith)
   first-left (suc left) place some e =
-      bind-got (F .read h place (drop place file)) _ e λ i n ei e₁. bind-got (each F .read (replicate left h) (place + n) (drop n (drop place file))) _ e₁ λ is m es e₂.
+      bind-got (F .read h place (drop place file)) _ e λ i n ei e₁.
+      bind-got (each F .read (replicate left h) (place + n) (drop n (drop place file))) _ e₁ λ is m es e₂.
       let less : suc left - 1 ≡ left = omega arith in
-      record { part = i; size = n; later = is; others = m; read = ei; first = sym (got-value e₂); sum = sym (got-used e₂); reads = rw (less, ← drop-drop n place file) es }
+      record {
+        part = i;
+        size = n;
+        later = is;
+        others = m;
+        read = ei;
+        first = sym (got-value e₂);
+        sum = sym (got-used e₂);
+        reads = rw (less, ← drop-drop n place file) es;
+      }
 
   module _ {left place : ℕ} {out : List ℕ} {to : ℕ} {rest : List I} (w : EachLeft left place out to rest) where
     pub each-done : left ≡ 0 → out ≡ inFront goal lent
@@ -56,7 +67,9 @@ module _ {H I A : Type 0} (F G : Format H I A) (h : H) (file lent goal : List �
       written = ap (listIn (λ (i : I). G .write (F .view i))) (each-first .read)
 
       split : each G .write (each F .view rest) ≡ writtenAt F G h file place ++ each G .write (each F .view (each-first .later))
-      split = ap (λ (is : List I). each G .write (each F .view is)) (each-first .first) ∙ ap (λ (l : List ℕ). l ++ each G .write (each F .view (each-first .later))) (sym written)
+      split =
+          ap (λ (is : List I). each G .write (each F .view is)) (each-first .first)
+          ∙ ap (λ (l : List ℕ). l ++ each G .write (each F .view (each-first .later))) (sym written)
 
       pub each-room : to + length (writtenAt F G h file place) ≤ length out
       each-room = omega (arith, w .laid .room, ap length split ∙ length-append (writtenAt F G h file place) _)
@@ -73,9 +86,11 @@ module _ {H I A : Type 0} (F G : Format H I A) (h : H) (file lent goal : List �
       })
 
 -- None is written yet
-pub each-none : {H I A : Type 0} (F G : Format H I A) (h : H) (file lent : List ℕ) (count at : ℕ) (is : List I) (used : ℕ) → readAt (each F) (replicate count h) file at ≡ got is used
+pub each-none : {H I A : Type 0} (F G : Format H I A) (h : H) (file lent : List ℕ) (count at : ℕ) (is : List I) (used : ℕ)
+    → readAt (each F) (replicate count h) file at ≡ got is used
     → length (writtenAt (each F) (each G) (replicate count h) file at) ≤ length lent
-    → EachLeft F G h file lent (writtenAt (each F) (each G) (replicate count h) file at) (endOf at (readAt (each F) (replicate count h) file at)) count at lent 0 is
+    → EachLeft F G h file lent (writtenAt (each F) (each G) (replicate count h) file at)
+    (endOf at (readAt (each F) (replicate count h) file at)) count at lent 0 is
 each-none F G h file lent count at is used e room = record {
   used = used;
   reads = e;

@@ -40,7 +40,8 @@ accepted-got : {R : Type 0} (to : ModuleKind) (g : Got Found) {size : ℕ} → w
 accepted-got to (got found end) e k = k found end refl (cc)
 accepted-got to (refused r) e k = absurd (no-true (cc))
 
-walk-refused : (to : ModuleKind) (g : Got Found) {step : WalkStep} {f r : Fault} → step ≡ walkStep to g → step ≡ walked.Refused f → r ≡ walkFault step → g ≡ refused (refusalIn r)
+walk-refused : (to : ModuleKind) (g : Got Found) {step : WalkStep} {f r : Fault}
+    → step ≡ walkStep to g → step ≡ walked.Refused f → r ≡ walkFault step → g ≡ refused (refusalIn r)
 walk-refused to (got found end) e told passed = cc
 walk-refused to (refused q) e told passed = cc
 
@@ -63,7 +64,8 @@ module _ (to : ModuleKind) (file lent : List ℕ) where
     accepted-told marks m = accepted-got to (readFile file) e λ found end q z. got-told (λ (found : Found). Marks file 0 (found .1 .0) marks) q (m found end q)
 
     -- what is written, by what was found
-    found-written : (kept : Bool) {found : Found} {end : ℕ} → readFile file ≡ got found end → writtenFile to kept file ≡ pressed to (contentKept kept (contentOf found))
+    found-written : (kept : Bool) {found : Found} {end : ℕ} → readFile file ≡ got found end
+        → writtenFile to kept file ≡ pressed to (contentKept kept (contentOf found))
     found-written kept q = ap (listIn (λ (found : Found). pressed to (contentKept kept (contentOf found)))) q
 
     module _ (b : Bytes file) where
@@ -71,13 +73,15 @@ module _ (to : ModuleKind) (file lent : List ℕ) where
       file-of found end q = record { plain = b; found = found; end = end; reads = q; same = refl }
 
       -- Without its tracker name it is as long
-      as-long : (found : Found) (end : ℕ) → readFile file ≡ got found end → length (pressed to (converted (contentOf found))) ≡ length (pressed to (contentOf found))
+      as-long : (found : Found) (end : ℕ) → readFile file ≡ got found end
+          → length (pressed to (converted (contentOf found))) ≡ length (pressed to (contentOf found))
       as-long found end q =
           let x = contentOf found in
           let good = file-good (moduleFormat kind) (module-back kind) (module-keeps kind) (file-of found end q) in
           let body = bodyFormat to .write (x .1) in
           length-append (writeHeader to (converted x .0)) body
-          ∙ ap (λ (n : ℕ). n + length body) (header-length to to (converted x .0) (converted-good kind to x good .0) ∙ sym (header-length kind to (x .0) (good .0)))
+          ∙ ap (λ (n : ℕ). n + length body)
+          (header-length to to (converted x .0) (converted-good kind to x good .0) ∙ sym (header-length kind to (x .0) (good .0)))
           ∙ sym (length-append (writeHeader to (x .0)) body)
 
       pub accepted-size : (kept : Bool) → size ≡ length (writtenFile to kept file)
@@ -88,10 +92,12 @@ module _ (to : ModuleKind) (file lent : List ℕ) where
       module _ (own : to ≡ kind) where
         pub press-short : length lent < size → {number : ℕ} → number ≡ 14 → Presses file lent (Refused (record { number = number; place = 0 })) lent
         press-short h n = accepted-got to (readFile file) e λ found end q z.
-            rw (press-narrow (moduleFormat kind) (module-back kind) (module-keeps kind) (file-of found end q) (length lent) (omega (arith, ap (λ (k : ModuleKind). length (pressed k (contentOf found))) own)))
+            rw (press-narrow (moduleFormat kind) (module-back kind) (module-keeps kind) (file-of found end q) (length lent)
+            (omega (arith, ap (λ (k : ModuleKind). length (pressed k (contentOf found))) own)))
             (ap refusedBy n, refl)
 
-        pub press-done : size ≤ length lent → {count : ℕ} {held : List ℕ} → count ≡ size → held ≡ inFront (writtenFile to true file) lent → Presses file lent (Length count) held
+        pub press-done : size ≤ length lent → {count : ℕ} {held : List ℕ} → count ≡ size
+            → held ≡ inFront (writtenFile to true file) lent → Presses file lent (Length count) held
         press-done h n m = accepted-got to (readFile file) e λ found end q z.
             let same = ap (λ (k : ModuleKind). pressed k (contentOf found)) own in
             rw (press-gives (moduleFormat kind) (module-back kind) (module-keeps kind) (file-of found end q) (length lent) (omega (arith, ap length same)))
@@ -102,11 +108,14 @@ module _ (to : ModuleKind) (file lent : List ℕ) where
       convert-over h n = accepted-got to (readFile file) e λ found end q z.
           rw (convert-large kind to (file-of found end q) (length lent) (omega (arith, as-long found end q))) (ap refusedBy n, refl)
 
-      pub convert-short : size ≤ fileMost → length lent < size → {number : ℕ} → number ≡ 14 → Converts to file lent (Refused (record { number = number; place = 0 })) lent
+      pub convert-short : size ≤ fileMost → length lent < size → {number : ℕ} → number ≡ 14
+          → Converts to file lent (Refused (record { number = number; place = 0 })) lent
       convert-short h l n = accepted-got to (readFile file) e λ found end q z.
-          rw (convert-narrow kind to (file-of found end q) (length lent) (omega (arith, as-long found end q)) (omega (arith, as-long found end q))) (ap refusedBy n, refl)
+          rw (convert-narrow kind to (file-of found end q) (length lent) (omega (arith, as-long found end q)) (omega (arith, as-long found end q)))
+          (ap refusedBy n, refl)
 
-      pub convert-done : size ≤ fileMost → size ≤ length lent → {count : ℕ} {held : List ℕ} → count ≡ size → held ≡ inFront (writtenFile to false file) lent → Converts to file lent (Length count) held
+      pub convert-done : size ≤ fileMost → size ≤ length lent → {count : ℕ} {held : List ℕ} → count ≡ size
+          → held ≡ inFront (writtenFile to false file) lent → Converts to file lent (Length count) held
       convert-done h l n m = accepted-got to (readFile file) e λ found end q z.
           rw (convert-gives kind to (file-of found end q) (length lent) (omega (arith, as-long found end q)) (omega (arith, as-long found end q)))
           (ap Length (n ∙ z ∙ sym (as-long found end q)), m ∙ ap (λ (bytes : List ℕ). inFront bytes lent) (found-written false q))

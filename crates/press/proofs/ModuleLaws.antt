@@ -11,7 +11,8 @@ use Rattle.xm.specs.Number.{wordAt, part}
 use Rattle.xm.specs.ModuleKind.{ModuleKind, kindBy}
 use Rattle.xm.specs.Got.{got, AllHold, listIn, Told}
 use Rattle.xm.specs.Format.{each}
-use Rattle.xm.specs.Header.{Header, HeaderFound, sizeFrom, ordersMost, leastHeader, headerEnd, songLengthAt, channelsAt, patternsAt, instrumentsAt, isStripped, kindAt, headerTests, headerOf, restartOf, readHeader, writeHeader}
+use Rattle.xm.specs.Header.{Header, HeaderFound, sizeFrom, ordersMost, leastHeader, headerEnd, songLengthAt, channelsAt, patternsAt, instrumentsAt, isStripped}
+use Rattle.xm.specs.Header.{kindAt, headerTests, headerOf, restartOf, readHeader, writeHeader}
 use Rattle.xm.specs.Stored.{channelsMost}
 use Rattle.xm.specs.PatternInFile.{PatternFound, patternFormat}
 use Rattle.xm.specs.Instrument.{InstrumentFound, instrumentFormat}
@@ -51,7 +52,8 @@ module _ (file marks : List ℕ) where
     marked : Marks file 0 patterns marks
     written : (to : ModuleKind) (kept : Bool) → writtenFile to kept file
         ≡ writeHeader to (headerKept kept (headerOf kind file))
-        ++ (each patternFormat .write (each patternFormat .view patterns) ++ each (instrumentFormat to) .write (each (instrumentFormat kind) .view instruments))
+        ++ (each patternFormat .write (each patternFormat .view patterns)
+        ++ each (instrumentFormat to) .write (each (instrumentFormat kind) .view instruments))
 
   as-read : Told Marked (readFile file) → AsRead
   unfolding readHeader
@@ -61,7 +63,8 @@ module _ (file marks : List ℕ) where
       bind-got (readHeader kind 0 file) _ e₁ λ i n ei e₂.
       bind-got (bodyFormat kind .read (i .content) (0 + n) (drop n file)) _ e₂ λ v k ev e₃.
       bind-got (each patternFormat .read (patternsFor (i .content)) (0 + n) (drop n file)) _ ev λ ps u ep e₄.
-      bind-got (each (instrumentFormat kind) .read (instrumentsFor (i .content) (each patternFormat .view ps)) (0 + n + u) (drop u (drop n file))) _ e₄ λ is r es e₅.
+      bind-got (each (instrumentFormat kind) .read (instrumentsFor (i .content) (each patternFormat .view ps)) (0 + n + u) (drop u (drop n file))) _ e₄
+      λ is r es e₅.
       passed _ _ ei λ h e₆.
       let found-is : (i, v) ≡ found = got-value e₃ in
       let body-is : (ps, is) ≡ v = got-value e₅ in
@@ -71,17 +74,20 @@ module _ (file marks : List ℕ) where
         patterns = ps;
         used = u;
         reads =
-            got-carry (λ (i : HeaderFound) (n : ℕ). each patternFormat .read (patternsFor (i .content)) n (drop n file) ≡ got ps u) (sym e₆) (rw (zero-add n) at ep);
+            got-carry (λ (i : HeaderFound) (n : ℕ). each patternFormat .read (patternsFor (i .content)) n (drop n file) ≡ got ps u) (sym e₆)
+            (rw (zero-add n) at ep);
         instruments = is;
         others = r;
         reads-last =
-            got-carry (λ (i : HeaderFound) (n : ℕ). each (instrumentFormat kind) .read (replicate (i .content .instruments) tt) (n + u) (drop (n + u) file) ≡ got is r) (sym e₆)
+            got-carry (λ (i : HeaderFound) (n : ℕ).
+            each (instrumentFormat kind) .read (replicate (i .content .instruments) tt) (n + u) (drop (n + u) file) ≡ got is r) (sym e₆)
             (rw (zero-add n, drop-drop u n file) at es);
         marked = subst (λ (body : List PatternFound × List InstrumentFound). Marks file 0 (body .0) marks) (sym body-is) (subst Marked (sym found-is) m);
         written = λ to kept.
             ap (listIn (λ (f : Found). pressed to (contentKept kept (contentOf f)))) e
             ∙ ap (λ (f : Found). pressed to (contentKept kept (contentOf f))) (sym found-is)
-            ∙ ap₂ (λ (x : HeaderFound) (body : List PatternFound × List InstrumentFound). pressed to (contentKept kept (contentOf (x, body)))) (sym (got-value e₆)) (sym body-is);
+            ∙ ap₂ (λ (x : HeaderFound) (body : List PatternFound × List InstrumentFound). pressed to (contentKept kept (contentOf (x, body))))
+            (sym (got-value e₆)) (sym body-is);
       }
 
   module _ (told : Told Marked (readFile file)) where
@@ -102,7 +108,9 @@ module _ (file marks : List ℕ) where
     song = length-take-le (songLengthAt file) (drop 80 file) (omega (arith, length-drop 80 file, song-inside))
 
     -- The header's own tracker name, if it has one and if it is kept
-    own-header : (kept : Bool) → headerWith (trackerBy (not (isStripped file) && kept) file) (patternsAt file) (part 80 (songLengthAt file) file) file ≡ headerKept kept (headerOf kind file)
+    own-header : (kept : Bool)
+        → headerWith (trackerBy (not (isStripped file) && kept) file) (patternsAt file) (part 80 (songLengthAt file) file) file
+        ≡ headerKept kept (headerOf kind file)
     own-header kept =
         ap (λ (n : ℕ). withSong (trackerBy (not (isStripped file) && kept) file) n) song
         ∙ by-kind (isStripped file) kept
@@ -130,7 +138,8 @@ module _ (file marks : List ℕ) where
         by-kind false false = refl
 
     -- In the code's numbers
-    module _ {head : HeaderPart} {songLength : ℕ} {named : Bool} (to : ModuleKind) (kept : Bool) (p : head ≡ headerPart file) (l : songLength ≡ songLengthAt file)
+    module _ {head : HeaderPart} {songLength : ℕ} {named : Bool} (to : ModuleKind) (kept : Bool) (p : head ≡ headerPart file)
+        (l : songLength ≡ songLengthAt file)
         (t : named ≡ (not (isStripped file) && kept)) where
       abbrev orders : List ℕ
       orders = take (80 + songLength - 80) (drop 80 file)
@@ -155,7 +164,8 @@ module _ (file marks : List ℕ) where
         pub told-first : Told (λ is. Marks file 0 is marks) (readAt (each patternFormat) (replicate (head .patterns) (head .channels)) file (head .start))
         pub told-last : Told (λ is. Unit {0}) (instrumentsRead file last (head .instruments))
         pub header-long : length header ≡ sizeFrom + leastHeader to songLength
-        pub long : length (writtenFile to kept file) ≡ sizeFrom + leastHeader to songLength + (length rows + length (instrumentsAs to file last (head .instruments)))
+        pub long : length (writtenFile to kept file)
+            ≡ sizeFrom + leastHeader to songLength + (length rows + length (instrumentsAs to file last (head .instruments)))
         pub written : writtenFile to kept file ≡ header ++ (rows ++ instrumentsAs to file last (head .instruments))
 
       is-orders : orders ≡ part 80 (songLengthAt file) file
@@ -176,7 +186,8 @@ module _ (file marks : List ℕ) where
       is-header : header ≡ writeHeader to (headerKept kept (headerOf kind file))
       is-header =
           ap₂ (λ (tracker orders : List ℕ). writeHeader to (headerWith tracker (head .patterns) orders file)) (ap (λ (b : Bool). trackerBy b file) t) is-orders
-          ∙ ap (λ (h : HeaderPart). writeHeader to (headerWith (trackerBy (not (isStripped file) && kept) file) (h .patterns) (part 80 (songLengthAt file) file) file)) p
+          ∙ ap (λ (h : HeaderPart).
+          writeHeader to (headerWith (trackerBy (not (isStripped file) && kept) file) (h .patterns) (part 80 (songLengthAt file) file) file)) p
           ∙ ap (writeHeader to) (own-header kept)
 
       is-written : writtenFile to kept file ≡ header ++ (rows ++ instrumentsAs to file last (head .instruments))
@@ -190,7 +201,8 @@ module _ (file marks : List ℕ) where
       module-lies =
           let h = w .tests in
           let long-header : length header ≡ sizeFrom + leastHeader to songLength =
-          header-size to (trackerBy named file) (head .patterns) orders file (tracker-size named file numbers-inside) numbers-inside (omega (arith, orders-song, l, song-few))
+          header-size to (trackerBy named file) (head .patterns) orders file (tracker-size named file numbers-inside) numbers-inside
+          (omega (arith, orders-song, l, song-few))
           ∙ ap (λ (n : ℕ). sizeFrom + leastHeader to n) orders-song in
           record {
             small = w .small;

@@ -42,7 +42,8 @@ module _ (file lent : List ℕ) (at channels count : ℕ) (marks : List ℕ) whe
     pub writes : EachLeft patternFormat patternFormat channels file lent goal end left place out to rest
     pub marked : Marks file done rest marks
 
-  pub patterns-none : Told (λ is. Marks file 0 is marks) (readAt (each patternFormat) (replicate count channels) file at) → length goal ≤ length lent → PatternsLeft 0 at lent 0
+  pub patterns-none : Told (λ is. Marks file 0 is marks) (readAt (each patternFormat) (replicate count channels) file at)
+      → length goal ≤ length lent → PatternsLeft 0 at lent 0
   patterns-none t room = told-got (λ is. Marks file 0 is marks) _ t λ is n e m. record {
     left = count;
     sum = omega arith;
@@ -67,12 +68,15 @@ module _ (file lent : List ℕ) (at channels count : ℕ) (marks : List ℕ) whe
       first-marked = rw (each-first patternFormat patternFormat channels file lent goal end (w .writes) some .first) at (w .marked)
 
       pub pattern-told : {mark : ℕ} → mark ≡ markAt marks done → Told (λ i. Marked file i mark) (readAt patternFormat channels file place)
-      pattern-told e = rw e (got-told (λ i. Marked file i (markAt marks done)) (each-first patternFormat patternFormat channels file lent goal end (w .writes) some .read) (first-marked .0))
+      pattern-told e =
+          rw e (got-told (λ i. Marked file i (markAt marks done)) (each-first patternFormat patternFormat channels file lent goal end (w .writes) some .read)
+          (first-marked .0))
 
       pub pattern-room : to + length (pressedAt patternFormat channels file place) ≤ length out
       pattern-room = each-room patternFormat patternFormat channels file lent goal end (w .writes) some
 
-      pub patterns-more : {used size : ℕ} {part : List ℕ} → used ≡ longAt 0 (drop place file) + wordAt 7 (drop place file) → size ≡ length (pressedAt patternFormat channels file place)
+      pub patterns-more : {used size : ℕ} {part : List ℕ} → used ≡ longAt 0 (drop place file) + wordAt 7 (drop place file)
+          → size ≡ length (pressedAt patternFormat channels file place)
           → part ≡ inFront (pressedAt patternFormat channels file place) (take (length out - to) (drop to out))
           → PatternsLeft (done + 1) (place + used) (putMid to (length out - to) out part) (to + size)
       patterns-more u z e =
@@ -88,14 +92,17 @@ module _ (file lent : List ℕ) (at channels count : ℕ) (marks : List ℕ) whe
           }
 
 -- What the step says of an instrument that was read
-instrument-there : (file : List ℕ) (kind : ModuleKind) (place : ℕ) {i : InstrumentFound} {n : ℕ} → readAt (instrumentFormat kind) tt file place ≡ got i n → place ≤ length file
+instrument-there : (file : List ℕ) (kind : ModuleKind) (place : ℕ) {i : InstrumentFound} {n : ℕ}
+    → readAt (instrumentFormat kind) tt file place ≡ got i n → place ≤ length file
 unfolding readInstrument
 instrument-there file kind place e = passed _ _ e λ h e. omega (arith, fields-pass kind place (drop place file) h .some, length-drop place file)
 
-never-refused : {R : Type 0} (place : ℕ) (g : Got InstrumentFound) {step : InstrumentStep} {f : Fault} {i : InstrumentFound} {n : ℕ} → step ≡ instrumentStep place g → step ≡ Refused f → g ≡ got i n → R
+never-refused : {R : Type 0} (place : ℕ) (g : Got InstrumentFound) {step : InstrumentStep} {f : Fault} {i : InstrumentFound} {n : ℕ}
+    → step ≡ instrumentStep place g → step ≡ Refused f → g ≡ got i n → R
 never-refused place g e told q = absurd (no-true (cc))
 
-next-of : (place : ℕ) (g : Got InstrumentFound) {piece : InstrumentPart} {i : InstrumentFound} {n : ℕ} → Read piece ≡ instrumentStep place g → g ≡ got i n → piece .next ≡ place + n
+next-of : (place : ℕ) (g : Got InstrumentFound) {piece : InstrumentPart} {i : InstrumentFound} {n : ℕ}
+    → Read piece ≡ instrumentStep place g → g ≡ got i n → piece .next ≡ place + n
 next-of place g e q = ap InstrumentPart.next (same (e ∙ ap (instrumentStep place) q))
   where
     same : {a b : InstrumentPart} → Read a ≡ Read b → a ≡ b
@@ -136,7 +143,8 @@ module _ (file lent : List ℕ) (to : ModuleKind) (at count : ℕ) where
       pub instrument-room : written + length (instrumentAs to file place) ≤ length out
       instrument-room = each-room own other tt file lent instruments last (w .writes) some
 
-      pub instrument-never : {R : Type 0} {step : InstrumentStep} {f : Fault} → step ≡ instrumentStep place (readInstrument (kindAt file) place (drop place file)) → step ≡ Refused f → R
+      pub instrument-never : {R : Type 0} {step : InstrumentStep} {f : Fault}
+          → step ≡ instrumentStep place (readInstrument (kindAt file) place (drop place file)) → step ≡ Refused f → R
       instrument-never e told = never-refused place _ e told (first .read)
 
       pub instruments-more : {piece : InstrumentPart} {size : ℕ} {part : List ℕ} → InstrumentIs file place piece → size ≡ length (instrumentAs to file place)

@@ -25,7 +25,8 @@ pub record Written (kind : ModuleKind) (content : Content) (file lent reported h
   pub shortest : (other : List ℕ) → FileOf (moduleFormat kind) content other → resultIn reported 0 ≤ length other
   pub no-longer : resultIn reported 0 ≤ length file
   pub beyond : drop (resultIn reported 0) held ≡ drop (resultIn reported 0) lent
-  pub again : (room : List ℕ) {answer : Pressed} {after : List ℕ} → resultIn reported 0 ≤ length room → Presses (take (resultIn reported 0) held) room answer after
+  pub again : (room : List ℕ) {answer : Pressed} {after : List ℕ} → resultIn reported 0 ≤ length room
+      → Presses (take (resultIn reported 0) held) room answer after
       → (pressedNumbers answer ≡ reported) × (take (resultIn reported 0) after ≡ take (resultIn reported 0) held)
 
 -- Of a file that was converted: what was written is an acceptable file of the target's kind, of the same content but for the tracker name,

@@ -76,7 +76,8 @@ unfolding firstFault
 fault-refuses place [] g a e f = absurd (f e)
 fault-refuses {A} place (t ∷ ts) g {fault} a e f = go (λ e. fault-refuses place ts g (a .1) e f) (passes t) refl e
   where
-    go : (fault ≡ firstFault ts → (checked ts >> g) ≡ refused (fault at place)) → (b : Bool) → passes t ≡ b → fault ≡ cond b (firstFault ts) (refusalOf t .number)
+    go : (fault ≡ firstFault ts → (checked ts >> g) ≡ refused (fault at place)) → (b : Bool) → passes t ≡ b
+        → fault ≡ cond b (firstFault ts) (refusalOf t .number)
         → (checked (t ∷ ts) >> g) ≡ refused (fault at place)
     go rest true q e = test-holds t ts g (passes-holds t q) ∙ rest e
     go rest false q e = test-fails t ts g (λ h. no-true (sym q ∙ holds-passes t h)) ∙ ap₂ {C = Got A} (λ (n p : ℕ). refused (n at p)) (sym e) (a .0 .1)

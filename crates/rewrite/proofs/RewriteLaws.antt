@@ -36,7 +36,8 @@ all-stored bits s h =
     let q₄ = odd₄ (bits / 2 / 2 / 2) (q₃ .1) in
     set-field 4 bits s (q₁ .0) ∙ ap (λ (l : List ℕ). getD s 0 0 ∷ l) (set-field 3 (bits / 2) (drop 1 s) (q₂ .0))
     ∙ ap (λ (l : List ℕ). getD s 0 0 ∷ getD (drop 1 s) 0 0 ∷ l) (set-field 2 (bits / 2 / 2) (drop 1 (drop 1 s)) (q₃ .0))
-    ∙ ap (λ (l : List ℕ). getD s 0 0 ∷ getD (drop 1 s) 0 0 ∷ getD (drop 1 (drop 1 s)) 0 0 ∷ l) (set-field 1 (bits / 2 / 2 / 2) (drop 1 (drop 1 (drop 1 s))) (q₄ .0))
+    ∙ ap (λ (l : List ℕ). getD s 0 0 ∷ getD (drop 1 s) 0 0 ∷ getD (drop 1 (drop 1 s)) 0 0 ∷ l)
+    (set-field 1 (bits / 2 / 2 / 2) (drop 1 (drop 1 (drop 1 s))) (q₄ .0))
     ∙ ap (λ (l : List ℕ). getD s 0 0 ∷ getD (drop 1 s) 0 0 ∷ getD (drop 1 (drop 1 s)) 0 0 ∷ getD (drop 1 (drop 1 (drop 1 s))) 0 0 ∷ l)
     (set-field 0 (bits / 2 / 2 / 2 / 2) (drop 1 (drop 1 (drop 1 (drop 1 s)))) (q₄ .1))
     ∙ sym (plain-fields s)
@@ -62,7 +63,8 @@ module _ (place : ℕ) (s : List ℕ) {first : Field} (f : FirstField (getD s pl
   stored-plain = go (eqb (first .bits % 32) 31) refl
     where
       go : (t : Bool) → eqb (first .bits % 32) 31 ≡ t
-          → (t && plainBy (getD s (first .place) 0) (length (kepts (five (drop (first .place) s))))) ≡ plainBy (getD (cellAt (drop place s)) 0 0) (length (kepts (cellAt (drop place s))))
+          → (t && plainBy (getD s (first .place) 0) (length (kepts (five (drop (first .place) s)))))
+          ≡ plainBy (getD (cellAt (drop place s)) 0 0) (length (kepts (cellAt (drop place s))))
       go true t =
           ap (λ (n : ℕ). plainBy n (length (kepts (five (drop (first .place) s))))) (sym (head-at (first .place) s 0))
           ∙ ap (λ (l : List ℕ). plainBy (getD l 0 0) (length (kepts l))) (sym (stored-five (eqb-true _ 31 t)))
@@ -85,11 +87,13 @@ pub kept-next : (count : ℕ) (s : List ℕ) {field next : Field} → NextField 
     ≡ bit (fieldBy (field .bits) (drop (field .place) s)) + length (kepts (fieldsBy count (next .bits) (drop (next .place) s)))
 unfolding kepts
 kept-next count s {field} n =
-    rw (n .bits, n .place, fields-at count (field .bits) (field .place) s, length-append) (omega (arith, kept-length (fieldBy (field .bits) (drop (field .place) s))))
+    rw (n .bits, n .place, fields-at count (field .bits) (field .place) s, length-append)
+    (omega (arith, kept-length (fieldBy (field .bits) (drop (field .place) s))))
 
 -- A place is left for the lead byte, and what is kept goes behind it
 pub left-over : (lent rest : List ℕ) {place : ℕ} → place ≤ length lent → PutOver lent (take place lent ++ rest) lent place rest
-left-over lent rest {place} h = record { holds = refl; ends = omega (arith, length-append (take place lent) rest, length-take-le place lent h); beyond = refl; long = refl }
+left-over lent rest {place} h =
+    record { holds = refl; ends = omega (arith, length-append (take place lent) rest, length-take-le place lent h); beyond = refl; long = refl }
 
 pub left-first : (lent rest : List ℕ) → 1 + length rest ≤ length lent → Laid lent (take 1 lent ++ rest) lent 1 rest
 unfolding lay
@@ -104,7 +108,8 @@ set-front [] n lead x xs e = absurd (let z : _≡_ {A = ℕ} 0 1 = cc in omega a
 set-front (y ∷ out) n lead x xs e = let same : take n out ≡ xs = cc in ap (λ (l : List ℕ). lead ∷ l) same
 
 module _ (cell : List ℕ) (size : length cell ≡ 5) (lead : ℕ) (isLead : lead ≡ 128 + marks cell) where
-  pub over-lead : (lent : List ℕ) → overMost ≤ length lent → (plain : Bool) → plain ≡ plainBy (getD cell 0 0) (length (kepts cell)) → {place : ℕ} → place ≡ cond plain 0 1 → {out : List ℕ} {to : ℕ} → PutOver lent (take place lent ++ kepts cell) out to (kepts [])
+  pub over-lead : (lent : List ℕ) → overMost ≤ length lent → (plain : Bool) → plain ≡ plainBy (getD cell 0 0) (length (kepts cell)) → {place : ℕ}
+      → place ≡ cond plain 0 1 → {out : List ℕ} {to : ℕ} → PutOver lent (take place lent ++ kepts cell) out to (kepts [])
       → (to ≡ length (writeCell cell)) × Over (writeCell cell) lent (set out (5 - 5 * place) lead)
   unfolding marked
   over-lead [] six plain k isPlace p = absurd (omega arith)
@@ -129,10 +134,14 @@ module _ (cell : List ℕ) (size : length cell ≡ 5) (lead : ℕ) (isLead : lea
         beyond = drop-set-lt overMost out 0 lead (omega arith) ∙ o .beyond;
       }
 
-  pub laid-lead : (lent : List ℕ) → 1 ≤ length lent → plainBy (getD cell 0 0) (length (kepts cell)) ≡ false → {out : List ℕ} {to : ℕ} → Laid lent (take 1 lent ++ kepts cell) out to (kepts [])
+  pub laid-lead : (lent : List ℕ) → 1 ≤ length lent → plainBy (getD cell 0 0) (length (kepts cell)) ≡ false → {out : List ℕ} {to : ℕ}
+      → Laid lent (take 1 lent ++ kepts cell) out to (kepts [])
       → (to ≡ length (writeCell cell)) × (set out 0 lead ≡ inFront (writeCell cell) lent)
   unfolding kepts marked
   laid-lead [] h mark l = absurd (omega arith)
   laid-lead (x ∷ lent) h mark l =
       let w = count-marked cell mark in
-      rw w (laid-long l refl, ap (λ (out : List ℕ). set out 0 lead) (laid-done l refl) ∙ ap (λ (y : ℕ). y ∷ (kepts cell ++ drop (suc (length (kepts cell))) (x ∷ lent))) isLead)
+      rw w (
+        laid-long l refl,
+        ap (λ (out : List ℕ). set out 0 lead) (laid-done l refl) ∙ ap (λ (y : ℕ). y ∷ (kepts cell ++ drop (suc (length (kepts cell))) (x ∷ lent))) isLead,
+      )

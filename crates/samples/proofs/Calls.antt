@@ -47,12 +47,14 @@ code-numbers width values lent d = ap codedNumbers (d .0) ∙ code-cases (coding
 pub decode-unchanged : (width : ℕ) (bytes : List ℕ) (lent : List ℤ) {answer : Decoded} {held : List ℤ} → Decodes width bytes lent answer held
     → (accepts (decodedNumbers answer) → ⊥) → held ≡ lent
 decode-unchanged width bytes lent d refused =
-    d .1 ∙ refused-unchanged (λ (values : List ℤ). values) (decoding width bytes (length lent)) lent (λ a. refused (subst accepts (sym (decode-numbers width bytes lent d)) a))
+    d .1 ∙ refused-unchanged (λ (values : List ℤ). values) (decoding width bytes (length lent)) lent
+    (λ a. refused (subst accepts (sym (decode-numbers width bytes lent d)) a))
 
 pub code-unchanged : (width : ℕ) (values : List ℤ) (lent : List ℕ) {answer : Coded} {held : List ℕ} → Codes width values lent answer held
     → (accepts (codedNumbers answer) → ⊥) → held ≡ lent
 code-unchanged width values lent c refused =
-    c .1 ∙ refused-unchanged (λ (bytes : List ℕ). bytes) (coding width values (length lent)) lent (λ a. refused (subst accepts (sym (code-numbers width values lent c)) a))
+    c .1 ∙ refused-unchanged (λ (bytes : List ℕ). bytes) (coding width values (length lent)) lent
+    (λ a. refused (subst accepts (sym (code-numbers width values lent c)) a))
 
 -- Values, coded, and what was written decoded, wherever there is room: the same values. The values lent are 16-bit numbers
 pub code-then-decode : (width : ℕ) (values : List ℤ) (lent : List ℕ) (next : List ℤ) {coded : Coded} {held : List ℕ} {answer : Decoded} {kept : List ℤ}

@@ -33,7 +33,8 @@ pub decode-refused : (width : ℕ) (bytes : List ℕ) (lent : List ℤ) {refusal
 decode-refused width bytes lent f e = rw (e, f) (refl, refl)
 
 module _ (width : ℕ) (known : Holds (widthTest width)) (bytes : List ℕ) (paired : Paired width bytes) (lent : List ℤ) where
-  pub decode-short : {fault : Fault} → fault ≡ faultOf (14 at 0) → length lent < length bytes / (width / 8) → Decodes width bytes lent (decodes.Refused fault) lent
+  pub decode-short : {fault : Fault} → fault ≡ faultOf (14 at 0) → length lent < length bytes / (width / 8)
+      → Decodes width bytes lent (decodes.Refused fault) lent
   decode-short f h = decode-refused width bytes lent f (decoding-room width bytes (length lent) known paired (rw (decoded-length width known) h))
 
   pub decode-done : {count : ℕ} {held : List ℤ} → count ≡ length bytes / (width / 8) → count ≤ length lent → held ≡ inFront (decoded width bytes) lent

@@ -57,7 +57,8 @@ module _ {s : List ℕ} {answer : Step} where
 
     pub scanning-stop : {f : Fault} → step ≡ Refused f → step ≡ answer
     scanning-stop told =
-        told ∙ sym (v .rest ∙ ap (placeStep used) (row-stop s used left some (place-refused used (readCell used (drop used s)) e told (sym (ap stepFault told)))))
+        told ∙ sym (v .rest
+        ∙ ap (placeStep used) (row-stop s used left some (place-refused used (readCell used (drop used s)) e told (sym (ap stepFault told)))))
 
   pub scanning-done : {used left : ℕ} → Scanning s answer used left → left ≡ 0 → Next used ≡ answer
   scanning-done {used} v z =
@@ -83,13 +84,15 @@ module _ {s : List ℕ} {answer : Step} where
           move (scanning-more v (omega arith) (read-six used s (omega arith))) (e .1) (omega (arith, e .0))
 
   -- The cells of a block, as far as they stand inside what there is
-  pub scanning-block : (place size : ℕ) (lengths : List ℕ) → Follows (lengthsFrom s place) size lengths → place + size ≤ length s → {left : ℕ} {walk : Walk} → Scanning s answer place left
+  pub scanning-block : (place size : ℕ) (lengths : List ℕ) → Follows (lengthsFrom s place) size lengths → place + size ≤ length s → {left : ℕ} {walk : Walk}
+      → Scanning s answer place left
       → walk ≡ walkOf (passed lengths size left 0) → place + walk .at ≤ length s → Scanning s answer (place + walk .at) (walk .left)
   scanning-block place size lengths full inside {left} {walk} v e h =
       rw e (walked-over (λ at u. u) lengths size (λ (at left : ℕ) (u : Unit {0}). Scanning s answer (place + at) left) (length s - place)
       (λ at left u below far w.
       let long = full .right at below in
-      move (scanning-more w (omega arith) (read-got-at (place + at) s (omega arith))) (omega arith) (omega arith)) left 0 tt (move v (omega arith) refl) (omega (arith, ap Walk.at e)))
+      move (scanning-more w (omega arith) (read-got-at (place + at) s (omega arith))) (omega arith) (omega arith)) left 0 tt (move v (omega arith) refl)
+      (omega (arith, ap Walk.at e)))
 
 -- A block with some bytes has one cell or more
 pub block-less : (lengths : List ℕ) (size : ℕ) {left : ℕ} {walk : Walk} → 0 < size → 0 < left → walk ≡ walkOf (passed lengths size left 0) → walk .left < left

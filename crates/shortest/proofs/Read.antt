@@ -32,7 +32,8 @@ pub record Rewriting (stored lent goal out : List ℕ) (place to left : ℕ) : T
   pub writing : Laid lent goal out to (joined writeCell (cellsIn left (drop place stored)))
 
 pub rewriting-none : (stored lent : List ℕ) (from count : ℕ) → from ≤ length stored → accepted (readRow count from (drop from stored)) ≡ true
-    → length (joined writeCell (cellsIn count (drop from stored))) ≤ length lent → Rewriting stored lent (joined writeCell (cellsIn count (drop from stored))) lent from 0 count
+    → length (joined writeCell (cellsIn count (drop from stored))) ≤ length lent
+    → Rewriting stored lent (joined writeCell (cellsIn count (drop from stored))) lent from 0 count
 rewriting-none stored lent from count h g r = record { inside = h; fine = g; writing = laid-none lent (joined writeCell (cellsIn count (drop from stored))) r }
 
 module _ {stored lent goal out : List ℕ} {place to left : ℕ} (f : Rewriting stored lent goal out place to left) where
@@ -74,14 +75,18 @@ module _ {stored lent goal out : List ℕ} {place to left : ℕ} (f : Rewriting 
       rewriting-room = writing-room (f .writing) cells
 
       next : {new : List ℕ} {to′ : ℕ} → (place′ : ℕ) → place′ ≡ place + lengthBy (getD stored place 0)
-          → Laid lent goal new to′ (joined writeCell (cellsIn (left - 1) (drop (place + lengthBy (getD stored place 0)) stored))) → Rewriting stored lent goal new place′ to′ (left - 1)
+          → Laid lent goal new to′ (joined writeCell (cellsIn (left - 1) (drop (place + lengthBy (getD stored place 0)) stored)))
+          → Rewriting stored lent goal new place′ to′ (left - 1)
       next place′ u w = rw u (record { inside = first .fits; fine = first .rest; writing = w })
 
-      module _ (place′ : ℕ) (isPlace : place′ ≡ place + lengthBy (getD stored place 0)) (ys : List ℕ) (size : ℕ) (isSize : size ≡ length (writeCell cell)) where
-        pub rewriting-part : ys ≡ inFront (writeCell cell) (take (length out - to) (drop to out)) → Rewriting stored lent goal (putMid to (length out - to) out ys) place′ (to + size) (left - 1)
+      module _ (place′ : ℕ) (isPlace : place′ ≡ place + lengthBy (getD stored place 0)) (ys : List ℕ) (size : ℕ)
+          (isSize : size ≡ length (writeCell cell)) where
+        pub rewriting-part : ys ≡ inFront (writeCell cell) (take (length out - to) (drop to out))
+            → Rewriting stored lent goal (putMid to (length out - to) out ys) place′ (to + size) (left - 1)
         rewriting-part e = next place′ isPlace (writing-part (f .writing) cells ys size isSize e)
 
-        pub rewriting-over : overMost ≤ left → Over (writeCell cell) (take (length out - to) (drop to out)) ys → length ys ≡ length (take (length out - to) (drop to out))
+        pub rewriting-over : overMost ≤ left → Over (writeCell cell) (take (length out - to) (drop to out)) ys
+            → length ys ≡ length (take (length out - to) (drop to out))
             → Rewriting stored lent goal (putMid to (length out - to) out ys) place′ (to + size) (left - 1)
         rewriting-over more o l = next place′ isPlace (writing-over (f .writing) cells ys size isSize (omega (arith, rewriting-more)) o l)
 
@@ -100,7 +105,8 @@ pub record CellsOf (rows channels : ℕ) (stored : List ℕ) : Type 0 where
   pub fine : accepted (readRow (rows * channels) 0 stored) ≡ true
   pub same : storedPressed rows channels stored ≡ joined writeCell (cellsIn (rows * channels) stored)
 
-pub stored-pressed : (rows channels : ℕ) (stored : List ℕ) → accepted (readStored channels rows 0 stored) ≡ true → 0 < length (storedPressed rows channels stored)
+pub stored-pressed : (rows channels : ℕ) (stored : List ℕ) → accepted (readStored channels rows 0 stored) ≡ true
+    → 0 < length (storedPressed rows channels stored)
     → CellsOf rows channels stored
 unfolding readStored readCells
 stored-pressed rows channels [] g h = absurd (omega (arith, ap length (write-none (emptyRows channels rows) (rows-none channels rows))))

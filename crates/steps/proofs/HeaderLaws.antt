@@ -24,7 +24,13 @@ pub record PartOf (file : List ℕ) (part : HeaderPart) : Type 0 where
   pub start : part .start ≡ headerEnd file
 
 pub part-of : (file : List ℕ) {part : HeaderPart} → part ≡ headerPart file → PartOf file part
-part-of file e = record { channels = ap HeaderPart.channels e; patterns = ap HeaderPart.patterns e; instruments = ap HeaderPart.instruments e; start = ap HeaderPart.start e }
+part-of file e =
+    record {
+      channels = ap HeaderPart.channels e;
+      patterns = ap HeaderPart.patterns e;
+      instruments = ap HeaderPart.instruments e;
+      start = ap HeaderPart.start e;
+    }
 
 -- The tests decide
 module _ (kind : ModuleKind) (file : List ℕ) {fault : ℕ} (e : fault ≡ firstFault (headerTests kind 0 file)) where
@@ -35,11 +41,13 @@ module _ (kind : ModuleKind) (file : List ℕ) {fault : ℕ} (e : fault ≡ firs
   pub header-holds : fault ≡ 0 → AllHold (headerTests kind 0 file)
   header-holds = fault-holds 0 (headerTests kind 0 file) (omega arith) e
 
-pub header-read : (kind : ModuleKind) (file : List ℕ) → AllHold (headerTests kind 0 file) → readHeader kind 0 file ≡ got (record { kind = kind; place = 0; size = headerEnd file; content = headerOf kind file }) (headerEnd file)
+pub header-read : (kind : ModuleKind) (file : List ℕ) → AllHold (headerTests kind 0 file)
+    → readHeader kind 0 file ≡ got (record { kind = kind; place = 0; size = headerEnd file; content = headerOf kind file }) (headerEnd file)
 unfolding readHeader
 header-read kind file h = pass (headerTests kind 0 file) h refl
 
 -- What the step's answer says of the reading
-pub header-refused : (g : Got HeaderFound) {step : HeaderStep} {f r : Fault} → step ≡ headerStep g → step ≡ Refused f → r ≡ headerFault step → g ≡ refused (refusalIn r)
+pub header-refused : (g : Got HeaderFound) {step : HeaderStep} {f r : Fault} → step ≡ headerStep g → step ≡ Refused f → r ≡ headerFault step
+    → g ≡ refused (refusalIn r)
 header-refused (got i n) e told passed = cc
 header-refused (refused q) e told passed = cc

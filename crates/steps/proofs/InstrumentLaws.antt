@@ -32,7 +32,8 @@ use Rattle.heads.specs.Sample.{headsFrom}
 use Rattle.heads.proofs.SampleLaws.{heads-viewed, samples-size}
 
 -- What the step's answer says of the reading
-pub instrument-refused : (place : ℕ) (g : Got InstrumentFound) {step : InstrumentStep} {f r : Fault} → step ≡ instrumentStep place g → step ≡ Refused f → r ≡ instrumentFault step
+pub instrument-refused : (place : ℕ) (g : Got InstrumentFound) {step : InstrumentStep} {f r : Fault} → step ≡ instrumentStep place g → step ≡ Refused f
+    → r ≡ instrumentFault step
     → g ≡ refused (refusalIn r)
 instrument-refused place (got i n) e told passed = cc
 instrument-refused place (refused q) e told passed = cc
@@ -55,7 +56,8 @@ heads-by zero zero size H s e h = refl
 heads-by zero (suc k) size H s e h = absurd (omega arith)
 heads-by (suc n) k size H s e h = ap₂ (λ (a b : ℕ). headsFrom a b s) (sym e) (sym (h (omega arith)))
 
-samples-viewed : (count size place : ℕ) (s : List ℕ) (v : SamplesFound) (n : ℕ) → samplesFormat .read (replicate count size) place s ≡ got v n → each headFormat .view (v .0) ≡ headsFrom count size s
+samples-viewed : (count size place : ℕ) (s : List ℕ) (v : SamplesFound) (n : ℕ) → samplesFormat .read (replicate count size) place s ≡ got v n
+    → each headFormat .view (v .0) ≡ headsFrom count size s
 samples-viewed count size place s v n e =
     bind-got _ _ e λ hs m eh e₁. bind-got _ _ e₁ λ ds k ed e₂.
     got-carry (λ (r : SamplesFound) (u : ℕ). each headFormat .view (r .0) ≡ headsFrom count size s) e₂ (heads-viewed count size place s hs m eh)
@@ -87,8 +89,10 @@ pub record FieldsPass (kind : ModuleKind) (s : List ℕ) : Type 0 where
   pub heads : 1 ≤ countAt (fieldsOf kind s) → instrumentSizeAt s + countAt (fieldsOf kind s) * headerSizeAt (fieldsOf kind s) ≤ length s
 
 pub fields-pass : (kind : ModuleKind) (place : ℕ) (s : List ℕ) → AllHold (instrumentTests kind place s) → FieldsPass kind s
-fields-pass normal place s h = record { some = omega (arith, h .0); there = h .1 .1 .1 .1 .0; few = h .1 .1 .0; heads = λ some. h .1 .1 .1 .1 .1 .1 .0 (lt-ltb 0 (countAt s) some) }
-fields-pass stripped place s h = record { some = h .0; there = h .1 .1 .0; few = h .1 .1 .1 .0; heads = λ some. h .1 .1 .1 .1 .0 (lt-ltb 0 (countAt (fieldsOf stripped s)) some) }
+fields-pass normal place s h =
+    record { some = omega (arith, h .0); there = h .1 .1 .1 .1 .0; few = h .1 .1 .0; heads = λ some. h .1 .1 .1 .1 .1 .1 .0 (lt-ltb 0 (countAt s) some) }
+fields-pass stripped place s h =
+    record { some = h .0; there = h .1 .1 .0; few = h .1 .1 .1 .0; heads = λ some. h .1 .1 .1 .1 .0 (lt-ltb 0 (countAt (fieldsOf stripped s)) some) }
 
 -- A stripped one's k and H, as its own I cuts them; and there are samples where they take bytes
 pub count-cut : {size k : ℕ} (s : List ℕ) → size ≡ instrumentSizeAt s → Word 27 (take size s) k → k ≡ countAt (fieldsOf stripped s)
@@ -113,7 +117,15 @@ module _ (file : List ℕ) (kind : ModuleKind) (place : ℕ) where
   fields = fieldsOf kind from
 
   abbrev pub found : SamplesFound → InstrumentFound
-  found v = record { place = place; size = instrumentSizeAt from; name = part 4 22 fields; type = byteAt 26 fields; voice = voiceOf (countAt fields) fields; samples = v }
+  found v =
+      record {
+        place = place;
+        size = instrumentSizeAt from;
+        name = part 4 22 fields;
+        type = byteAt 26 fields;
+        voice = voiceOf (countAt fields) fields;
+        samples = v;
+      }
 
   -- The tests decide
   module _ {fault : ℕ} (e : fault ≡ firstFault (instrumentTests kind place from)) where
@@ -147,7 +159,8 @@ module _ (file : List ℕ) (kind : ModuleKind) (place : ℕ) where
     abbrev samples : Got SamplesFound
     samples = samplesFormat .read (replicate (head .samples) (head .«head_size»)) (head .heads) (drop (head .heads) file)
 
-    same-samples : samplesFormat .read (replicate (countAt fields) (headerSizeAt fields)) (place + instrumentSizeAt from) (drop (instrumentSizeAt from) from) ≡ samples
+    same-samples : samplesFormat .read (replicate (countAt fields) (headerSizeAt fields)) (place + instrumentSizeAt from) (drop (instrumentSizeAt from) from)
+        ≡ samples
     same-samples = cc (eh, same-sizes (countAt fields) fields, drop-drop (instrumentSizeAt from) place file)
 
     pub instrument-out : {r : Fault} → samples ≡ refused (refusalIn r) → readInstrument kind place from ≡ refused (refusalIn r)
@@ -159,7 +172,8 @@ module _ (file : List ℕ) (kind : ModuleKind) (place : ℕ) where
     instrument-in q = pass (instrumentTests kind place from) h (step _ (same-samples ∙ q) refl)
 
     pub instrument-read : {next size : ℕ} → Next next ≡ placeStep (head .heads) samples → size ≡ instrumentSizeAt from
-        → Read (record { size = size; samples = head .samples; «head_size» = head .«head_size»; next = next }) ≡ instrumentStep place (readInstrument kind place from)
+        → Read (record { size = size; samples = head .samples; «head_size» = head .«head_size»; next = next })
+        ≡ instrumentStep place (readInstrument kind place from)
     instrument-read {next} e p = next-got (head .heads) samples e λ v n q z.
         let s = samples-size (head .samples) (head .«head_size») (head .heads) (drop (head .heads) file) v n q in
         let many = ap InstrumentHead.samples eh in
@@ -172,9 +186,15 @@ module _ (file : List ℕ) (kind : ModuleKind) (place : ℕ) where
     pub samples : SamplesFound
     pub used : ℕ
     pub tests : AllHold (instrumentTests kind place from)
-    pub reads : samplesFormat .read (replicate (countAt fields) (headerSizeAt fields)) (place + instrumentSizeAt from) (drop (instrumentSizeAt from) from) ≡ got samples used
+    pub reads : samplesFormat .read (replicate (countAt fields) (headerSizeAt fields)) (place + instrumentSizeAt from) (drop (instrumentSizeAt from) from)
+        ≡ got samples used
     pub is : readInstrument kind place from ≡ got (found samples) (instrumentSizeAt from + used)
-    pub same : piece ≡ record { size = instrumentSizeAt from; samples = length (samples .0); «head_size» = sizeOfFirst (samples .0); next = place + (instrumentSizeAt from + used) }
+    pub same : piece ≡ record {
+      size = instrumentSizeAt from;
+      samples = length (samples .0);
+      «head_size» = sizeOfFirst (samples .0);
+      next = place + (instrumentSizeAt from + used);
+    }
 
   pub as-read : {piece : InstrumentPart} → Read piece ≡ instrumentStep place (readInstrument kind place from) → AsRead piece
   unfolding readInstrument
@@ -209,20 +229,30 @@ module _ (file : List ℕ) (kind : ModuleKind) (place : ℕ) where
     pub part-lies : PartLies
     part-lies =
         let w = fields-pass kind place from (r .tests) in
-        let s = samples-size (countAt fields) (headerSizeAt fields) (place + instrumentSizeAt from) (drop (instrumentSizeAt from) from) (r .samples) (r .used) (r .reads) in
+        let s = samples-size (countAt fields) (headerSizeAt fields) (place + instrumentSizeAt from) (drop (instrumentSizeAt from) from) (r .samples) (r .used)
+        (r .reads) in
         let count = ap InstrumentPart.samples (r .same) ∙ s .counted in
         let size = ap InstrumentPart.size (r .same) in
-        let head : 1 ≤ piece .samples → piece .«head_size» ≡ headerSizeAt fields = λ h. ap InstrumentPart.«head_size» (r .same) ∙ s .first (omega (arith, count)) in
+        let head : 1 ≤ piece .samples → piece .«head_size» ≡ headerSizeAt fields = λ h. ap InstrumentPart.«head_size» (r .same)
+        ∙ s .first (omega (arith, count)) in
         record {
           count = count;
           few = omega (arith, count, w .few);
           size = size;
           there = omega (arith, size, w .some, w .there, length-drop place file);
           head = head;
-          ends = omega (arith, size, ap InstrumentPart.next (r .same), s .behind, times (piece .samples) (countAt fields) (piece .«head_size») (headerSizeAt fields) count head);
+          ends = omega (
+            arith,
+            size,
+            ap InstrumentPart.next (r .same),
+            s .behind,
+            times (piece .samples) (countAt fields) (piece .«head_size») (headerSizeAt fields) count head,
+          );
           views =
-              samples-viewed (countAt fields) (headerSizeAt fields) (place + instrumentSizeAt from) (drop (instrumentSizeAt from) from) (r .samples) (r .used) (r .reads)
-              ∙ ap (headsFrom (countAt fields) (headerSizeAt fields)) (drop-drop (instrumentSizeAt from) place file ∙ ap (λ (n : ℕ). drop (place + n) file) (sym size))
+              samples-viewed (countAt fields) (headerSizeAt fields) (place + instrumentSizeAt from) (drop (instrumentSizeAt from) from) (r .samples) (r .used)
+              (r .reads)
+              ∙ ap (headsFrom (countAt fields) (headerSizeAt fields))
+              (drop-drop (instrumentSizeAt from) place file ∙ ap (λ (n : ℕ). drop (place + n) file) (sym size))
               ∙ heads-by (piece .samples) (countAt fields) (piece .«head_size») (headerSizeAt fields) (drop (place + piece .size) file) count head;
         }
 
@@ -230,4 +260,10 @@ module _ (file : List ℕ) (kind : ModuleKind) (place : ℕ) where
     pub part-inside : Bytes file → piece .next ≤ length file
     part-inside b =
         let w = fields-pass kind place from (r .tests) in
-        omega (arith, w .some, instrument-keeps kind .keeps place from (found (r .samples)) (instrumentSizeAt from + r .used) (bytes-drop place b) (r .is) .inside, ap InstrumentPart.next (r .same), length-drop place file)
+        omega (
+          arith,
+          w .some,
+          instrument-keeps kind .keeps place from (found (r .samples)) (instrumentSizeAt from + r .used) (bytes-drop place b) (r .is) .inside,
+          ap InstrumentPart.next (r .same),
+          length-drop place file,
+        )

@@ -19,8 +19,11 @@ module _ (file : List ℕ) where
   pub not-stripped : {mark : ℕ} → Byte 37 (take (length file) (drop 0 file)) mark → (mark ≡ 0 → ⊥) → false ≡ isStripped file
   not-stripped b h = sym (rw (ne-eqb (markAt file) 0 (λ q. h (b .value ∙ ap (byteAt 37) (take-length file) ∙ q))))
 
-  pub stripped-by : {mark version : ℕ} → Byte 37 (take (length file) (drop 0 file)) mark → mark ≡ 0 → Word 58 (take (length file) (drop 0 file)) version → eqb version 0 ≡ isStripped file
-  stripped-by b z w = sym (rw (eq-eqb (markAt file) 0 (sym (b .value ∙ ap (byteAt 37) (take-length file)) ∙ z)) (ap (λ (n : ℕ). eqb n 0) (sym (w .value ∙ ap (wordAt 58) (take-length file)))))
+  pub stripped-by : {mark version : ℕ} → Byte 37 (take (length file) (drop 0 file)) mark → mark ≡ 0 → Word 58 (take (length file) (drop 0 file)) version
+      → eqb version 0 ≡ isStripped file
+  stripped-by b z w =
+      sym (rw (eq-eqb (markAt file) 0 (sym (b .value ∙ ap (byteAt 37) (take-length file)) ∙ z))
+      (ap (λ (n : ℕ). eqb n 0) (sym (w .value ∙ ap (wordAt 58) (take-length file)))))
 
   -- what the code was told is the file's own
   pub own-kind : {is : Bool} → is ≡ isStripped file → kindBy is ≡ kindAt file

@@ -45,15 +45,24 @@ pub record HeadOf (from : ℕ) (file : List ℕ) (head : PatternHead) : Type 0 w
 pub head-of : (place : ℕ) (file : List ℕ) {head : PatternHead} → Bytes file → head ≡ patternHead place (drop place file) → HeadOf place file head
 head-of place file b e =
     let t = bytes-drop place b in
-    record { place = ap PatternHead.place e; size = ap PatternHead.size e; rows = ap PatternHead.rows e; near = long-small 0 t; small = word-small 7 t; left = length-drop place file }
+    record {
+      place = ap PatternHead.place e;
+      size = ap PatternHead.size e;
+      rows = ap PatternHead.rows e;
+      near = long-small 0 t;
+      small = word-small 7 t;
+      left = length-drop place file;
+    }
 
 -- What the answer over its stored cells says of their reading
-pub stored-refused : (s : List ℕ) (g : Got Pattern) {step : StoredStep} {f r : Fault} → step ≡ storedOf s g → step ≡ stored.Refused f → r ≡ storedFault step → g ≡ refused (refusalIn r)
+pub stored-refused : (s : List ℕ) (g : Got Pattern) {step : StoredStep} {f r : Fault} → step ≡ storedOf s g → step ≡ stored.Refused f → r ≡ storedFault step
+    → g ≡ refused (refusalIn r)
 stored-refused s (got p n) e told passed = cc
 stored-refused s (refused q) e told passed = cc
 
 -- and what the step's answer says
-pub pattern-refused : (file : List ℕ) (place : ℕ) (g : Got PatternFound) {step : PatternStep} {f r : Fault} → step ≡ patternStep file place g → step ≡ Refused f → r ≡ patternFault step
+pub pattern-refused : (file : List ℕ) (place : ℕ) (g : Got PatternFound) {step : PatternStep} {f r : Fault} → step ≡ patternStep file place g
+    → step ≡ Refused f → r ≡ patternFault step
     → g ≡ refused (refusalIn r)
 pattern-refused file place (got i n) e told passed = cc
 pattern-refused file place (refused q) e told passed = cc
@@ -114,10 +123,12 @@ module _ (file : List ℕ) (place channels : ℕ) where
     next-place = omega (arith, ap PatternHead.place eh, ap PatternHead.size eh)
 
     pub read-in : (g : Got Pattern) {size : StoredSize} → cells ≡ g → stored.Read size ≡ storedOf cut g
-        → Read (record { shortest = size .shortest; same = size .same; next = head .place + head .size }) ≡ patternStep file place (readPattern channels place from)
+        → Read (record { shortest = size .shortest; same = size .same; next = head .place + head .size })
+        ≡ patternStep file place (readPattern channels place from)
     read-in (got p n) q e = cc (pattern-in q, same-cut, next-place)
     read-in (refused r) q e = cc
 
-    pub scan-in : (g : Got Pattern) {n : ℕ} → cells ≡ g → Next n ≡ placeStep 0 g → Next (head .place + head .size) ≡ placeStep place (readPattern channels place from)
+    pub scan-in : (g : Got Pattern) {n : ℕ} → cells ≡ g → Next n ≡ placeStep 0 g
+        → Next (head .place + head .size) ≡ placeStep place (readPattern channels place from)
     scan-in (got p n) q e = cc (pattern-in q, next-place)
     scan-in (refused r) q e = cc

@@ -23,7 +23,8 @@ module _ (file : List ℕ) {answer : Verdict} (met : answer ≡ verdictOf (check
   reported = ap verdictNumbers met ∙ verdict-numbers (checking file)
 
   -- An acceptable file is accepted, with its end and the counts of its content
-  pub check-accepts : (kind : ModuleKind) (content : Content) (f : FileOf (moduleFormat kind) content file) → verdictNumbers answer ≡ 0 ∷ 0 ∷ f .end ∷ countsOf content
+  pub check-accepts : (kind : ModuleKind) (content : Content) (f : FileOf (moduleFormat kind) content file)
+      → verdictNumbers answer ≡ 0 ∷ 0 ∷ f .end ∷ countsOf content
   check-accepts kind content f = reported ∙ demand₂ .check .accepted kind content file f
 
   -- A file that is accepted is an acceptable file, of some kind and content

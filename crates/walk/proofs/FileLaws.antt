@@ -55,7 +55,8 @@ count-got : {R : Type 0} (place : ℕ) (g : Got (List InstrumentFound)) {part : 
 count-got place (got is n) e k = k is n refl (cc) (cc)
 count-got place (refused r) e k = absurd (no-true (cc))
 
-pub count-refused : (place : ℕ) (g : Got (List InstrumentFound)) {step : CountStep} {f r : Fault} → step ≡ countStep place g → step ≡ counted.Refused f → r ≡ countFault step → g ≡ refused (refusalIn r)
+pub count-refused : (place : ℕ) (g : Got (List InstrumentFound)) {step : CountStep} {f r : Fault} → step ≡ countStep place g → step ≡ counted.Refused f
+    → r ≡ countFault step → g ≡ refused (refusalIn r)
 count-refused place (got is n) e told passed = cc
 count-refused place (refused q) e told passed = cc
 
@@ -77,7 +78,8 @@ pub file-small : {I A : Type 0} (F : Format (Unit {0}) I A) (file : List ℕ) �
 unfolding readWhole
 file-small F file h = pass _ (h, tt) refl
 
-refused-first : {A B : Type 0} (size : Got (Unit {0})) (g : Got A) (k : A × ℕ → Got B) {r : Refusal} → (size >> g) ≡ refused r → (size >> (g >>= k)) ≡ refused r
+refused-first : {A B : Type 0} (size : Got (Unit {0})) (g : Got A) (k : A × ℕ → Got B) {r : Refusal} → (size >> g) ≡ refused r
+    → (size >> (g >>= k)) ≡ refused r
 unfolding _>>_ _>>=_
 refused-first (got u n) (got i m) k e = cc
 refused-first (got u n) (refused q) k e = cc
@@ -128,7 +130,8 @@ module _ (file : List ℕ) where
     began = go (readWhole (headerFormat kind) file) refl e
       where
         go : (g : Got HeaderFound) → readWhole (headerFormat kind) file ≡ g → header.Read part ≡ headerStep g → Began
-        go (got i n) q e = whole-read (headerFormat kind) file i n q λ small r. record { head = i; small = small; reads = cc; channels = cc; patterns = cc; instruments = cc }
+        go (got i n) q e = whole-read (headerFormat kind) file i n q λ small r.
+            record { head = i; small = small; reads = cc; channels = cc; patterns = cc; instruments = cc }
         go (refused r) q e = absurd (no-true (cc))
 
     whole : readFile file ≡ moduleFormat kind .read tt 0 file
@@ -148,7 +151,15 @@ module _ (file : List ℕ) where
         let h = began in
         let w = header-keeps kind .keeps 0 file (h .head) (part .start) b (h .reads) in
         let counts = w .good .counts in
-        record { small = h .small; long = header-there kind 0 file (h .head) (part .start) (h .reads); start = w .inside; low = omega arith; high = omega arith; many = omega arith; few = omega arith }
+        record {
+          small = h .small;
+          long = header-there kind 0 file (h .head) (part .start) (h .reads);
+          start = w .inside;
+          low = omega arith;
+          high = omega arith;
+          many = omega arith;
+          few = omega arith;
+        }
 
     -- The patterns
     abbrev patterns : Got (List PatternFound)
@@ -186,7 +197,8 @@ module _ (file : List ℕ) where
       pub patterns-told : Bytes file → PatternsTold
       patterns-told b =
           let t = header-told b in
-          let w = many-keeps patternFormat (part .patterns) (pattern-keeps (part .channels) (t .low)) .keeps (part .start) (drop (part .start) file) (ps .parts) (ps .used) (bytes-drop (part .start) b) (ps .reads) in
+          let w = many-keeps patternFormat (part .patterns) (pattern-keeps (part .channels) (t .low)) .keeps (part .start) (drop (part .start) file)
+          (ps .parts) (ps .used) (bytes-drop (part .start) b) (ps .reads) in
           let l = length-drop (part .start) file in
           record { inside = omega (arith, w .inside, t .start, ps .ends); pressed = omega (arith, w .inside, w .short) }
 
@@ -194,14 +206,16 @@ module _ (file : List ℕ) where
       abbrev instruments : Got (List InstrumentFound)
       instruments = each (instrumentFormat kind) .read (replicate (part .instruments) tt) next (drop next file)
 
-      same-instruments : each (instrumentFormat kind) .read (instrumentsFor (began .head .content) (each patternFormat .view (ps .parts))) (0 + part .start + ps .used) (drop (ps .used) (drop (part .start) file)) ≡ instruments
+      same-instruments : each (instrumentFormat kind) .read (instrumentsFor (began .head .content) (each patternFormat .view (ps .parts)))
+          (0 + part .start + ps .used) (drop (ps .used) (drop (part .start) file)) ≡ instruments
       same-instruments = let h = began in rw (zero-add, drop-drop, ← (ps .ends), ← (h .instruments))
 
       pub instruments-out : {r : Refusal} → instruments ≡ refused r → readFile file ≡ refused r
       instruments-out q = whole ∙ step-on _ (began .reads) (step-refused _ (step-on _ (same-patterns ∙ ps .reads) (step-refused _ (same-instruments ∙ q))))
 
       -- All of the file is read
-      all-read : (rest : List InstrumentFound) (n last : ℕ) → instruments ≡ got rest n → last ≡ next + n → readFile file ≡ got (began .head, (ps .parts, rest)) last
+      all-read : (rest : List InstrumentFound) (n last : ℕ) → instruments ≡ got rest n → last ≡ next + n
+          → readFile file ≡ got (began .head, (ps .parts, rest)) last
       all-read rest n last ei q =
           let on : last ≡ part .start + (ps .used + n) = omega (arith, ps .ends) in
           whole ∙ step-on _ (began .reads) (step-on _ (step-on _ (same-patterns ∙ ps .reads) (step-on _ (same-instruments ∙ ei) refl)) (cc on))
@@ -209,23 +223,28 @@ module _ (file : List ℕ) where
       -- and measured
       module _ (to : ModuleKind) {last : Run} (o : run.Read last ≡ instrumentsStep to next instruments) where
         pub walk-accepted : Bytes file → {size pressed : ℕ} → size ≡ leastHeader to (wordAt 64 file) + 60
-            → pressed ≡ size + length (each patternFormat .write (each patternFormat .view (ps .parts))) + last .pressed → walked.Accepted pressed ≡ walkStep to (readFile file)
+            → pressed ≡ size + length (each patternFormat .write (each patternFormat .view (ps .parts))) + last .pressed
+            → walked.Accepted pressed ≡ walkStep to (readFile file)
         walk-accepted b q x = run-got (instrumentFormat to) next instruments o λ is m ei z l.
             let h = began in
             let good = header-keeps kind .keeps 0 file (h .head) (part .start) b (h .reads) .good in
-            let front = header-length kind to (h .head .content) good ∙ ap (λ (n : ℕ). leastHeader to n + 60) (song-length kind 0 file (h .head) (part .start) (h .reads)) in
+            let front = header-length kind to (h .head .content) good
+            ∙ ap (λ (n : ℕ). leastHeader to n + 60) (song-length kind 0 file (h .head) (part .start) (h .reads)) in
             ap walked.Accepted (sym (simp length-append (omega (arith, front)))) ∙ sym (ap (walkStep to) (all-read is m (last .next) ei z))
 
         -- with the marks of its patterns that their loop left
         pub walk-marked : (marks : List ℕ) → ((ps : List PatternFound) (n : ℕ) → patterns ≡ got ps n → Marks file 0 ps marks)
             → (found : Found) (end : ℕ) → readFile file ≡ got found end → Marks file 0 (found .1 .0) marks
         walk-marked marks told found end f = run-got (instrumentFormat to) next instruments o λ is m ei z l.
-            got-carry (λ (r : Found) (u : ℕ). Marks file 0 (r .1 .0) marks) (sym (all-read is m (last .next) ei z) ∙ f) (told (ps .parts) (ps .used) (ps .reads))
+            got-carry (λ (r : Found) (u : ℕ). Marks file 0 (r .1 .0) marks) (sym (all-read is m (last .next) ei z) ∙ f)
+            (told (ps .parts) (ps .used) (ps .reads))
 
       -- or counted
-      pub check-accepted : {last : Count} → counted.Read last ≡ countStep next instruments → {end channels patterns instruments samples : ℕ} → end ≡ last .next → channels ≡ part .channels
+      pub check-accepted : {last : Count} → counted.Read last ≡ countStep next instruments → {end channels patterns instruments samples : ℕ} → end ≡ last .next
+          → channels ≡ part .channels
           → patterns ≡ part .patterns → instruments ≡ part .instruments → samples ≡ last .samples
-          → verdict.Accepted (record { end = end; channels = channels; patterns = patterns; instruments = instruments; samples = samples }) ≡ verdictOf (checking file)
+          → verdict.Accepted (record { end = end; channels = channels; patterns = patterns; instruments = instruments; samples = samples })
+          ≡ verdictOf (checking file)
       unfolding checking
       check-accepted {last} o a b c d f = count-got next instruments o λ is m ei z s.
           let h = began in

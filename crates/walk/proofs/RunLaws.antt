@@ -89,19 +89,24 @@ module _ (file : List ℕ) (start channels count : ℕ) where
         × ((is : List PatternFound) (n : ℕ) → patterns ≡ got is n → Marks file 0 is marks)
     patterns-end h =
         let e = reached-end patternFormat _ file start (w .reached) (rw length-replicate h) in
-        let on : place ≡ start + (place - start) = omega (arith, w .reached .left .from) in
-        (cc (e, w .reached .told .written), λ is n q. got-carry (λ (r : List PatternFound) (u : ℕ). Marks file 0 r marks) (sym e ∙ q) (w .reached .told .marked))
+        let on : place ≡ start + (place - start) = omega (arith, w .reached .left .from) in (
+          cc (e, w .reached .told .written),
+          λ is n q. got-carry (λ (r : List PatternFound) (u : ℕ). Marks file 0 r marks) (sym e ∙ q) (w .reached .told .marked),
+        )
 
     module _ (h : j < count) where
       -- A refusal leaves nothing to mark
-      pub patterns-out : {step : PatternStep} {f r : Fault} → step ≡ patternStep file place (readPattern channels place (drop place file)) → step ≡ pattern.Refused f → r ≡ patternFault step
+      pub patterns-out : {step : PatternStep} {f r : Fault} → step ≡ patternStep file place (readPattern channels place (drop place file))
+          → step ≡ pattern.Refused f → r ≡ patternFault step
           → (run.Refused r ≡ patternsStep start patterns) × ((is : List PatternFound) (n : ℕ) → patterns ≡ got is n → Marks file 0 is marks)
       patterns-out e told passed =
           let out =
-          reached-out patternFormat _ file start (w .reached) channels (rw length-replicate h) (getD-replicate count j channels channels h) (pattern-refused file place _ e told passed) in
+          reached-out patternFormat _ file start (w .reached) channels (rw length-replicate h) (getD-replicate count j channels channels h)
+          (pattern-refused file place _ e told passed) in
           (sym (ap (patternsStep start) out), λ is n q. absurd (no-true (cc)))
 
-      module _ (b : Bytes file) (c : 1 ≤ channels) {part : PatternPart} (e : pattern.Read part ≡ patternStep file place (readPattern channels place (drop place file))) where
+      module _ (b : Bytes file) (c : 1 ≤ channels) {part : PatternPart}
+          (e : pattern.Read part ≡ patternStep file place (readPattern channels place (drop place file))) where
         pub patterns-on : {mark : ℕ} {after : List ℕ} → mark ≡ markBy (part .shortest) (part .same) → Put marks j mark after
             → PatternsRead file start channels count (j + 1) (part .next) (pressed + (9 + part .shortest)) after
         patterns-on by put = pattern-got file place _ e λ i n ei q z m.
@@ -111,7 +116,8 @@ module _ (file : List ℕ) (start channels count : ℕ) where
             let count = w .reached .left .count in
             record {
               reached =
-                  reached-on patternFormat _ file start (w .reached) channels (rw length-replicate h) (getD-replicate _ j channels channels h) (PatternsTold file _ _) ei q
+                  reached-on patternFormat _ file start (w .reached) channels (rw length-replicate h) (getD-replicate _ j channels channels h)
+                  (PatternsTold file _ _) ei q
                   (λ t. record {
                     written = omega (arith, t .written, size, written-more patternFormat done i);
                     marked = marks-more file 0 done (omega (arith, count)) put (t .marked) (mark-told file i z m by);
@@ -139,11 +145,13 @@ module _ (file : List ℕ) (start channels count : ℕ) where
       tried-out e told = refused-on place start _ _ e told λ r er.
           reached-out patternFormat _ file start (w .reached) channels (rw length-replicate h) (getD-replicate count j channels channels h) er
 
-      pub tried-on : Bytes file → 1 ≤ channels → {next : ℕ} → Next next ≡ placeStep place (readPattern channels place (drop place file)) → PatternsTried file start channels count (j + 1) next
+      pub tried-on : Bytes file → 1 ≤ channels → {next : ℕ} → Next next ≡ placeStep place (readPattern channels place (drop place file))
+          → PatternsTried file start channels count (j + 1) next
       tried-on b c e = next-got place _ e λ i n ei q.
           let k = pattern-keeps channels c .keeps place (drop place file) i n (bytes-drop place b) ei in
           record {
-            reached = reached-on patternFormat _ file start (w .reached) channels (rw length-replicate h) (getD-replicate count j channels channels h) (λ done. Unit {0}) ei q (λ t. tt);
+            reached = reached-on patternFormat _ file start (w .reached) channels (rw length-replicate h) (getD-replicate count j channels channels h)
+                (λ done. Unit {0}) ei q (λ t. tt);
             inside = omega (arith, w .inside, k .inside, length-drop place file);
           }
 
@@ -155,7 +163,8 @@ pub record InstrumentsTried (file : List ℕ) (start count j place samples : ℕ
 
 -- and over those that are measured: written in a kind of module, they are longer by no more than fields and headers take
 pub record InstrumentsRead (file : List ℕ) (to : ModuleKind) (start count j place pressed : ℕ) : Type 0 where
-  pub reached : Reached (instrumentFormat (kindAt file)) (replicate count tt) file start (λ done. pressed ≡ length (each (instrumentFormat to) .write (each (instrumentFormat to) .view done))) j place
+  pub reached : Reached (instrumentFormat (kindAt file)) (replicate count tt) file start
+      (λ done. pressed ≡ length (each (instrumentFormat to) .write (each (instrumentFormat to) .view done))) j place
   pub inside : place ≤ length file
   pub short : start + pressed ≤ place + 903 * j
 
@@ -176,10 +185,14 @@ module _ (file : List ℕ) (start count : ℕ) where
   pub instruments-start : (to : ModuleKind) → start ≤ length file → InstrumentsRead file to start count 0 start 0
   instruments-start to l = record { reached = reached-start (instrumentFormat kind) _ file start _ refl; inside = l; short = omega arith }
 
-  module _ {j place : ℕ} {Told : List InstrumentFound → Type 0} (w : Reached (instrumentFormat kind) (replicate count tt) file start Told j place) (h : j < count) where
-    pub instruments-out : {step : InstrumentStep} {f r : Fault} → step ≡ instrumentStep place (readInstrument kind place (drop place file)) → step ≡ instrument.Refused f → r ≡ instrumentFault step
+  module _ {j place : ℕ} {Told : List InstrumentFound → Type 0} (w : Reached (instrumentFormat kind) (replicate count tt) file start Told j place)
+      (h : j < count) where
+    pub instruments-out : {step : InstrumentStep} {f r : Fault} → step ≡ instrumentStep place (readInstrument kind place (drop place file))
+        → step ≡ instrument.Refused f → r ≡ instrumentFault step
         → instruments ≡ refused (refusalIn r)
-    instruments-out e told passed = reached-out (instrumentFormat kind) _ file start w tt (rw length-replicate h) (getD-replicate count j tt tt h) (instrument-refused place _ e told passed)
+    instruments-out e told passed =
+        reached-out (instrumentFormat kind) _ file start w tt (rw length-replicate h) (getD-replicate count j tt tt h)
+        (instrument-refused place _ e told passed)
 
   module _ {j place samples : ℕ} (w : InstrumentsTried file start count j place samples) where
     pub counted-end : count ≤ j → counted.Read (record { next = place; samples = samples }) ≡ countStep start instruments
@@ -187,7 +200,8 @@ module _ (file : List ℕ) (start count : ℕ) where
         let on : place ≡ start + (place - start) = omega (arith, w .reached .left .from) in
         cc (reached-end (instrumentFormat kind) _ file start (w .reached) (rw length-replicate h), w .reached .told)
 
-    pub counted-on : j < count → Bytes file → {part : InstrumentPart} → instrument.Read part ≡ instrumentStep place (readInstrument kind place (drop place file))
+    pub counted-on : j < count → Bytes file → {part : InstrumentPart}
+        → instrument.Read part ≡ instrumentStep place (readInstrument kind place (drop place file))
         → InstrumentsTried file start count (j + 1) (part .next) (samples + part .samples)
     counted-on h b e = instrument-got place _ e λ i n ei q c.
         let k = instrument-keeps kind .keeps place (drop place file) i n (bytes-drop place b) ei in
@@ -210,7 +224,8 @@ module _ (file : List ℕ) (start count : ℕ) where
         let on : place ≡ start + (place - start) = omega (arith, w .reached .left .from) in
         cc (reached-end (instrumentFormat kind) _ file start (w .reached) (rw length-replicate h), w .reached .told)
 
-    pub instruments-on : j < count → Bytes file → {part : InstrumentPart} (form : Form) → instrument.Read part ≡ instrumentStep place (readInstrument kind place (drop place file))
+    pub instruments-on : j < count → Bytes file → {part : InstrumentPart} (form : Form)
+        → instrument.Read part ≡ instrumentStep place (readInstrument kind place (drop place file))
         → Told (λ i. FormIs to place (part .next) (instrumentView i) form) (readInstrument kind place (drop place file))
         → InstrumentsRead file to start count (j + 1) (part .next) (pressed + form .length)
     instruments-on h b {part} form e told = instrument-got place _ e λ i n ei q c.

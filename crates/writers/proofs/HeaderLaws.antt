@@ -50,11 +50,13 @@ orders-size kind orders = simp (length-append, length-replicate) (omega arith)
 -- The three parts are the whole
 module _ (kind : ModuleKind) (tracker : List ℕ) where
   pub header-parts : (patterns : ℕ) (orders file : List ℕ)
-      → writeHeader kind (headerWith tracker patterns orders file) ≡ namesOf kind tracker file ++ (numbersOf kind (length orders) patterns file ++ ordersOf kind orders)
+      → writeHeader kind (headerWith tracker patterns orders file)
+      ≡ namesOf kind tracker file ++ (numbersOf kind (length orders) patterns file ++ ordersOf kind orders)
   unfolding writeHeader
   header-parts patterns orders file =
       let numbers : List (List ℕ) =
-      long (leastHeader kind (length orders)) ∷ word (length orders) ∷ word (restartOf (length orders) (wordAt 66 file)) ∷ word (channelsAt file) ∷ word patterns ∷ word (instrumentsAt file)
+      long (leastHeader kind (length orders)) ∷ word (length orders) ∷ word (restartOf (length orders) (wordAt 66 file)) ∷ word (channelsAt file)
+      ∷ word patterns ∷ word (instrumentsAt file)
       ∷ word (wordAt 74 file) ∷ word (wordAt 76 file) ∷ word (wordAt 78 file) ∷ [] in
       let table : List (List ℕ) = orders ∷ replicate (padding kind (length orders)) 0 ∷ [] in
       flat-append (idText kind ∷ part 17 20 file ∷ byte (mark kind) ∷ tracker ∷ word (version kind) ∷ []) (numbers ++ table)

@@ -13,7 +13,8 @@ pub part-length : (offset size : ℕ) (s : List ℕ) → offset + size ≤ lengt
 part-length offset size s h = length-take-le size (drop offset s) (omega (arith, length-drop offset s))
 
 -- A part of what stands from a place on, as the code cuts it out
-pub part-cut : (place offset size : ℕ) (file : List ℕ) → take (place + (offset + size) - (place + offset)) (drop (place + offset) file) ≡ part offset size (drop place file)
+pub part-cut : (place offset size : ℕ) (file : List ℕ)
+    → take (place + (offset + size) - (place + offset)) (drop (place + offset) file) ≡ part offset size (drop place file)
 part-cut place offset size file =
     let n : place + (offset + size) - (place + offset) ≡ size = omega arith in
     ap₂ (λ (k : ℕ) (l : List ℕ). take k l) n (sym (drop-drop offset place file))

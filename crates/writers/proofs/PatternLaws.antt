@@ -122,7 +122,8 @@ module _ (file : List ℕ) (place channels mark : ℕ) where
       pub pattern-lies : Bytes file → 1 ≤ channels → channels ≤ channelsMost → PatternLies
       pattern-lies b some high =
           let h = w .tests in
-          let k = stored-keeps channels (wordAt 5 from) (place + L) d (w .pattern) (w .used) (bytes-take S (bytes-drop L (bytes-drop place b))) some (h .1 .1 .0 .0) (h .1 .1 .0 .1) (w .reads) in
+          let k = stored-keeps channels (wordAt 5 from) (place + L) d (w .pattern) (w .used) (bytes-take S (bytes-drop L (bytes-drop place b))) some
+          (h .1 .1 .0 .0) (h .1 .1 .0 .1) (w .reads) in
           record {
             there = omega (arith, h .0, h .1 .1 .1 .0, length-drop place file);
             rows-high = omega (arith, h .1 .1 .0 .1);

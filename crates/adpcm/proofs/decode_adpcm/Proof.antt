@@ -21,8 +21,10 @@ returns-2 c =
 
 returns-3 : tie.Need-returns-3
 returns-3 c =
-    let a = c .before .before .before .before .before .before .before .args in
-    decode-done (a .count) (now (a .bytes)) (now (a .values)) (omega (arith, c .before .before .before .before .if1 .left, c .before .before .before .before .before .adpcm-size .ensures)) (omega arith)
+    let c₄ = c .before .before .before .before in
+    let c₅ = c₄ .before in
+    let a = c₅ .before .before .args in
+    decode-done (a .count) (now (a .bytes)) (now (a .values)) (omega (arith, c₄ .if1 .left, c₅ .adpcm-size .ensures)) (omega arith)
     (c .before .write-values .ensures)
 
 pub decode-adpcm-spec : {M : Type 1} → statement M

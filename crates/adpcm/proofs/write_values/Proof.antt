@@ -24,21 +24,30 @@ shared-slice-read-pair : tie.Need-shared-slice-read-pair Inv-loop μ-loop
 shared-slice-read-pair c = writing-inside (c .before .before .loop .inv) (omega arith) .0
 
 shared-slice-read-sum8 : tie.Need-shared-slice-read-sum8 Inv-loop μ-loop
-shared-slice-read-sum8 c = omega (arith, writing-inside (c .before .before .before .before .before .loop .inv) (omega arith) .1, c .before .before .low-half .ensures .1)
+shared-slice-read-sum8 c =
+    let l = c .before .before .before .before .before .loop in
+    omega (arith, writing-inside (l .inv) (omega arith) .1, c .before .before .low-half .ensures .1)
 
 shared-slice-read-sum8-2 : tie.Need-shared-slice-read-sum8-2 Inv-loop μ-loop
 shared-slice-read-sum8-2 c =
-    omega (arith, writing-inside (c .before .before .before .before .before .before .before .loop .inv) (omega arith) .1, c .before .before .before .high-half .ensures .1)
+    let l = c .before .before .before .before .before .before .before .loop in
+    omega (arith, writing-inside (l .inv) (omega arith) .1, c .before .before .before .high-half .ensures .1)
 
 slice-set-from-values : tie.Need-slice-set-from-values Inv-loop μ-loop
 slice-set-from-values c = omega (arith, c .before .before .before .before .before .before .before .before .before .loop .inv .laid .kept)
 
 slice-set-from-values-2 : tie.Need-slice-set-from-values-2 Inv-loop μ-loop
-slice-set-from-values-2 c = simp length-set (omega (arith, c .before .before .before .before .before .before .before .before .before .before .loop .inv .laid .kept))
+slice-set-from-values-2 c =
+    let l = c .before .before .before .before .before .before .before .before .before .before .loop in
+    simp length-set (omega (arith, l .inv .laid .kept))
 
 loop-again : tie.Need-loop-again Inv-loop μ-loop
 loop-again c =
-    writing-pair (c .before .before .before .before .before .before .before .before .before .before .loop .inv) (omega arith) (c .before .before .before .before .before .before .before .low-half .ensures .0) (c .before .before .before .before .before .before .high-half .ensures .0) (c .before .before .before .before .sum8 .ensures) (c .before .before .sum82 .ensures)
+    let c₄ = c .before .before .before .before in
+    let c₆ = c₄ .before .before in
+    let c₇ = c₆ .before in
+    let l = c₇ .before .before .before .loop in
+    writing-pair (l .inv) (omega arith) (c₇ .low-half .ensures .0) (c₆ .high-half .ensures .0) (c₄ .sum8 .ensures) (c .before .before .sum82 .ensures)
     (toZ-ofZ (record { sfits = c .before .value8 .ok }) ∙ c .before .value8 .ensures)
     (toZ-ofZ (record { sfits = c .value82 .ok }) ∙ c .value82 .ensures)
 
@@ -46,18 +55,22 @@ shared-slice-read-low-half : tie.Need-shared-slice-read-low-half Inv-loop μ-loo
 shared-slice-read-low-half c = writing-inside (c .before .before .before .loop .inv) (omega arith) .0
 
 shared-slice-read-sum8-3 : tie.Need-shared-slice-read-sum8-3 Inv-loop μ-loop
-shared-slice-read-sum8-3 c = omega (arith, writing-inside (c .before .before .before .before .before .loop .inv) (omega arith) .1, c .before .low-half2 .ensures .1)
+shared-slice-read-sum8-3 c =
+    let l = c .before .before .before .before .before .loop in
+    omega (arith, writing-inside (l .inv) (omega arith) .1, c .before .low-half2 .ensures .1)
 
 slice-set-from-values-3 : tie.Need-slice-set-from-values-3 Inv-loop μ-loop
 slice-set-from-values-3 c = omega (arith, c .before .before .before .before .before .before .before .loop .inv .laid .kept)
 
 same-length : tie.Need-same-length Inv-loop μ-loop
 same-length c =
-    length-set (c .before .before .before .before .before .before .before .loop .values) (c .before .before .before .before .before .before .before .loop .i) _ ∙ c .before .before .before .before .before .before .before .loop .inv .laid .kept
+    let l = c .before .before .before .before .before .before .before .loop in
+    length-set (l .values) (l .i) _ ∙ l .inv .laid .kept
 
 returns : tie.Need-returns Inv-loop μ-loop
 returns c =
-    writing-last (c .before .before .before .before .before .before .before .loop .inv) (omega arith) (omega arith) (c .before .before .before .low-half2 .ensures .0) (c .before .sum83 .ensures)
+    let l = c .before .before .before .before .before .before .before .loop in
+    writing-last (l .inv) (omega arith) (omega arith) (c .before .before .before .low-half2 .ensures .0) (c .before .sum83 .ensures)
     (toZ-ofZ (record { sfits = c .value83 .ok }) ∙ c .value83 .ensures)
 
 same-length-2 : tie.Need-same-length-2 Inv-loop μ-loop

@@ -35,14 +35,20 @@ wide c = omega (arith, leb-true)
 abbrev from : tie.After-fill-first Inv-loop μ-loop → tie.At-loop Inv-loop μ-loop
 from c = c .before .before .before .before .before .before
 
-front : (c : tie.After-fill-first Inv-loop μ-loop) {written : List ℕ}
-    → written ≡ inFront (firstFields (from c .loop .word) (drop (from c .loop .at) (now (from c .before .before .before .before .args .stored)))) (take (length (from c .loop .out) - from c .loop .to) (drop (from c .loop .to) (from c .loop .out)))
-    → Filling (now (from c .before .before .before .before .args .stored)) (flat (cellsIn (from c .before .before .before .before .args .count) (now (from c .before .before .before .before .args .stored)))) (now (from c .before .before .before .before .args .out)) (putMid (from c .loop .to) (length (from c .loop .out) - from c .loop .to) (from c .loop .out) written)
-    (c .before .before .before .look-ahead .result .last) (from c .loop .to + c .before .before .before .look-ahead .result .cells * 5) (from c .loop .left - c .before .before .before .look-ahead .result .cells)
+front : (c : tie.After-fill-first Inv-loop μ-loop) {written : List ℕ} →
+    let l = from c .loop in
+    let a = from c .before .before .before .before .args in
+    let s = now (a .stored) in
+    let seen = c .before .before .before .look-ahead .result in
+    written ≡ inFront (firstFields (l .word) (drop (l .at) s)) (take (length (l .out) - l .to) (drop (l .to) (l .out)))
+    → Filling s (flat (cellsIn (a .count) s)) (now (a .out)) (putMid (l .to) (length (l .out) - l .to) (l .out) written)
+    (seen .last) (l .to + seen .cells * 5) (l .left - seen .cells)
 front c e =
     let l = from c .loop in
     let right = l .inv .1 .right (omega (arith, wide (c .before .before .before .before))) in
-    filling-front (l .inv .0) (omega arith) (l .word) (c .before .before .before .look-ahead .ensures) (lead-at (now (from c .before .before .before .before .args .stored)) (l .at) (l .word) (λ i. omega (arith, from c .before .before .before .shared-slice-known .given i)) right) e
+    filling-front (l .inv .0) (omega arith) (l .word) (c .before .before .before .look-ahead .ensures)
+    (lead-at (now (from c .before .before .before .before .args .stored)) (l .at) (l .word)
+    (λ i. omega (arith, from c .before .before .before .shared-slice-known .given i)) right) e
 
 filled : tie.Need-returns Inv-loop μ-loop
 filled c =
@@ -55,8 +61,9 @@ first-word-requires c κs = search needs
 
 loop-holds : tie.Need-loop-holds Inv-loop μ-loop
 loop-holds c =
-    let a = c .before .before .before .args in
-    (filling-none (now (a .stored)) 0 (a .count) (omega arith) (c .before .before .before .pre .0) (c .before .before .before .pre .1) (omega arith), c .first-word .ensures)
+    let c₃ = c .before .before .before in
+    let a = c₃ .args in
+    (filling-none (now (a .stored)) 0 (a .count) (omega arith) (c₃ .pre .0) (c₃ .pre .1) (omega arith), c .first-word .ensures)
 
 sub-if1 : tie.Need-sub-if1 Inv-loop μ-loop
 sub-if1 c = omega (arith, c .before .loop .inv .0 .inside)
@@ -85,10 +92,16 @@ mul-to : tie.Need-mul-to Inv-loop μ-loop
 mul-to c = omega (arith, c .before .before .before .before .before .before .look-ahead .ensures .few)
 
 add-to : tie.Need-add-to Inv-loop μ-loop
-add-to c = omega (arith, c .before .before .before .before .before .before .look-ahead .ensures .few, c .before .before .before .before .before .before .before .before .before .loop .inv .0 .room)
+add-to c =
+    let c₆ = c .before .before .before .before .before .before in
+    let l = c₆ .before .before .before .loop in
+    omega (arith, c₆ .look-ahead .ensures .few, l .inv .0 .room)
 
 take-over-requires : tie.Need-take-over-requires Inv-loop μ-loop
-take-over-requires c κs = omega (arith, wide (c .before .before .before .before .before .before .before), c .before .before .before .before .before .before .look-ahead .ensures .near)
+take-over-requires c κs =
+    let c₆ = c .before .before .before .before .before .before in
+    let c₇ = c₆ .before in
+    omega (arith, wide c₇, c₆ .look-ahead .ensures .near)
 
 sub-put-plain : tie.Need-sub-put-plain Inv-loop μ-loop
 sub-put-plain c = omega (arith, front (c .before .before .before .before) (c .before .before .before .before .fill-first .ensures) .room)
@@ -107,10 +120,12 @@ put-plain-requires c κs =
 
 add-to-2 : tie.Need-add-to-2 Inv-loop μ-loop
 add-to-2 c =
-    let few = c .before .before .before .before .before .before .before .before .before .before .before .look-ahead .ensures .few in
-    let f = front (c .before .before .before .before .before .before .before .before) (c .before .before .before .before .before .before .before .before .fill-first .ensures) in
+    let c₈ = c .before .before .before .before .before .before .before .before in
+    let c₁₁ = c₈ .before .before .before in
+    let known = c₁₁ .before .before .before .before .before in
+    let few = c₁₁ .look-ahead .ensures .few in
+    let f = front c₈ (c₈ .fill-first .ensures) in
     let room = f .room in
-    let known = c .before .before .before .before .before .before .before .before .before .before .before .before .before .before .before .before in
     omega (arith, f .writes .kept)
 
 add-left : tie.Need-add-left Inv-loop μ-loop
@@ -124,10 +139,15 @@ loop-less c = omega arith
 
 loop-again : tie.Need-loop-again Inv-loop μ-loop
 loop-again c =
-    let few = c .before .before .before .before .before .before .before .before .before .before .before .before .look-ahead .ensures .few in
-    let f = front (c .before .before .before .before .before .before .before .before .before) (c .before .before .before .before .before .before .before .before .before .fill-first .ensures) in (
-      filling-more f (fieldsOf (c .before .before .before .before .before .take-over .result)) (c .before .before .before .put-plain .ensures) (omega arith) (fields-of _ (c .before .before .before .before .before .take-over .ensures)) (c .before .before .before .before .before .before .before .before .before .before .before .before .look-ahead .ensures .next) (omega arith),
-      record { right = λ h. c .before .before .before .before .before .before .before .before .before .before .before .word .ensures },
+    let c₅ = c .before .before .before .before .before in
+    let c₉ = c₅ .before .before .before .before in
+    let c₁₁ = c₉ .before .before in
+    let c₁₂ = c₁₁ .before in
+    let few = c₁₂ .look-ahead .ensures .few in
+    let f = front c₉ (c₉ .fill-first .ensures) in (
+      filling-more f (fieldsOf (c₅ .take-over .result)) (c .before .before .before .put-plain .ensures) (omega arith) (fields-of _ (c₅ .take-over .ensures))
+          (c₁₂ .look-ahead .ensures .next) (omega arith),
+      record { right = λ h. c₁₁ .word .ensures },
     )
 
 sub-fill-each : tie.Need-sub-fill-each Inv-loop μ-loop

@@ -23,7 +23,9 @@ abbrev μ-loop : tie.MeasureT-loop
 μ-loop stored from count out₀ at₀ to₀ left₀ out at to left = left
 
 first : (c : tie.In-loop Inv-loop μ-loop) → First (now (c .before .before .before .before .args .stored)) (c .before .loop .at) (c .before .loop .left)
-first c = let l = c .before .loop in row-first (now (c .before .before .before .before .args .stored)) (l .at) (l .left) (c .loop-test .taken) (l .inv .inside) (l .inv .fine)
+first c =
+    let l = c .before .loop in
+    row-first (now (c .before .before .before .before .args .stored)) (l .at) (l .left) (c .loop-test .taken) (l .inv .inside) (l .inv .fine)
 
 loop-holds : tie.Need-loop-holds Inv-loop μ-loop
 loop-holds c =
@@ -47,7 +49,9 @@ put-plain-requires : tie.Need-put-plain-requires Inv-loop μ-loop
 put-plain-requires c κs = let l = c .before .before .before .loop in rw part-all (omega (arith, length-drop (l .to) (l .out), l .inv .room))
 
 shared-slice-read-cell-length : tie.Need-shared-slice-read-cell-length Inv-loop μ-loop
-shared-slice-read-cell-length c = let d = c .before .before .before .before .before .before in omega (arith, first d .fits, length-some (getD (now (d .before .before .before .before .args .stored)) (d .before .loop .at) 0))
+shared-slice-read-cell-length c =
+    let d = c .before .before .before .before .before .before in
+    omega (arith, first d .fits, length-some (getD (now (d .before .before .before .before .args .stored)) (d .before .loop .at) 0))
 
 cell-length-requires : tie.Need-cell-length-requires Inv-loop μ-loop
 cell-length-requires c κs = search needs
@@ -66,8 +70,10 @@ loop-less c = omega arith
 
 loop-again : tie.Need-loop-again Inv-loop μ-loop
 loop-again c =
-    let d = c .before .before .before .before .before .before in
-    filling-more (d .before .before .loop .inv) (fieldsOf (d .take-cell .result)) (c .before .before .before .before .put-plain .ensures) (omega arith) (fields-of _ (d .take-cell .ensures)) (ap (λ (n : ℕ). d .before .before .loop .at + n) (c .cell-length .ensures)) refl
+    let c₄ = c .before .before .before .before in
+    let d = c₄ .before .before in
+    filling-more (d .before .before .loop .inv) (fieldsOf (d .take-cell .result)) (c₄ .put-plain .ensures) (omega arith) (fields-of _ (d .take-cell .ensures))
+    (ap (λ (n : ℕ). d .before .before .loop .at + n) (c .cell-length .ensures)) refl
 
 same-length : tie.Need-same-length Inv-loop μ-loop
 same-length c = c .before .loop .inv .writes .kept

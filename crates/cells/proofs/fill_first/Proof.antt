@@ -30,8 +30,11 @@ same-length-2 c = search needs
 
 returns-2 : tie.Need-returns-2
 returns-2 c =
-    let a = c .before .before .before .before .before .before .before .before .args in
-    rw (ne-eqb _ _ (c .before .before .before .before .before .if1 .left)) (c .before .before .put-plain .ensures ∙ ap (λ (x : List ℕ). inFront x (now (a .out))) (fields-of _ (c .before .before .before .before .take-over .ensures)))
+    let c₄ = c .before .before .before .before in
+    let c₅ = c₄ .before in
+    let a = c₅ .before .before .before .args in
+    rw (ne-eqb _ _ (c₅ .if1 .left))
+    (c .before .before .put-plain .ensures ∙ ap (λ (x : List ℕ). inFront x (now (a .out))) (fields-of _ (c₄ .take-over .ensures)))
 
 pub fill-first-spec : {M : Type 1} → statement M
 fill-first-spec =

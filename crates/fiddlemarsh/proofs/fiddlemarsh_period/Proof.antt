@@ -22,7 +22,8 @@ returns : tie.Need-returns
 returns c =
     let s = c .before .before in
     c .period-number .ensures
-    ∙ period-same (s .args .note) (s .args .finetune) (c .before .period .ensures ∙ ap (λ (z : ℤ). tunedOf (tuning (s .args .note) z)) (toZ-ofZ (s .fits .finetune)))
+    ∙ period-same (s .args .note) (s .args .finetune)
+    (c .before .period .ensures ∙ ap (λ (z : ℤ). tunedOf (tuning (s .args .note) z)) (toZ-ofZ (s .fits .finetune)))
 
 pub fiddlemarsh-period-spec : {M : Type 1} → statement M
 fiddlemarsh-period-spec = tie.close (tie.spec period-requires period-number-requires returns)

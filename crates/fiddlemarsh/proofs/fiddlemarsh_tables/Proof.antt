@@ -12,9 +12,10 @@ check-into-requires c κs = search needs
 
 check-number-requires : tie.Need-check-number-requires
 check-number-requires c κs =
-    let known = c .before .before .before .before .before .before .before .before .before .before .before .before .before .before .before in
+    let c₇ = c .before .before .before .before .before .before .before in
+    let known = c₇ .before .before .before .before .before .before .before .before in
     let a = known .before .args in
-    tables-fits (a .file .now) (lent (a .patterns .now) (a .instruments .now) (a .samples .now) (a .tunes .now)) (c .before .before .before .before .before .before .before .check-into .ensures .0)
+    tables-fits (a .file .now) (lent (a .patterns .now) (a .instruments .now) (a .samples .now) (a .tunes .now)) (c₇ .check-into .ensures .0)
     (record { below = λ i. omega (arith, known .shared-slice-known .given i) })
 
 same-length : tie.Need-same-length

@@ -12,8 +12,10 @@ unpack-requires c κs = search needs
 
 unpack-number-requires : tie.Need-unpack-number-requires
 unpack-number-requires c κs =
-    let a = c .before .before .before .before .before .before .args in
-    unpack-fits (a .rows) (a .channels) (a .stored .now) (length (a .cells .now)) (c .before .before .unpack .ensures .0) (record { below = λ i. omega (arith, c .before .before .before .before .before .shared-slice-known .given i) })
+    let c₅ = c .before .before .before .before .before in
+    let a = c₅ .before .args in
+    unpack-fits (a .rows) (a .channels) (a .stored .now) (length (a .cells .now)) (c .before .before .unpack .ensures .0)
+    (record { below = λ i. omega (arith, c₅ .shared-slice-known .given i) })
 
 same-length : tie.Need-same-length
 same-length c = search needs

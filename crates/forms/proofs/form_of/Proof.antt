@@ -32,7 +32,8 @@ returns c =
     let k = h .before .before .before .before .before in
     let size = c .smallest-size .ensures in
     let head = h .smallest-head .ensures in
-    form-told _ _ (k .before .pre .0) (plain k) (h .before .if1 .taken) (form-stripped _ _ (k .before .pre .0) (plain k) (size .0) (size .1) (head .0) (head .1) refl)
+    form-told _ _ (k .before .pre .0) (plain k) (h .before .if1 .taken)
+    (form-stripped _ _ (k .before .pre .0) (plain k) (size .0) (size .1) (head .0) (head .1) refl)
 
 -- A normal one
 least : (c : tie.After-least-size) → c .least-size .result ≤ 263

@@ -22,7 +22,8 @@ returns c =
 returns-2 : tie.Need-returns-2
 returns-2 c =
     let s = c .before .before .before .before in
-    let e = fields-voice (own s) (s .args .samples) (s .args .head-size) (omega arith) (omega arith) (omega arith) (c .before .kept-in2 .ensures .0) (c .if2 .taken) in
+    let e = fields-voice (own s) (s .args .samples) (s .args .head-size) (omega arith) (omega arith) (omega arith) (c .before .kept-in2 .ensures .0)
+    (c .if2 .taken) in
     (omega arith, omega arith)
 
 returns-3 : tie.Need-returns-3

@@ -30,7 +30,8 @@ head-fault-spec =
     (search needs)
     (λ c. sym (fault-at 0 _ tt (omega arith, tt) (search test-failed)))
     (λ c.
-    let other = test-passed (kind (c .before .before .before .before .args .head)) (c .before .before .before .kind-fits .ensures) (c .before .before .if1 .left) in
+    let other = test-passed (kind (c .before .before .before .before .args .head)) (c .before .before .before .kind-fits .ensures)
+    (c .before .before .if1 .left) in
     sym (fault-at 1 _ (other, tt) (omega arith, tt) (λ h. omega arith)))
     (search needs)
     (λ c.
@@ -39,31 +40,46 @@ head-fault-spec =
     sym (fault-at 2 _ (other, (omega arith, tt)) (omega arith, tt) (test-failed (wide head) (c .before .wide-fits .ensures) (c .if3 .taken))))
     (search needs)
     (λ c.
-    let head = c .before .before .before .before .before .before .before .before .args .head in
-    let other = test-passed (kind head) (c .before .before .before .before .before .before .before .kind-fits .ensures) (c .before .before .before .before .before .before .if1 .left) in
-    let even = test-passed (wide head) (c .before .before .before .wide-fits .ensures) (c .before .before .if3 .left) in
+    let c₂ = c .before .before in
+    let c₆ = c₂ .before .before .before .before in
+    let head = c₆ .before .before .args .head in
+    let other = test-passed (kind head) (c₆ .before .kind-fits .ensures) (c₆ .if1 .left) in
+    let even = test-passed (wide head) (c₂ .before .wide-fits .ensures) (c₂ .if3 .left) in
     sym (fault-at 3 _ (other, (omega arith, (even, tt))) (omega arith, tt) (test-failed (looped head) (c .before .loop-fits .ensures) (c .if4 .taken))))
     (search needs)
     (λ c.
-    let head = c .before .before .before .before .before .before .before .before .before .before .args .head in
-    let other = test-passed (kind head) (c .before .before .before .before .before .before .before .before .before .kind-fits .ensures) (c .before .before .before .before .before .before .before .before .if1 .left) in
-    let even = test-passed (wide head) (c .before .before .before .before .before .wide-fits .ensures) (c .before .before .before .before .if3 .left) in
-    let ends = test-passed (looped head) (c .before .before .before .loop-fits .ensures) (c .before .before .if4 .left) in
-    sym (fault-at 4 _ (other, (omega arith, (even, (ends, tt)))) (omega arith, tt) (test-failed (whole head (head .«loop_start»)) (c .before .whole-fits .ensures) (c .if5 .taken))))
+    let c₂ = c .before .before in
+    let c₄ = c₂ .before .before in
+    let c₈ = c₄ .before .before .before .before in
+    let head = c₈ .before .before .args .head in
+    let other = test-passed (kind head) (c₈ .before .kind-fits .ensures) (c₈ .if1 .left) in
+    let even = test-passed (wide head) (c₄ .before .wide-fits .ensures) (c₄ .if3 .left) in
+    let ends = test-passed (looped head) (c₂ .before .loop-fits .ensures) (c₂ .if4 .left) in
+    sym (fault-at 4 _ (other, (omega arith, (even, (ends, tt)))) (omega arith, tt)
+    (test-failed (whole head (head .«loop_start»)) (c .before .whole-fits .ensures) (c .if5 .taken))))
     (search needs)
     (λ c.
-    let head = c .before .before .before .before .before .before .before .before .before .before .before .before .args .head in
-    let other = test-passed (kind head) (c .before .before .before .before .before .before .before .before .before .before .before .kind-fits .ensures) (c .before .before .before .before .before .before .before .before .before .before .if1 .left) in
-    let even = test-passed (wide head) (c .before .before .before .before .before .before .before .wide-fits .ensures) (c .before .before .before .before .before .before .if3 .left) in
-    let ends = test-passed (looped head) (c .before .before .before .before .before .loop-fits .ensures) (c .before .before .before .before .if4 .left) in
-    let starts = test-passed (whole head (head .«loop_start»)) (c .before .before .before .whole-fits .ensures) (c .before .before .if5 .left) in
-    sym (fault-at 5 _ (other, (omega arith, (even, (ends, (starts, tt))))) (omega arith, tt) (test-failed (whole head (head .«loop_length»)) (c .before .whole-fits2 .ensures) (c .if6 .taken))))
+    let c₂ = c .before .before in
+    let c₄ = c₂ .before .before in
+    let c₆ = c₄ .before .before in
+    let c₁₀ = c₆ .before .before .before .before in
+    let head = c₁₀ .before .before .args .head in
+    let other = test-passed (kind head) (c₁₀ .before .kind-fits .ensures) (c₁₀ .if1 .left) in
+    let even = test-passed (wide head) (c₆ .before .wide-fits .ensures) (c₆ .if3 .left) in
+    let ends = test-passed (looped head) (c₄ .before .loop-fits .ensures) (c₄ .if4 .left) in
+    let starts = test-passed (whole head (head .«loop_start»)) (c₂ .before .whole-fits .ensures) (c₂ .if5 .left) in
+    sym (fault-at 5 _ (other, (omega arith, (even, (ends, (starts, tt))))) (omega arith, tt)
+    (test-failed (whole head (head .«loop_length»)) (c .before .whole-fits2 .ensures) (c .if6 .taken))))
     (λ c.
-    let head = c .before .before .before .before .before .before .before .before .before .before .before .before .args .head in
-    let other = test-passed (kind head) (c .before .before .before .before .before .before .before .before .before .before .before .kind-fits .ensures) (c .before .before .before .before .before .before .before .before .before .before .if1 .left) in
-    let even = test-passed (wide head) (c .before .before .before .before .before .before .before .wide-fits .ensures) (c .before .before .before .before .before .before .if3 .left) in
-    let ends = test-passed (looped head) (c .before .before .before .before .before .loop-fits .ensures) (c .before .before .before .before .if4 .left) in
-    let starts = test-passed (whole head (head .«loop_start»)) (c .before .before .before .whole-fits .ensures) (c .before .before .if5 .left) in
+    let c₂ = c .before .before in
+    let c₄ = c₂ .before .before in
+    let c₆ = c₄ .before .before in
+    let c₁₀ = c₆ .before .before .before .before in
+    let head = c₁₀ .before .before .args .head in
+    let other = test-passed (kind head) (c₁₀ .before .kind-fits .ensures) (c₁₀ .if1 .left) in
+    let even = test-passed (wide head) (c₆ .before .wide-fits .ensures) (c₆ .if3 .left) in
+    let ends = test-passed (looped head) (c₄ .before .loop-fits .ensures) (c₄ .if4 .left) in
+    let starts = test-passed (whole head (head .«loop_start»)) (c₂ .before .whole-fits .ensures) (c₂ .if5 .left) in
     let counts = test-passed (whole head (head .«loop_length»)) (c .before .whole-fits2 .ensures) (c .if6 .left) in
     sym (fault-none _ (other, (omega arith, (even, (ends, (starts, (counts, tt))))))))
     )

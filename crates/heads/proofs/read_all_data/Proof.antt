@@ -20,13 +20,22 @@ read-data-requires c κs =
     (data-room _ _ _ _ _ (c .before .loop .inv) (c .loop-test .taken) (p .0), c .before .loop .inv .inside)
 
 returns : tie.Need-returns Inv-loop μ-loop
-returns c = data-out _ _ _ _ _ (c .before .before .before .before .loop .inv) (c .before .before .before .loop-test .taken) (c .before .before .read-data .ensures) (c .enum-told .given .1)
+returns c =
+    data-out _ _ _ _ _ (c .before .before .before .before .loop .inv) (c .before .before .before .loop-test .taken) (c .before .before .read-data .ensures)
+    (c .enum-told .given .1)
 
 add-head : tie.Need-add-head Inv-loop μ-loop
-add-head c = omega (arith, data-room _ _ _ _ _ (c .before .before .before .before .before .loop .inv) (c .before .before .before .before .loop-test .taken) (c .before .before .before .before .before .before .before .pre .0))
+add-head c =
+    let c₄ = c .before .before .before .before in
+    let l = c₄ .before .loop in
+    let c₇ = c₄ .before .before .before in
+    omega (arith, data-room _ _ _ _ _ (l .inv) (c₄ .loop-test .taken) (c₇ .pre .0))
 
 loop-again : tie.Need-loop-again Inv-loop μ-loop
-loop-again c = data-on _ _ _ _ _ (c .before .before .before .before .before .loop .inv) (c .before .before .before .before .loop-test .taken) (sym (c .before .step .given .1) ∙ c .before .before .before .read-data .ensures)
+loop-again c =
+    let c₄ = c .before .before .before .before in
+    let l = c₄ .before .loop in
+    data-on _ _ _ _ _ (l .inv) (c₄ .loop-test .taken) (sym (c .before .step .given .1) ∙ c .before .before .before .read-data .ensures)
 
 pub read-all-data-spec : {M : Type 1} → statement M
 read-all-data-spec =

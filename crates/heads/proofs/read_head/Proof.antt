@@ -8,11 +8,13 @@ use Rattle.heads.proofs.read_head.Tie as tie
 
 returns : tie.Need-returns
 returns c =
-    let faulty = head-faulty _ _ _ (c .before .before .sample-head .ensures) (c .before .before .before .before .pre) (c .before .head-fault .ensures) (c .if1 .taken) in
+    let faulty = head-faulty _ _ _ (c .before .before .sample-head .ensures) (c .before .before .before .before .pre) (c .before .head-fault .ensures)
+    (c .if1 .taken) in
     sym (ap (placeStep _) faulty)
 
 returns-2 : tie.Need-returns-2
-returns-2 c = head-passed _ _ _ (c .before .before .sample-head .ensures) (c .before .before .before .before .pre) (c .before .head-fault .ensures) (c .if1 .left)
+returns-2 c =
+    head-passed _ _ _ (c .before .before .sample-head .ensures) (c .before .before .before .before .pre) (c .before .head-fault .ensures) (c .if1 .left)
 
 pub read-head-spec : {M : Type 1} → statement M
 read-head-spec = tie.close (tie.spec (search needs) (search needs) returns (search needs) returns-2)

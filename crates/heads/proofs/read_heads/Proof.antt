@@ -20,13 +20,16 @@ read-head-requires c κs =
 
 returns : tie.Need-returns Inv-loop μ-loop
 returns c =
+    let l = c .before .before .before .before .loop in
     let a = c .before .before .before .before .before .before .args in
-    heads-out (a .file .now) (a .at) (a .size) (a .count) (c .before .before .before .before .loop .inv) (omega arith) (c .before .before .read-head .ensures) (c .enum-told .given .1)
+    heads-out (a .file .now) (a .at) (a .size) (a .count) (l .inv) (omega arith) (c .before .before .read-head .ensures) (c .enum-told .given .1)
 
 loop-again : tie.Need-loop-again Inv-loop μ-loop
 loop-again c =
+    let l = c .before .before .before .before .before .loop in
     let a = c .before .before .before .before .before .before .before .args in
-    heads-on (a .file .now) (a .at) (a .size) (a .count) (c .before .before .before .before .before .loop .inv) (omega arith) (sym (c .before .step .given .1) ∙ c .before .before .before .read-head .ensures)
+    heads-on (a .file .now) (a .at) (a .size) (a .count) (l .inv) (omega arith)
+    (sym (c .before .step .given .1) ∙ c .before .before .before .read-head .ensures)
 
 returns-2 : tie.Need-returns-2 Inv-loop μ-loop
 returns-2 c = let a = c .before .before .before .args in heads-end (a .file .now) (a .at) (a .size) (a .count) (c .before .loop .inv) (omega arith)

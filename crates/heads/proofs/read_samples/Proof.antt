@@ -14,13 +14,15 @@ returns c =
 read-all-data-requires : tie.Need-read-all-data-requires
 read-all-data-requires c κs =
     let s = c .before .before .before .before .before in
-    let behind = heads-behind (s .args .file .now) (s .args .at) (s .args .size) (s .args .count) (sym (c .before .step .given .1) ∙ c .before .before .before .read-heads .ensures) in
+    let behind = heads-behind (s .args .file .now) (s .args .at) (s .args .size) (s .args .count)
+    (sym (c .before .step .given .1) ∙ c .before .before .before .read-heads .ensures) in
     (s .pre, omega arith)
 
 returns-2 : tie.Need-returns-2
 returns-2 c =
-    let a = c .before .before .before .before .before .before .args in
-    c .read-all-data .ensures ∙ samples-on (a .file .now) (a .at) (a .size) (a .count) (sym (c .before .before .step .given .1) ∙ c .before .before .before .before .read-heads .ensures)
+    let c₄ = c .before .before .before .before in
+    let a = c₄ .before .before .args in
+    c .read-all-data .ensures ∙ samples-on (a .file .now) (a .at) (a .size) (a .count) (sym (c .before .before .step .given .1) ∙ c₄ .read-heads .ensures)
 
 pub read-samples-spec : {M : Type 1} → statement M
 read-samples-spec = tie.close (tie.spec (λ c κs. c .before .pre) (search needs) (search needs) returns read-all-data-requires returns-2)

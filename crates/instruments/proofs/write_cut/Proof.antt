@@ -12,19 +12,33 @@ use Rattle.instruments.proofs.write_cut.Statement.{statement}
 use Rattle.instruments.proofs.write_cut.Tie as tie
 
 returns : tie.Need-returns
-returns c = let a = c .before .before .before .before .before .before .before .args in named (a .out .now) (c .before .before .clear .ensures) (cut-none (a .file .now) (a .at) (a .size) (a .from) (a .count) (c .before .before .before .before .if1 .taken))
+returns c =
+    let c₄ = c .before .before .before .before in
+    let a = c₄ .before .before .before .args in
+    named (a .out .now) (c .before .before .clear .ensures) (cut-none (a .file .now) (a .at) (a .size) (a .from) (a .count) (c₄ .if1 .taken))
 
 returns-2 : tie.Need-returns-2
-returns-2 c = let a = c .before .before .before .before .before .before .before .before .before .args in named (a .out .now) (c .before .before .copy .ensures) (cut-whole (a .file .now) (a .at) (a .size) (a .from) (a .count) (c .before .before .before .before .before .before .before .before .before .pre .0) (c .before .before .before .before .before .before .if1 .left) (c .before .before .before .before .before .if2 .taken))
+returns-2 c =
+    let c₅ = c .before .before .before .before .before in
+    let c₆ = c₅ .before in
+    let c₉ = c₆ .before .before .before in
+    let a = c₉ .args in
+    named (a .out .now) (c .before .before .copy .ensures)
+    (cut-whole (a .file .now) (a .at) (a .size) (a .from) (a .count) (c₉ .pre .0) (c₆ .if1 .left) (c₅ .if2 .taken))
 
 returns-3 : tie.Need-returns-3
 returns-3 c =
-    let a = c .before .before .before .before .before .before .before .before .before .before .before .before .before .args in
-    let s = cut-short (a .file .now) (a .at) (a .size) (a .from) (a .count) (c .before .before .before .before .before .before .before .before .before .before .before .before .before .pre .0) (c .before .before .before .before .before .before .before .before .before .before .if1 .left) (c .before .before .before .before .before .before .before .before .before .if2 .left) in
+    let c₆ = c .before .before .before .before .before .before in
+    let c₉ = c₆ .before .before .before in
+    let c₁₀ = c₉ .before in
+    let c₁₃ = c₁₀ .before .before .before in
+    let a = c₁₃ .args in
+    let s = cut-short (a .file .now) (a .at) (a .size) (a .from) (a .count) (c₁₃ .pre .0) (c₁₀ .if1 .left) (c₉ .if2 .left) in
     let all = drop (a .from) (take (a .size) (drop (a .at) (a .file .now))) in
     let place = a .at + a .from in
     let there = take (place + (a .size - a .from) - place) (drop place (a .file .now)) in
-    laid-last (laid-first (a .out .now) (padded (a .count) all) there _ (s .filled) (omega (arith, padded-length (a .count) all)) (sym (s .long)) (c .before .before .before .before .before .before .copy2 .ensures)) refl (c .before .before .clear2 .ensures)
+    laid-last (laid-first (a .out .now) (padded (a .count) all) there _ (s .filled) (omega (arith, padded-length (a .count) all)) (sym (s .long))
+    (c₆ .copy2 .ensures)) refl (c .before .before .clear2 .ensures)
 
 pub write-cut-spec : {M : Type 1} → statement M
 write-cut-spec =

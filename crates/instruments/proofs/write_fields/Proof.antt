@@ -14,19 +14,26 @@ use Rattle.instruments.proofs.write_fields.Tie as tie
 
 returns : tie.Need-returns
 returns c =
-    let a = c .before .before .before .before .before .before .before .before .before .before .before .args in
+    let c₇ = c .before .before .before .before .before .before .before in
+    let a = c₇ .before .before .before .before .args in
     let form = a .form in
     let s = take (a .size) (drop (a .at) (a .file .now)) in
-    let first = laid-first (a .out .now) (fieldsIn (form .size) (form .«head_size») s) (long (form .size)) _ refl (omega (arith, fields-size (form .size) (form .«head_size») s (omega arith))) refl (c .before .before .before .before .before .before .before .put-long .ensures) in
+    let first = laid-first (a .out .now) (fieldsIn (form .size) (form .«head_size») s) (long (form .size)) _ refl
+    (omega (arith, fields-size (form .size) (form .«head_size») s (omega arith))) refl (c₇ .put-long .ensures) in
     laid-last first (fields-short (form .size) (drop 4 s) (voiceIn (form .«head_size») s) (omega arith)) (c .before .before .write-cut .ensures)
 
 returns-2 : tie.Need-returns-2
 returns-2 c =
-    let a = c .before .before .before .before .before .before .before .before .before .before .before .before .before .before .before .args in
+    let c₆ = c .before .before .before .before .before .before in
+    let c₁₁ = c₆ .before .before .before .before .before in
+    let a = c₁₁ .before .before .before .before .args in
     let form = a .form in
     let s = take (a .size) (drop (a .at) (a .file .now)) in
-    let first = laid-first (a .out .now) (fieldsIn (form .size) (form .«head_size») s) (long (form .size)) _ refl (omega (arith, fields-size (form .size) (form .«head_size») s (omega arith))) refl (c .before .before .before .before .before .before .before .before .before .before .before .put-long .ensures) in
-    let second = laid-part first (padded 25 (drop 4 s)) _ {next = 29} (fields-behind (form .size) (drop 4 s) (voiceIn (form .«head_size») s) (omega arith)) refl (omega (arith, padded-length 25 (drop 4 s))) (c .before .before .before .before .before .before .write-cut2 .ensures) in
+    let first = laid-first (a .out .now) (fieldsIn (form .size) (form .«head_size») s) (long (form .size)) _ refl
+    (omega (arith, fields-size (form .size) (form .«head_size») s (omega arith))) refl (c₁₁ .put-long .ensures) in
+    let second = laid-part first (padded 25 (drop 4 s)) _ {next = 29}
+    (fields-behind (form .size) (drop 4 s) (voiceIn (form .«head_size») s) (omega arith)) refl (omega (arith, padded-length 25 (drop 4 s)))
+    (c₆ .write-cut2 .ensures) in
     laid-last second refl (c .before .before .write-voice .ensures)
 
 pub write-fields-spec : {M : Type 1} → statement M

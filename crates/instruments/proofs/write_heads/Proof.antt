@@ -8,14 +8,17 @@ use Rattle.instruments.proofs.write_heads.Statement.{statement}
 use Rattle.instruments.proofs.write_heads.Tie as tie
 
 abbrev Inv-loop : tie.InvT-loop
-Inv-loop file heads size count kept out₀ head₀ to₀ left₀ out head to left = HeadsLeft file out₀ (headsIn count size kept (drop heads file)) size kept left head out to
+Inv-loop file heads size count kept out₀ head₀ to₀ left₀ out head to left =
+    HeadsLeft file out₀ (headsIn count size kept (drop heads file)) size kept left head out to
 
 abbrev μ-loop : tie.MeasureT-loop
 μ-loop file heads size count kept out₀ head₀ to₀ left₀ out head to left = left
 
 -- The bytes first: the headers stand as far apart as they were read
 loop-again : tie.Need-loop-again Inv-loop μ-loop
-loop-again c = heads-more _ _ _ _ (omega arith) (c .before .before .before .before .before .loop .inv) (omega arith) (omega arith) (c .before .before .write-cut .ensures)
+loop-again c =
+    let l = c .before .before .before .before .before .loop in
+    heads-more _ _ _ _ (omega arith) (l .inv) (omega arith) (omega arith) (c .before .before .write-cut .ensures)
 
 loop-holds : tie.Need-loop-holds Inv-loop μ-loop
 loop-holds c = heads-none _ _ _ _ (omega arith) _ _ (omega arith) (omega arith)
@@ -38,7 +41,11 @@ add-head : tie.Need-add-head Inv-loop μ-loop
 add-head c = omega (arith, head-inside _ _ _ _ (omega arith) (c .before .before .before .before .before .loop .inv) (omega arith))
 
 add-to : tie.Need-add-to Inv-loop μ-loop
-add-to c = let inv = c .before .before .before .before .before .loop .inv in omega (arith, head-room _ _ _ _ (omega arith) inv (omega arith), inv .laid .kept, c .before .before .before .before .before .before .before .before .good)
+add-to c =
+    let l = c .before .before .before .before .before .loop in
+    let c₈ = c .before .before .before .before .before .before .before .before in
+    let inv = l .inv in
+    omega (arith, head-room _ _ _ _ (omega arith) inv (omega arith), inv .laid .kept, c₈ .good)
 
 sub-left : tie.Need-sub-left Inv-loop μ-loop
 sub-left c = omega arith

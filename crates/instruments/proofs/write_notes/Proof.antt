@@ -11,13 +11,20 @@ use Rattle.instruments.proofs.write_notes.Statement.{statement}
 use Rattle.instruments.proofs.write_notes.Tie as tie
 
 returns : tie.Need-returns
-returns c = let a = c .before .before .before .before .before .before .before .args in named (a .out .now) (c .before .before .write-cut .ensures) (sym (padded-padded (a .count) 208 (drop 33 (take (a .size) (drop (a .at) (a .file .now)))) (c .before .before .before .before .if1 .taken)))
+returns c =
+    let c₄ = c .before .before .before .before in
+    let a = c₄ .before .before .before .args in
+    named (a .out .now) (c .before .before .write-cut .ensures)
+    (sym (padded-padded (a .count) 208 (drop 33 (take (a .size) (drop (a .at) (a .file .now)))) (c₄ .if1 .taken)))
 
 returns-2 : tie.Need-returns-2
 returns-2 c =
-    let a = c .before .before .before .before .before .before .before .before .before .before .before .args in
+    let c₆ = c .before .before .before .before .before .before in
+    let a = c₆ .before .before .before .before .before .args in
     let all = drop 33 (take (a .size) (drop (a .at) (a .file .now))) in
-    laid-last (laid-first (a .out .now) (padded (a .count) (padded 208 all)) (padded 208 all) _ (padded-more (a .count) 208 all (omega arith)) (omega (arith, padded-length (a .count) (padded 208 all))) (sym (padded-length 208 all)) (c .before .before .before .before .before .before .write-cut2 .ensures)) refl (c .before .before .clear .ensures)
+    laid-last (laid-first (a .out .now) (padded (a .count) (padded 208 all)) (padded 208 all) _ (padded-more (a .count) 208 all (omega arith))
+    (omega (arith, padded-length (a .count) (padded 208 all))) (sym (padded-length 208 all)) (c₆ .write-cut2 .ensures)) refl
+    (c .before .before .clear .ensures)
 
 pub write-notes-spec : {M : Type 1} → statement M
 write-notes-spec =

@@ -15,15 +15,21 @@ use Rattle.instruments.proofs.write_voice.Tie as tie
 
 returns : tie.Need-returns
 returns c =
-    let a = c .before .before .before .before .before .before .before .before .before .before .before .args in
+    let c₆ = c .before .before .before .before .before .before in
+    let a = c₆ .before .before .before .before .before .args in
     let s = take (a .size) (drop (a .at) (a .file .now)) in
-    laid-last (laid-first (a .out .now) (padded (a .count) (voiceIn (a .head-size) s)) (byte (a .head-size)) _ (voice-short (a .count) (a .head-size) s (omega arith) (omega arith) (omega arith)) (omega (arith, padded-length (a .count) (voiceIn (a .head-size) s))) refl (c .before .before .before .before .before .before .put-byte .ensures)) refl (c .before .before .clear .ensures)
+    laid-last (laid-first (a .out .now) (padded (a .count) (voiceIn (a .head-size) s)) (byte (a .head-size)) _
+    (voice-short (a .count) (a .head-size) s (omega arith) (omega arith) (omega arith))
+    (omega (arith, padded-length (a .count) (voiceIn (a .head-size) s))) refl (c₆ .put-byte .ensures)) refl (c .before .before .clear .ensures)
 
 returns-2 : tie.Need-returns-2
 returns-2 c =
-    let a = c .before .before .before .before .before .before .before .before .before .before .before .args in
+    let c₆ = c .before .before .before .before .before .before in
+    let a = c₆ .before .before .before .before .before .args in
     let s = take (a .size) (drop (a .at) (a .file .now)) in
-    laid-last (laid-first (a .out .now) (padded (a .count) (voiceIn (a .head-size) s)) (long (a .head-size)) _ (padded-behind (a .count) (long (a .head-size)) (padded 208 (drop 33 s)) (omega arith)) (omega (arith, padded-length (a .count) (voiceIn (a .head-size) s))) refl (c .before .before .before .before .before .before .put-long .ensures)) refl (c .before .before .write-notes .ensures)
+    laid-last (laid-first (a .out .now) (padded (a .count) (voiceIn (a .head-size) s)) (long (a .head-size)) _
+    (padded-behind (a .count) (long (a .head-size)) (padded 208 (drop 33 s)) (omega arith))
+    (omega (arith, padded-length (a .count) (voiceIn (a .head-size) s))) refl (c₆ .put-long .ensures)) refl (c .before .before .write-notes .ensures)
 
 pub write-voice-spec : {M : Type 1} → statement M
 write-voice-spec =

@@ -19,7 +19,9 @@ sub-result : tie.Need-sub-result
 sub-result c = omega (arith, found-whole c, two-inside (c .args .word) (c .args .bits))
 
 add-result : tie.Need-add-result
-add-result c = rw (found-whole c, mark-whole c) (record { fits = two-fits (c .args .word) (c .args .bits) (c .args .mark) (omega arith) 64 (omega arith) (c .fits .word .fits) })
+add-result c =
+    rw (found-whole c, mark-whole c)
+    (record { fits = two-fits (c .args .word) (c .args .bits) (c .args .mark) (omega arith) 64 (omega arith) (c .fits .word .fits) })
 
 pub with-mark-spec : {M : Type 1} → statement M
 with-mark-spec =

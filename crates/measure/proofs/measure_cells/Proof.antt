@@ -79,7 +79,8 @@ weigh-block-requires c κs =
     )
 
 add-used : tie.Need-add-used Inv-loop μ-loop
-add-used c = omega (arith, c .before .before .before .before .before .before .before .before .before .before .before .before .before .loop .inv .0 .measuring .inside)
+add-used c =
+    omega (arith, c .before .before .before .before .before .before .before .before .before .before .before .before .before .loop .inv .0 .measuring .inside)
 
 loop-less : tie.Need-loop-less Inv-loop μ-loop
 loop-less c =
@@ -96,8 +97,10 @@ loop-again c =
     let f = w .before .before .before .before in
     let b = f .before .before in
     let l = b .before .before .before .loop in (
-      weighing-block (λ i. omega (arith, b .before .before .before .before .before .shared-slice-known .given i)) (l .used) _ _ _ (f .fill-lengths .ensures) (w .before .before .fill-weights .ensures)
-          (omega (arith, b .block-of .ensures .inside, l .inv .0 .measuring .inside)) (l .inv .0) (c .before .before .before .weigh-block .ensures) (omega (arith, l .inv .0 .measuring .inside)),
+      weighing-block (λ i. omega (arith, b .before .before .before .before .before .shared-slice-known .given i)) (l .used) _ _ _ (f .fill-lengths .ensures)
+          (w .before .before .fill-weights .ensures)
+          (omega (arith, b .block-of .ensures .inside, l .inv .0 .measuring .inside)) (l .inv .0) (c .before .before .before .weigh-block .ensures)
+          (omega (arith, l .inv .0 .measuring .inside)),
       f .fill-lengths .ensures .long,
       w .before .before .fill-weights .ensures .long,
     )
@@ -110,7 +113,8 @@ sub-length-by c = omega (arith, c .before .before .loop .inv .0 .fewer)
 
 length-by-requires : tie.Need-length-by-requires Inv-loop μ-loop
 length-by-requires c κs =
-    let v = c .before .before .loop .inv .0 in (omega (arith, c .some-up-to .ensures, v .sum), omega (arith, c .some-up-to .ensures, v .sum, v .measuring .small, v .measuring .inside))
+    let v = c .before .before .loop .inv .0 in
+    (omega (arith, c .some-up-to .ensures, v .sum), omega (arith, c .some-up-to .ensures, v .sum, v .measuring .small, v .measuring .inside))
 
 -- What is left is measured onto what the weights say
 short : (c : tie.After-length-by Inv-loop μ-loop) → c .length-by .result ≡ c .before .before .before .loop .inv .0 .shortest

@@ -23,7 +23,9 @@ abbrev μ-loop : tie.MeasureT-loop
 μ-loop stored from count before alike used₀ shortest₀ same₀ left₀ used shortest same left = left
 
 -- The cell that was tried
-seen : (c : tie.After-known-told Inv-loop μ-loop) → Tried (c .before .before .before .before .before .loop .used) (now (c .before .before .before .before .before .before .before .args .stored)) (c .before .step .given .0 .0)
+seen : (c : tie.After-known-told Inv-loop μ-loop) →
+    let l = c .before .before .before .before .before in
+    Tried (l .loop .used) (now (l .before .before .args .stored)) (c .before .step .given .0 .0)
 seen c =
     let d = c .before .before .before in
     let l = d .before .before .loop in
@@ -47,7 +49,8 @@ fault-of-requires c κs = search needs
 returns : tie.Need-returns Inv-loop μ-loop
 returns c =
     let d = c .before .before .before in
-    measuring-stop (d .before .before .loop .inv) (omega arith) (place-refused _ _ (d .try-cell .ensures) (c .before .enum-told .given .1) (c .fault-of .ensures))
+    measuring-stop (d .before .before .loop .inv) (omega arith)
+    (place-refused _ _ (d .try-cell .ensures) (c .before .enum-told .given .1) (c .fault-of .ensures))
 
 take-cell-requires : tie.Need-take-cell-requires Inv-loop μ-loop
 take-cell-requires c κs = seen c .fits
@@ -61,7 +64,12 @@ shortest-by-requires c κs = kept-five _ (c .kept-count .ensures ∙ kept-of _ (
 shared-slice-read-still-same : tie.Need-shared-slice-read-still-same Inv-loop μ-loop
 shared-slice-read-still-same c =
     let d = c .before .before .before .before in
-    omega (arith, seen d .fits, length-some (getD (now (d .before .before .before .before .before .before .before .args .stored)) (d .before .before .before .before .before .loop .used) 0))
+    omega (
+      arith,
+      seen d .fits,
+      length-some (getD (now (d .before .before .before .before .before .before .before .args .stored))
+          (d .before .before .before .before .before .loop .used) 0),
+    )
 
 sub-still-same : tie.Need-sub-still-same Inv-loop μ-loop
 sub-still-same c = omega (arith, seen (c .before .before .before .before) .long)
@@ -71,9 +79,14 @@ still-same-requires c κs = kept-five _ (c .before .before .kept-count .ensures 
 
 loop-again : tie.Need-loop-again Inv-loop μ-loop
 loop-again c =
-    let d = c .before .before .before .before .before in
+    let c₃ = c .before .before .before in
+    let c₄ = c₃ .before in
+    let d = c₄ .before in
     let t = seen d in
-    measuring-cell (d .before .before .before .before .before .loop .inv) (omega arith) (t .reads) (t .long) (omega (arith, t .long)) (c .before .before .before .kept-count .ensures ∙ kept-of _ (c .before .before .before .before .take-cell .ensures)) (c .before .before .shortest-by .ensures ∙ ap (λ (cell : Cell). shortestBy (cell .note) (c .before .before .before .kept-count .result)) (c .before .before .before .before .take-cell .ensures)) (c .still-same .ensures)
+    measuring-cell (d .before .before .before .before .before .loop .inv) (omega arith) (t .reads) (t .long) (omega (arith, t .long))
+    (c₃ .kept-count .ensures ∙ kept-of _ (c₄ .take-cell .ensures))
+    (c .before .before .shortest-by .ensures ∙ ap (λ (cell : Cell). shortestBy (cell .note) (c₃ .kept-count .result)) (c₄ .take-cell .ensures))
+    (c .still-same .ensures)
 
 add-shortest : tie.Need-add-shortest Inv-loop μ-loop
 add-shortest c = let m = loop-again c in omega (arith, m .small, m .inside)

@@ -32,22 +32,27 @@ returns-3 : tie.Need-returns-3
 returns-3 c =
     let d = c .before .before .before .before in
     let a = d .before .before .before .args in
-    measured-left (a .channels) (a .rows) (now (a .stored)) (omega (arith, d .before .if1 .left)) (d .measure-cells .ensures) (c .before .before .step .given .1) (c .if2 .taken)
+    measured-left (a .channels) (a .rows) (now (a .stored)) (omega (arith, d .before .if1 .left)) (d .measure-cells .ensures)
+    (c .before .before .step .given .1) (c .if2 .taken)
 
 stored-size-requires : tie.Need-stored-size-requires
 stored-size-requires c κs = search needs
 
 returns-4 : tie.Need-returns-4
 returns-4 c =
-    let d = c .before .before .before .before .before .before in
+    let c₄ = c .before .before .before .before in
+    let d = c₄ .before .before in
     let a = d .before .before .before .args in
-    measured-nothing (a .channels) (a .rows) (now (a .stored)) (omega (arith, d .before .if1 .left)) (d .measure-cells .ensures) (c .before .before .before .before .step .given .1) (c .before .before .if2 .left) (c .before .stored-size .ensures) (c .if3 .taken)
+    measured-nothing (a .channels) (a .rows) (now (a .stored)) (omega (arith, d .before .if1 .left)) (d .measure-cells .ensures) (c₄ .step .given .1)
+    (c .before .before .if2 .left) (c .before .stored-size .ensures) (c .if3 .taken)
 
 returns-5 : tie.Need-returns-5
 returns-5 c =
-    let d = c .before .before .before .before .before .before in
+    let c₄ = c .before .before .before .before in
+    let d = c₄ .before .before in
     let a = d .before .before .before .args in
-    measured-whole (a .channels) (a .rows) (now (a .stored)) (omega (arith, d .before .if1 .left)) (d .measure-cells .ensures) (c .before .before .before .before .step .given .1) (c .before .before .if2 .left) (c .before .stored-size .ensures) (c .if3 .left)
+    measured-whole (a .channels) (a .rows) (now (a .stored)) (omega (arith, d .before .if1 .left)) (d .measure-cells .ensures) (c₄ .step .given .1)
+    (c .before .before .if2 .left) (c .before .stored-size .ensures) (c .if3 .left)
 
 pub read-stored-spec : {M : Type 1} → statement M
 read-stored-spec =

@@ -69,17 +69,23 @@ sub-left : tie.Need-sub-left Inv-loop μ-loop
 sub-left c = omega (arith, c .before .before .before .before .before .before .before .before .before .look-ahead .ensures .few)
 
 word-requires : tie.Need-word-requires Inv-loop μ-loop
-word-requires c κs = let l = c .before .before .before .before .before .before .before .before .before in omega (arith, wide (l .before), l .look-ahead .ensures .reach)
+word-requires c κs =
+    let l = c .before .before .before .before .before .before .before .before .before in
+    omega (arith, wide (l .before), l .look-ahead .ensures .reach)
 
 loop-less : tie.Need-loop-less Inv-loop μ-loop
 loop-less c = omega arith
 
 loop-again : tie.Need-loop-again Inv-loop μ-loop
 loop-again c =
-    let l = c .before .before .before .before .before .before .before .before .before .before in
+    let c₆ = c .before .before .before .before .before .before in
+    let c₇ = c₆ .before in
+    let l = c₇ .before .before .before in
     let i = l .before .before .before .loop in (
-      weighing-turn (λ i. omega (arith, l .before .before .before .before .before .shared-slice-known .given i)) (l .before .before .before .before .before .before .pre) (i .inv .0) (omega arith) (wide (l .before))
-          (l .look-ahead .ensures) (sym (c .before .before .before .before .before .before .before .is-longer .ensures) ∙ c .before .before .before .before .before .before .if2 .left) (sym (c .before .before .before .is-longer2 .ensures) ∙ c .before .before .if3 .left),
+      weighing-turn (λ i. omega (arith, l .before .before .before .before .before .shared-slice-known .given i))
+          (l .before .before .before .before .before .before .pre) (i .inv .0) (omega arith) (wide (l .before))
+          (l .look-ahead .ensures) (sym (c₇ .is-longer .ensures) ∙ c₆ .if2 .left)
+          (sym (c .before .before .before .is-longer2 .ensures) ∙ c .before .before .if3 .left),
       record { right = λ h. c .word .ensures },
     )
 
@@ -90,10 +96,17 @@ returns-2 : tie.Need-returns-2 Inv-loop μ-loop
 returns-2 c = skip-end _ _ _ _ (c .before .before .before .before .pre) (c .before .loop .inv .0)
 
 returns-3 : tie.Need-returns-3 Inv-loop μ-loop
-returns-3 c = skip-end _ _ _ _ (c .before .before .before .before .before .before .before .before .before .before .pre) (c .before .before .before .before .before .before .before .loop .inv .0)
+returns-3 c =
+    let l = c .before .before .before .before .before .before .before .loop in
+    let c₁₀ = c .before .before .before .before .before .before .before .before .before .before in
+    skip-end _ _ _ _ (c₁₀ .pre) (l .inv .0)
 
 returns-4 : tie.Need-returns-4 Inv-loop μ-loop
-returns-4 c = skip-end _ _ _ _ (c .before .before .before .before .before .before .before .before .before .before .before .before .before .before .pre) (c .before .before .before .before .before .before .before .before .before .before .before .loop .inv .0)
+returns-4 c =
+    let l = c .before .before .before .before .before .before .before .before .before .before .before .loop in
+    let c₇ = c .before .before .before .before .before .before .before in
+    let c₁₄ = c₇ .before .before .before .before .before .before .before in
+    skip-end _ _ _ _ (c₁₄ .pre) (l .inv .0)
 
 pub skip-short-spec : {M : Type 1} → statement M
 skip-short-spec =

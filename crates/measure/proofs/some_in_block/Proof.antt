@@ -30,7 +30,10 @@ one-in-byte-requires : tie.Need-one-in-byte-requires Inv-loop μ-loop
 one-in-byte-requires c κs = search needs
 
 add-sum : tie.Need-add-sum Inv-loop μ-loop
-add-sum c = let l = c .before .before .before .loop in omega (arith, l .inv .1, some-most (l .i) (drop (c .before .before .before .before .before .args .place) (now (c .before .before .before .before .before .args .stored))), c .one-in-byte .ensures .1)
+add-sum c =
+    let l = c .before .before .before .loop in
+    let a = c .before .before .before .before .before .args in
+    omega (arith, l .inv .1, some-most (l .i) (drop (a .place) (now (a .stored))), c .one-in-byte .ensures .1)
 
 add-i : tie.Need-add-i Inv-loop μ-loop
 add-i c = omega arith
@@ -39,7 +42,10 @@ loop-less : tie.Need-loop-less Inv-loop μ-loop
 loop-less c = omega arith
 
 loop-again : tie.Need-loop-again Inv-loop μ-loop
-loop-again c = let l = c .before .before .before .loop in let a = c .before .before .before .before .before .args in (omega arith, omega (arith, some-next (l .i) (a .place) (now (a .stored)), l .inv .1, c .one-in-byte .ensures .0))
+loop-again c =
+    let l = c .before .before .before .loop in
+    let a = c .before .before .before .before .before .args in
+    (omega arith, omega (arith, some-next (l .i) (a .place) (now (a .stored)), l .inv .1, c .one-in-byte .ensures .0))
 
 returns : tie.Need-returns Inv-loop μ-loop
 returns c =

@@ -33,7 +33,8 @@ some-in-block-requires : tie.Need-some-in-block-requires Inv-loop μ-loop Inv-lo
 some-in-block-requires c κs = omega arith
 
 cast-sum : tie.Need-cast-sum Inv-loop μ-loop Inv-loop2 μ-loop2
-cast-sum c = omega (arith, c .some-in-block .ensures, some-most 64 (drop (c .before .before .loop .at) (now (c .before .before .before .before .args .stored))))
+cast-sum c =
+    omega (arith, c .some-in-block .ensures, some-most 64 (drop (c .before .before .loop .at) (now (c .before .before .before .before .args .stored))))
 
 add-sum : tie.Need-add-sum Inv-loop μ-loop Inv-loop2 μ-loop2
 add-sum c =

@@ -53,18 +53,27 @@ loop-less c = omega (arith, ltb-true)
 loop-again : tie.Need-loop-again Inv-loop μ-loop
 loop-again c =
     let l = c .before .before .before .before .loop in
-    let a = c .before .before .before .before .before .args in (
-      walked-more _ (now (a .lengths)) (a .size) (l .left) (l .at) (record { extra = l .extra; odd = l .odd }) (omega arith) (omega (arith, ltb-true)) ∙ l .inv .0,
+    let c₅ = c .before .before .before .before .before in
+    let a = c₅ .args in (
+      walked-more _ (now (a .lengths)) (a .size) (l .left) (l .at) (record { extra = l .extra; odd = l .odd }) (omega arith) (omega (arith, ltb-true))
+          ∙ l .inv .0,
       omega arith,
       omega (arith, ltb-true),
       omega (arith, ltb-true, c .before .shared-slice-known .given (l .at)),
     )
 
 returns : tie.Need-returns Inv-loop μ-loop
-returns c = let l = c .before .before .loop in let a = c .before .before .before .args in ap weighOf (sym (walked-none _ (now (a .lengths)) (a .size) (l .left) (l .at) (record { extra = l .extra; odd = l .odd }) (omega (arith, ltb-false))) ∙ l .inv .0)
+returns c =
+    let l = c .before .before .loop in
+    let a = c .before .before .before .args in
+    ap weighOf (sym (walked-none _ (now (a .lengths)) (a .size) (l .left) (l .at) (record { extra = l .extra; odd = l .odd }) (omega (arith, ltb-false)))
+    ∙ l .inv .0)
 
 returns-2 : tie.Need-returns-2 Inv-loop μ-loop
-returns-2 c = let l = c .before .loop in let a = c .before .before .args in ap weighOf (sym (walked-past _ (now (a .lengths)) (a .size) (l .left) (l .at) (record { extra = l .extra; odd = l .odd }) (omega arith)) ∙ l .inv .0)
+returns-2 c =
+    let l = c .before .loop in
+    let a = c .before .before .args in
+    ap weighOf (sym (walked-past _ (now (a .lengths)) (a .size) (l .left) (l .at) (record { extra = l .extra; odd = l .odd }) (omega arith)) ∙ l .inv .0)
 
 pub weigh-block-spec : {M : Type 1} → statement M
 weigh-block-spec =

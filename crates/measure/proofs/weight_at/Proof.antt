@@ -91,7 +91,8 @@ returns c =
     let second = third .before .before in
     let first = second .before .before in
     let a = first .before .before .before .before .args in
-    weight-by (now (a .stored)) (a .place) (first .one-in-byte .ensures .0) (second .one-in-byte2 .ensures .0) (third .one-in-byte3 .ensures .0) (fourth .one-in-byte4 .ensures .0) (fifth .one-in-byte5 .ensures .0)
+    weight-by (now (a .stored)) (a .place) (first .one-in-byte .ensures .0) (second .one-in-byte2 .ensures .0) (third .one-in-byte3 .ensures .0)
+    (fourth .one-in-byte4 .ensures .0) (fifth .one-in-byte5 .ensures .0)
     (c .before .before .plain-weight .ensures) (c .before .marked-weight .ensures) (c .chosen .ensures)
 
 pub weight-at-spec : {M : Type 1} → statement M

@@ -20,12 +20,16 @@ range : (c : tie.Else2) → (let a = c .before .before .before .before .before .
 range c = let h = held (c .before) in (h .0, (h .1 .0, (omega arith, tt)))
 
 -- What the first pass found out
-found : (c : tie.After-stored-size) → (let a = c .before .before .before .before .before .before .before .before .args in Sized (a .rows) (a .channels) (a .cells .now) (c .stored-size .result))
-found c = sized _ _ _ (range (c .before .before .before)) (omega arith) (c .before .before .measure-cells .ensures .exact (omega arith)) (c .stored-size .ensures)
+found : (c : tie.After-stored-size)
+    → (let a = c .before .before .before .before .before .before .before .before .args in
+    Sized (a .rows) (a .channels) (a .cells .now) (c .stored-size .result))
+found c =
+    sized _ _ _ (range (c .before .before .before)) (omega arith) (c .before .before .measure-cells .ensures .exact (omega arith)) (c .stored-size .ensures)
 
 returns : tie.Need-returns
 returns c =
-    packs-argument _ _ _ _ (c .refused .ensures) (λ h. no-true (sym (not-true _ (c .before .if1 .taken)) ∙ c .before .before .in-range .ensures ∙ all-pass _ (h .0, (h .1 .0, tt))))
+    packs-argument _ _ _ _ (c .refused .ensures)
+    (λ h. no-true (sym (not-true _ (c .before .if1 .taken)) ∙ c .before .before .in-range .ensures ∙ all-pass _ (h .0, (h .1 .0, tt))))
 
 returns-2 : tie.Need-returns-2
 returns-2 c = packs-argument _ _ _ _ (c .refused2 .ensures) (λ h. c .before .if2 .taken (h .1 .1 .0))

@@ -8,7 +8,9 @@ use Rattle.packing.proofs.weight.Statement.{statement}
 use Rattle.packing.proofs.weight.Tie as tie
 
 returns : tie.Need-returns
-returns c z = let a = c .before .before .before .before .before .before .before .before .before .before .before .args in five-at (a .place) (a .cells .now) ∙ five-zero _ _ _ _ _ (omega arith)
+returns c z =
+    let a = c .before .before .before .before .before .before .before .before .before .before .before .args in
+    five-at (a .place) (a .cells .now) ∙ five-zero _ _ _ _ _ (omega arith)
 
 pub weight-spec : {M : Type 1} → statement M
 weight-spec =

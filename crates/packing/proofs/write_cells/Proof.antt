@@ -28,7 +28,8 @@ empty : (c : tie.Then1 Inv-loop μ-loop)
     → (let l = c .before .before .before .loop in let cells = c .before .before .before .before .before .before .args .cells .now in
     cellsOf (l .left) (drop (l .place) cells) ≡ replicate cellSize 0 ∷ cellsOf (l .left - 1) (drop (l .place + 5) cells))
 empty c =
-    lent-first _ (c .before .before .before .loop .place) (c .before .before .before .before .before .before .args .cells .now) (omega arith) (c .before .weight .ensures (c .if1 .taken))
+    let a = c .before .before .before .before .before .before .args in
+    lent-first _ (c .before .before .before .loop .place) (a .cells .now) (omega arith) (c .before .weight .ensures (c .if1 .taken))
 
 first : (c : tie.Else1 Inv-loop μ-loop)
     → (let l = c .before .before .before .loop in let cells = c .before .before .before .before .before .before .args .cells .now in
@@ -36,11 +37,15 @@ first : (c : tie.Else1 Inv-loop μ-loop)
 first c = lent-first _ (c .before .before .before .loop .place) (c .before .before .before .before .before .before .args .cells .now) (omega arith) refl
 
 -- There is more to write than a cell takes
-more : (c : tie.In-loop Inv-loop μ-loop) → (let l = c .before .loop in overMost ≤ length (joined writeCell (cellsOf (l .left) (drop (l .place) (c .before .before .before .before .args .cells .now)))))
+more : (c : tie.In-loop Inv-loop μ-loop)
+    → (let l = c .before .loop in
+    overMost ≤ length (joined writeCell (cellsOf (l .left) (drop (l .place) (c .before .before .before .before .args .cells .now)))))
 more c = let l = c .before .loop in omega (arith, lent-least (l .left) (drop (l .place) (c .before .before .before .before .args .cells .now)))
 
 add-to : tie.Need-add-to Inv-loop μ-loop
-add-to c = let l = c .before .before .before in omega (arith, more (c .before .before), l .loop .inv .1 .room, l .loop .inv .1 .kept, l .before .before .before .good)
+add-to c =
+    let l = c .before .before .before in
+    omega (arith, more (c .before .before), l .loop .inv .1 .room, l .loop .inv .1 .kept, l .before .before .before .good)
 
 loop-again : tie.Need-loop-again Inv-loop μ-loop
 loop-again c = (omega arith, writing-empty (c .before .before .before .loop .inv .1) (empty c) empty-written)
@@ -58,9 +63,12 @@ add-to-2 c =
 
 loop-again-2 : tie.Need-loop-again-2 Inv-loop μ-loop
 loop-again-2 c =
-    let e = c .before .before .before .before in
     let w = c .before .before .write-over in
-    (omega arith, writing-over (e .before .before .before .loop .inv .1) (first e) _ _ (w .ensures .0) (more (e .before .before)) (w .ensures .1) (w .kept .1 .1 .0))
+    let e = c .before .before .before .before in (
+      omega arith,
+      writing-over (e .before .before .before .loop .inv .1) (first e) _ _ (w .ensures .0) (more (e .before .before)) (w .ensures .1)
+          (w .kept .1 .1 .0),
+    )
 
 -- Where the rest begins
 here : (c : tie.After-loop Inv-loop μ-loop) → (let l = c .before .loop in (c .before .before .before .before .args .count - l .left) * 5 ≡ l .place)
@@ -72,7 +80,10 @@ write-each-requires c κs =
     rw (here (c .before), part-all (l .to) (l .out)) (omega arith, omega (arith, l .inv .1 .room, length-drop (l .to) (l .out)))
 
 returns : tie.Need-returns Inv-loop μ-loop
-returns c = laid-last (c .before .before .before .before .before .loop .inv .1) refl (rw (here (c .before .before .before .before)) at (c .before .before .write-each .ensures))
+returns c =
+    let c₄ = c .before .before .before .before in
+    let l = c₄ .before .loop in
+    laid-last (l .inv .1) refl (rw (here c₄) at (c .before .before .write-each .ensures))
 
 pub write-cells-spec : {M : Type 1} → statement M
 write-cells-spec =

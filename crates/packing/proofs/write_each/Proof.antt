@@ -15,7 +15,8 @@ use Rattle.packing.proofs.write_each.Tie as tie
 
 abbrev Inv-loop : tie.InvT-loop
 Inv-loop cells from count out₀ place₀ to₀ unwritten₀ out place to unwritten =
-    (place + unwritten * 5 ≤ length cells) × Laid out₀ (joined writeCell (cellsOf count (drop from cells))) out to (joined writeCell (cellsOf unwritten (drop place cells)))
+    (place + unwritten * 5 ≤ length cells)
+    × Laid out₀ (joined writeCell (cellsOf count (drop from cells))) out to (joined writeCell (cellsOf unwritten (drop place cells)))
 
 abbrev μ-loop : tie.MeasureT-loop
 μ-loop cells from count out₀ place₀ to₀ unwritten₀ out place to unwritten = unwritten

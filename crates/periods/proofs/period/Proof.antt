@@ -38,7 +38,8 @@ returns-4 : tie.Need-returns-4
 returns-4 c =
     let p = c .before .before in
     let s = p .before .before .before .before in
-    exit-below (s .args .note) (s .args .finetune) (s .fits .finetune) (omega arith) (p .before .before .if2 .left) (p .before .if3 .left) (p .position .ensures)
+    exit-below (s .args .note) (s .args .finetune) (s .fits .finetune) (omega arith) (p .before .before .if2 .left) (p .before .if3 .left)
+    (p .position .ensures)
     (c .out-of-range4 .ensures)
     (c .before .if4 .taken)
 
@@ -46,7 +47,8 @@ cast-period-at : tie.Need-cast-period-at
 cast-period-at c =
     let p = c .before in
     let s = p .before .before .before .before in
-    q-cast (s .args .note) (s .args .finetune) (s .fits .finetune) (omega arith) (p .before .before .if2 .left) (p .before .if3 .left) (p .position .ensures) (c .if4 .left)
+    q-cast (s .args .note) (s .args .finetune) (s .fits .finetune) (omega arith) (p .before .before .if2 .left) (p .before .if3 .left) (p .position .ensures)
+    (c .if4 .left)
 
 what-remains-requires : tie.Need-what-remains-requires
 what-remains-requires c κs = search needs
@@ -64,7 +66,8 @@ returns-5 : tie.Need-returns-5
 returns-5 c =
     let p = c .before .before .before in
     let s = p .before .before .before .before in
-    exit-given (s .args .note) (s .args .finetune) (s .fits .finetune) (omega arith) (p .before .before .if2 .left) (p .before .if3 .left) (p .position .ensures)
+    exit-given (s .args .note) (s .args .finetune) (s .fits .finetune) (omega arith) (p .before .before .if2 .left) (p .before .if3 .left)
+    (p .position .ensures)
     (c .before .before .if4 .left)
     (c .before .what-remains .ensures)
     (c .period-at .ensures)

@@ -32,7 +32,8 @@ shl-t10 c = search needs
 returns : tie.Need-returns
 unfolding periodAt
 returns c =
-    ap₂ (λ (dividend divisor : ℕ). record { dividend = dividend; divisor = divisor }) (c .entry .ensures) (power-held (c .before .args .q / 96 + 1) (omega arith))
+    ap₂ (λ (dividend divisor : ℕ). record { dividend = dividend; divisor = divisor }) (c .entry .ensures)
+    (power-held (c .before .args .q / 96 + 1) (omega arith))
 
 pub period-at-spec : {M : Type 1} → statement M
 period-at-spec =

@@ -18,10 +18,14 @@ use Rattle.press.proofs.press.Tie as tie
 plain : (t : tie.After-known-told) → Bytes (t .before .before .before .before .before .before .before .before .args .file .now)
 plain t = record { below = λ i. omega (arith, t .before .before .before .before .before .before .before .shared-slice-known .given i) }
 
-accepted : (t : tie.After-known-told) → walked.Accepted (t .before .step .given .0 .0) ≡ walkStep (kindBy (t .before .before .before .before .before .is-stripped .result)) (readFile (t .before .before .before .before .before .before .before .before .args .file .now))
+accepted : (t : tie.After-known-told) →
+    let own = t .before .before .before .before .before in
+    walked.Accepted (t .before .step .given .0 .0) ≡ walkStep (kindBy (own .is-stripped .result)) (readFile (own .before .before .before .args .file .now))
 accepted t = sym (t .before .step .given .1) ∙ t .before .before .before .walk .ensures .0
 
-own : (t : tie.After-known-told) → kindBy (t .before .before .before .before .before .is-stripped .result) ≡ kindAt (t .before .before .before .before .before .before .before .before .args .file .now)
+own : (t : tie.After-known-told) →
+    let own = t .before .before .before .before .before in
+    kindBy (own .is-stripped .result) ≡ kindAt (own .before .before .before .args .file .now)
 own t = own-kind _ (t .before .before .before .before .before .is-stripped .ensures)
 
 returns-2 : tie.Need-returns-2
@@ -30,10 +34,13 @@ returns-2 c = let t = c .before in press-short _ _ _ (accepted t) (plain t) (own
 write-module-requires : tie.Need-write-module-requires
 write-module-requires c κs =
     let t = c .before .before .before in
-    (accepted-told _ _ (t .before .before .before .before .before .before .before .before .args .out .now) (accepted t) _ (t .before .before .before .walk .ensures .1), omega (arith, accepted-size _ _ (t .before .before .before .before .before .before .before .before .args .out .now) (accepted t) (plain t) true))
+    let out = t .before .before .before .before .before .before .before .before .args .out .now in
+    (accepted-told _ _ out (accepted t) _ (t .before .before .before .walk .ensures .1), omega (arith, accepted-size _ _ out (accepted t) (plain t) true))
 
 returns-3 : tie.Need-returns-3
-returns-3 c = let t = c .before .before .before .before .before .before in press-done _ _ _ (accepted t) (plain t) (own t) (omega arith) (omega arith) (c .before .before .write-module .ensures)
+returns-3 c =
+    let t = c .before .before .before .before .before .before in
+    press-done _ _ _ (accepted t) (plain t) (own t) (omega arith) (omega arith) (c .before .before .write-module .ensures)
 
 pub press-spec : {M : Type 1} → statement M
 press-spec =

@@ -19,12 +19,17 @@ shared-slice-read-first-field c = let a = c .before .before .before .args in ome
 
 -- All its fields lie inside
 inside : (c : tie.After-first-field) → Inside 5 (c .first-field .result) (length (c .before .before .before .before .args .stored .now))
-inside c = let s = c .before .before .before .before in first-inside (s .args .place) (getD (s .args .stored .now) (s .args .place) 0) _ (c .first-field .ensures) (s .pre .0)
+inside c =
+    let s = c .before .before .before .before in
+    first-inside (s .args .place) (getD (s .args .stored .now) (s .args .place) 0) _ (c .first-field .ensures) (s .pre .0)
 
 -- With all five stored
 same : (c : tie.Then1) → (let f = c .before .before in let a = f .before .before .before .before .args in
     cellAt (drop (a .place) (a .stored .now)) ≡ five (drop (f .first-field .result .place) (a .stored .now)))
-same c = let f = c .before .before in let a = f .before .before .before .before .args in stored-five (a .place) (a .stored .now) (f .first-field .ensures) (omega arith)
+same c =
+    let f = c .before .before in
+    let a = f .before .before .before .before .args in
+    stored-five (a .place) (a .stored .now) (f .first-field .ensures) (omega arith)
 
 write-cell-requires : tie.Need-write-cell-requires
 write-cell-requires c κs =
@@ -44,7 +49,9 @@ few c =
     let a = f .before .before .before .before .args in
     stored-few (a .place) (a .stored .now) (f .first-field .ensures) (λ h. c .if1 .left (omega arith))
 
-mark : (c : tie.Else1) → (let a = c .before .before .before .before .before .before .args in let cell = cellAt (drop (a .place) (a .stored .now)) in plainBy (getD cell 0 0) (length (kepts cell)) ≡ false)
+mark : (c : tie.Else1)
+    → (let a = c .before .before .before .before .before .before .args in let cell = cellAt (drop (a .place) (a .stored .now)) in
+    plainBy (getD cell 0 0) (length (kepts cell)) ≡ false)
 mark c = few-marked _ _ (omega (arith, few c))
 
 room : (c : tie.Else1) → (let f = c .before .before in let a = f .before .before .before .before .args in
@@ -73,16 +80,20 @@ abbrev fifth : tie.After-put-field-arg5 → tie.Else1
 fifth c = fourth (c .before .before .before .before .before)
 
 -- and from there its field's place
-field₂ : (c : tie.After-put-field-arg2) → Inside 4 (c .before .next-field .result) (length ((second c) .before .before .before .before .before .before .args .stored .now))
+field₂ : (c : tie.After-put-field-arg2)
+    → Inside 4 (c .before .next-field .result) (length ((second c) .before .before .before .before .before .before .args .stored .now))
 field₂ c = next-inside (inside ((second c) .before .before)) (c .before .next-field .ensures)
 
-field₃ : (c : tie.After-put-field-arg3) → Inside 3 (c .before .next-field2 .result) (length ((third c) .before .before .before .before .before .before .args .stored .now))
+field₃ : (c : tie.After-put-field-arg3)
+    → Inside 3 (c .before .next-field2 .result) (length ((third c) .before .before .before .before .before .before .args .stored .now))
 field₃ c = next-inside (field₂ (c .before .before .before .before .before)) (c .before .next-field2 .ensures)
 
-field₄ : (c : tie.After-put-field-arg4) → Inside 2 (c .before .next-field3 .result) (length ((fourth c) .before .before .before .before .before .before .args .stored .now))
+field₄ : (c : tie.After-put-field-arg4)
+    → Inside 2 (c .before .next-field3 .result) (length ((fourth c) .before .before .before .before .before .before .args .stored .now))
 field₄ c = next-inside (field₃ (c .before .before .before .before .before)) (c .before .next-field3 .ensures)
 
-field₅ : (c : tie.After-put-field-arg5) → Inside 1 (c .before .next-field4 .result) (length ((fifth c) .before .before .before .before .before .before .args .stored .now))
+field₅ : (c : tie.After-put-field-arg5)
+    → Inside 1 (c .before .next-field4 .result) (length ((fifth c) .before .before .before .before .before .before .args .stored .now))
 field₅ c = next-inside (field₄ (c .before .before .before .before .before)) (c .before .next-field4 .ensures)
 
 put-field-requires : tie.Need-put-field-requires
@@ -99,27 +110,80 @@ put-field-requires-2 c κs =
 
 put-field-requires-3 : tie.Need-put-field-requires-3
 put-field-requires-3 c κs =
+    let c₆ = c .before .before .before .before .before .before in
     let e = third c in
-    let s = e .before .before .before .before .before .before .args .stored .now in
-    (field-inside (field₃ c), omega (arith, room e, kept-next 4 s (c .before .before .before .before .before .before .next-field .ensures), kept-next 3 s (c .before .next-field2 .ensures), kept-least 2 s (c .before .next-field2 .result)))
+    let s = e .before .before .before .before .before .before .args .stored .now in (
+      field-inside (field₃ c),
+      omega (
+        arith,
+        room e,
+        kept-next 4 s (c₆ .next-field .ensures),
+        kept-next 3 s (c .before .next-field2 .ensures),
+        kept-least 2 s (c .before .next-field2 .result),
+      ),
+    )
 
 put-field-requires-4 : tie.Need-put-field-requires-4
 put-field-requires-4 c κs =
+    let p₃ = c .before .before .before .before in
+    let p₂ = p₃ .before .before .before .before .before in
+    let p₁ = p₂ .before .before .before .before .before in
     let e = fourth c in
-    let s = e .before .before .before .before .before .before .args .stored .now in
-    (field-inside (field₄ c), omega (arith, room e, c .before .before .before .before .before .before .before .before .before .before .before .before .before .before .put-field .kept .1 .1 .1 .0, c .before .before .before .before .before .before .before .before .before .put-field2 .kept .1 .1 .1 .0, c .before .before .before .before .put-field3 .kept .1 .1 .1 .0, c .before .before .before .before .before .before .before .before .before .before .before .before .before .before .put-field .ensures .0, c .before .before .before .before .before .before .before .before .before .put-field2 .ensures .0, c .before .before .before .before .put-field3 .ensures .0, kept-next 4 s (c .before .before .before .before .before .before .before .before .before .before .before .next-field .ensures), kept-next 3 s (c .before .before .before .before .before .before .next-field2 .ensures), kept-next 2 s (c .before .next-field3 .ensures), kept-least 1 s (c .before .next-field3 .result)))
+    let s = e .before .before .before .before .before .before .args .stored .now in (
+      field-inside (field₄ c),
+      omega (
+        arith,
+        room e,
+        p₁ .put-field .kept .1 .1 .1 .0,
+        p₂ .put-field2 .kept .1 .1 .1 .0,
+        p₃ .put-field3 .kept .1 .1 .1 .0,
+        p₁ .put-field .ensures .0,
+        p₂ .put-field2 .ensures .0,
+        p₃ .put-field3 .ensures .0,
+        kept-next 4 s (p₂ .before .before .next-field .ensures),
+        kept-next 3 s (p₃ .before .before .next-field2 .ensures),
+        kept-next 2 s (c .before .next-field3 .ensures),
+        kept-least 1 s (c .before .next-field3 .result),
+      ),
+    )
 
 put-field-requires-5 : tie.Need-put-field-requires-5
 put-field-requires-5 c κs =
+    let p₄ = c .before .before .before .before in
+    let p₃ = p₄ .before .before .before .before .before in
+    let p₂ = p₃ .before .before .before .before .before in
+    let p₁ = p₂ .before .before .before .before .before in
     let e = fifth c in
-    let s = e .before .before .before .before .before .before .args .stored .now in
-    (field-inside (field₅ c), omega (arith, room e, c .before .before .before .before .before .before .before .before .before .before .before .before .before .before .before .before .before .before .before .put-field .kept .1 .1 .1 .0, c .before .before .before .before .before .before .before .before .before .before .before .before .before .before .put-field2 .kept .1 .1 .1 .0, c .before .before .before .before .before .before .before .before .before .put-field3 .kept .1 .1 .1 .0, c .before .before .before .before .put-field4 .kept .1 .1 .1 .0, c .before .before .before .before .before .before .before .before .before .before .before .before .before .before .before .before .before .before .before .put-field .ensures .0, c .before .before .before .before .before .before .before .before .before .before .before .before .before .before .put-field2 .ensures .0, c .before .before .before .before .before .before .before .before .before .put-field3 .ensures .0, c .before .before .before .before .put-field4 .ensures .0, kept-next 4 s (c .before .before .before .before .before .before .before .before .before .before .before .before .before .before .before .before .next-field .ensures), kept-next 3 s (c .before .before .before .before .before .before .before .before .before .before .before .next-field2 .ensures), kept-next 2 s (c .before .before .before .before .before .before .next-field3 .ensures), kept-next 1 s (c .before .next-field4 .ensures), kept-least 0 s (c .before .next-field4 .result)))
+    let s = e .before .before .before .before .before .before .args .stored .now in (
+      field-inside (field₅ c),
+      omega (
+        arith,
+        room e,
+        p₁ .put-field .kept .1 .1 .1 .0,
+        p₂ .put-field2 .kept .1 .1 .1 .0,
+        p₃ .put-field3 .kept .1 .1 .1 .0,
+        p₄ .put-field4 .kept .1 .1 .1 .0,
+        p₁ .put-field .ensures .0,
+        p₂ .put-field2 .ensures .0,
+        p₃ .put-field3 .ensures .0,
+        p₄ .put-field4 .ensures .0,
+        kept-next 4 s (p₂ .before .before .next-field .ensures),
+        kept-next 3 s (p₃ .before .before .next-field2 .ensures),
+        kept-next 2 s (p₄ .before .before .next-field3 .ensures),
+        kept-next 1 s (c .before .next-field4 .ensures),
+        kept-least 0 s (c .before .next-field4 .result),
+      ),
+    )
 
 next-field-requires-3 : tie.Need-next-field-requires-3
-next-field-requires-3 c κs = let arg = c .before .before .before in omega (arith, field-inside (field₃ arg), (third arg) .before .before .before .before .before .before .good)
+next-field-requires-3 c κs =
+    let arg = c .before .before .before in
+    omega (arith, field-inside (field₃ arg), (third arg) .before .before .before .before .before .before .good)
 
 next-field-requires-4 : tie.Need-next-field-requires-4
-next-field-requires-4 c κs = let arg = c .before .before .before in omega (arith, field-inside (field₄ arg), (fourth arg) .before .before .before .before .before .before .good)
+next-field-requires-4 c κs =
+    let arg = c .before .before .before in
+    omega (arith, field-inside (field₄ arg), (fourth arg) .before .before .before .before .before .before .good)
 
 -- From the lead byte, put last, to the calls
 lead-by-requires : tie.Need-lead-by-requires
@@ -144,10 +208,37 @@ lead-by-requires c κs =
     }
 
 slice-write-out : tie.Need-slice-write-out
-slice-write-out c = omega (arith, room (fifth (c .before .before .before .before)), c .before .before .before .put-field5 .kept .1 .1 .1 .0, c .before .before .before .before .before .before .before .before .put-field4 .kept .1 .1 .1 .0, c .before .before .before .before .before .before .before .before .before .before .before .before .before .put-field3 .kept .1 .1 .1 .0, c .before .before .before .before .before .before .before .before .before .before .before .before .before .before .before .before .before .before .put-field2 .kept .1 .1 .1 .0, c .before .before .before .before .before .before .before .before .before .before .before .before .before .before .before .before .before .before .before .before .before .before .before .put-field .kept .1 .1 .1 .0)
+slice-write-out c =
+    let p₅ = c .before .before .before in
+    let p₄ = p₅ .before .before .before .before .before in
+    let p₃ = p₄ .before .before .before .before .before in
+    let p₂ = p₃ .before .before .before .before .before in
+    let p₁ = p₂ .before .before .before .before .before in
+    omega (
+      arith,
+      room (fifth (p₅ .before)),
+      p₅ .put-field5 .kept .1 .1 .1 .0,
+      p₄ .put-field4 .kept .1 .1 .1 .0,
+      p₃ .put-field3 .kept .1 .1 .1 .0,
+      p₂ .put-field2 .kept .1 .1 .1 .0,
+      p₁ .put-field .kept .1 .1 .1 .0,
+    )
 
 same-length-2 : tie.Need-same-length-2
-same-length-2 c = simp length-set (omega (arith, c .before .before .before .put-field5 .kept .1 .1 .1 .0, c .before .before .before .before .before .before .before .before .put-field4 .kept .1 .1 .1 .0, c .before .before .before .before .before .before .before .before .before .before .before .before .before .put-field3 .kept .1 .1 .1 .0, c .before .before .before .before .before .before .before .before .before .before .before .before .before .before .before .before .before .before .put-field2 .kept .1 .1 .1 .0, c .before .before .before .before .before .before .before .before .before .before .before .before .before .before .before .before .before .before .before .before .before .before .before .put-field .kept .1 .1 .1 .0))
+same-length-2 c =
+    let p₅ = c .before .before .before in
+    let p₄ = p₅ .before .before .before .before .before in
+    let p₃ = p₄ .before .before .before .before .before in
+    let p₂ = p₃ .before .before .before .before .before in
+    let p₁ = p₂ .before .before .before .before .before in
+    simp length-set (omega (
+      arith,
+      p₅ .put-field5 .kept .1 .1 .1 .0,
+      p₄ .put-field4 .kept .1 .1 .1 .0,
+      p₃ .put-field3 .kept .1 .1 .1 .0,
+      p₂ .put-field2 .kept .1 .1 .1 .0,
+      p₁ .put-field .kept .1 .1 .1 .0,
+    ))
 
 returns-2 : tie.Need-returns-2
 returns-2 c =
@@ -164,17 +255,20 @@ returns-2 c =
     let n₃ = p₄ .before .before .next-field3 .ensures in
     let n₄ = p₅ .before .before .next-field4 .ensures in
     let cell = cell-fields (a .place) (a .stored .now) (f .first-field .ensures) n₁ n₂ n₃ n₄ in
-    let lead = lead-moved _ _ _ _ _ 1 (p₁ .put-field .ensures .0) (p₂ .put-field2 .ensures .0) (p₃ .put-field3 .ensures .0) (p₄ .put-field4 .ensures .0) (p₅ .put-field5 .ensures .0) (c .lead-by .ensures) in
+    let lead = lead-moved _ _ _ _ _ 1 (p₁ .put-field .ensures .0) (p₂ .put-field2 .ensures .0) (p₃ .put-field3 .ensures .0) (p₄ .put-field4 .ensures .0)
+    (p₅ .put-field5 .ensures .0) (c .lead-by .ensures) in
     let s₀ = left-first (a .out .now) (kepts _) (rw (sym (cell-first (a .place) (a .stored .now) (f .first-field .ensures)), cell) at (room e)) in
     let s₁ = put-more _ _ s₀ (p₁ .put-field .ensures .0, p₁ .put-field .ensures .1 .1 .1) in
     let s₂ = put-more _ _ s₁ (p₂ .put-field2 .ensures .0, p₂ .put-field2 .ensures .1 .1 .1) in
     let s₃ = put-more _ _ s₂ (p₃ .put-field3 .ensures .0, p₃ .put-field3 .ensures .1 .1 .1) in
     let s₄ = put-more _ _ s₃ (p₄ .put-field4 .ensures .0, p₄ .put-field4 .ensures .1 .1 .1) in
-    rw cell (laid-lead _ refl _ lead (a .out .now) (omega (arith, room e)) (rw cell at (mark e)) (put-more _ _ s₄ (p₅ .put-field5 .ensures .0, p₅ .put-field5 .ensures .1 .1 .1)))
+    rw cell (laid-lead _ refl _ lead (a .out .now) (omega (arith, room e)) (rw cell at (mark e))
+    (put-more _ _ s₄ (p₅ .put-field5 .ensures .0, p₅ .put-field5 .ensures .1 .1 .1)))
 
 pub rewrite-cell-spec : {M : Type 1} → statement M
 rewrite-cell-spec =
     tie.close
-    (tie.spec shared-slice-read-first-field (λ c κs. search needs) write-cell-requires (λ c. search needs) returns put-field-requires (λ c κs. search needs) put-field-requires-2
+    (tie.spec shared-slice-read-first-field (λ c κs. search needs) write-cell-requires (λ c. search needs) returns put-field-requires
+    (λ c κs. search needs) put-field-requires-2
     (λ c κs. search needs) put-field-requires-3 next-field-requires-3 put-field-requires-4 next-field-requires-4 put-field-requires-5 lead-by-requires
     slice-write-out same-length-2 returns-2)

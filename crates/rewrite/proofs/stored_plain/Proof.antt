@@ -15,7 +15,8 @@ returns c =
     let a = c .before .before .before .before .before .before .args in
     c .both .ensures
     ∙ ap (λ (plain : Bool). eqb (a .first .bits % 32) 31 && plain)
-    (c .before .before .plain-by .ensures ∙ ap (λ (n : ℕ). plainBy (getD (now (a .stored)) (a .first .place) 0) n) (c .before .before .before .kept-in .ensures))
+    (c .before .before .plain-by .ensures
+    ∙ ap (λ (n : ℕ). plainBy (getD (now (a .stored)) (a .first .place) 0) n) (c .before .before .before .kept-in .ensures))
 
 pub stored-plain-spec : {M : Type 1} → statement M
 stored-plain-spec = tie.close (tie.spec (λ c. search needs) (λ c κs. search needs) (λ c κs. search needs) (λ c κs. search needs) returns)

@@ -29,9 +29,11 @@ no-room-requires c κs = search needs
 
 returns-2 : tie.Need-returns-2
 returns-2 c =
-    let a = c .before .before .before .before .before .before .args in
-    rw (c .before .before .before .before .if1 .taken)
-    (code-short 8 refl (now (a .values)) (λ e. sym (c .before .before .before .all-fit8 .ensures) ∙ not-false _ (c .before .before .if2 .left)) (now (a .bytes)) (c .no-room .ensures)
+    let c₄ = c .before .before .before .before in
+    let a = c₄ .before .before .args in
+    rw (c₄ .if1 .taken)
+    (code-short 8 refl (now (a .values)) (λ e. sym (c .before .before .before .all-fit8 .ensures) ∙ not-false _ (c .before .before .if2 .left))
+    (now (a .bytes)) (c .no-room .ensures)
     (omega arith))
 
 code8-requires : tie.Need-code8-requires
@@ -42,9 +44,12 @@ same-length c = search needs
 
 returns-3 : tie.Need-returns-3
 returns-3 c =
-    let a = c .before .before .before .before .before .before .before .before .before .args in
-    rw (c .before .before .before .before .before .before .before .if1 .taken)
-    (code-done 8 refl (now (a .values)) (λ e. sym (c .before .before .before .before .before .before .all-fit8 .ensures) ∙ not-false _ (c .before .before .before .before .before .if2 .left)) (now (a .bytes)) (omega arith) (omega arith)
+    let c₅ = c .before .before .before .before .before in
+    let c₆ = c₅ .before in
+    let c₇ = c₆ .before in
+    let a = c₇ .before .before .args in
+    rw (c₇ .if1 .taken)
+    (code-done 8 refl (now (a .values)) (λ e. sym (c₆ .all-fit8 .ensures) ∙ not-false _ (c₅ .if2 .left)) (now (a .bytes)) (omega arith) (omega arith)
     (c .before .before .code8 .ensures))
 
 bad-argument-requires-2 : tie.Need-bad-argument-requires-2
@@ -53,7 +58,8 @@ bad-argument-requires-2 c κs = search needs
 returns-4 : tie.Need-returns-4
 returns-4 c =
     let a = c .before .before .before .before .args in
-    code-refused (a .width) (now (a .values)) (now (a .bytes)) (c .bad-argument2 .ensures) (coding-width _ _ _ (c .before .before .if1 .left) (c .before .if4 .taken))
+    code-refused (a .width) (now (a .values)) (now (a .bytes)) (c .bad-argument2 .ensures)
+    (coding-width _ _ _ (c .before .before .if1 .left) (c .before .if4 .taken))
 
 no-room-requires-2 : tie.Need-no-room-requires-2
 no-room-requires-2 c κs = search needs

@@ -21,7 +21,8 @@ use Rattle.samples.proofs.code16.Statement.{statement}
 use Rattle.samples.proofs.code16.Tie as tie
 
 abbrev Inv-loop : tie.InvT-loop
-Inv-loop values bytes₀ before₀ at₀ i₀ bytes before at i = (at ≡ 2 * i) × (i ≤ length values) × Laid bytes₀ (coded 16 values) bytes at (joined word (differences 16 before (map (residue 16) (drop i values))))
+Inv-loop values bytes₀ before₀ at₀ i₀ bytes before at i =
+    (at ≡ 2 * i) × (i ≤ length values) × Laid bytes₀ (coded 16 values) bytes at (joined word (differences 16 before (map (residue 16) (drop i values))))
 
 abbrev μ-loop : tie.MeasureT-loop
 μ-loop values bytes₀ before₀ at₀ i₀ bytes before at i = length values - i

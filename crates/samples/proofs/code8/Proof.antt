@@ -18,7 +18,8 @@ use Rattle.samples.proofs.code8.Statement.{statement}
 use Rattle.samples.proofs.code8.Tie as tie
 
 abbrev Inv-loop : tie.InvT-loop
-Inv-loop values bytes₀ before₀ i₀ bytes before i = (i ≤ length values) × Laid bytes₀ (coded 8 values) bytes i (differences 8 before (map (residue 8) (drop i values)))
+Inv-loop values bytes₀ before₀ i₀ bytes before i =
+    (i ≤ length values) × Laid bytes₀ (coded 8 values) bytes i (differences 8 before (map (residue 8) (drop i values)))
 
 abbrev μ-loop : tie.MeasureT-loop
 μ-loop values bytes₀ before₀ i₀ bytes before i = length values - i
@@ -55,7 +56,8 @@ loop-again c =
     let value = toZ-ofZ {w = w16} {z = getD (now (a .values)) (l .i) (pos 0)} (record { sfits = c .before .before .residue8-arg .given }) in (
       omega arith,
       laid-set (l .inv .1) _ _
-          (differences-next 8 (l .before) (l .i) (c .before .residue8 .result) (now (a .values)) (omega arith) (c .before .residue8 .ensures ∙ ap (residue 8) value)
+          (differences-next 8 (l .before) (l .i) (c .before .residue8 .result) (now (a .values)) (omega arith)
+          (c .before .residue8 .ensures ∙ ap (residue 8) value)
           ∙ cons-path (sym (c .difference8 .ensures)) refl),
     )
 

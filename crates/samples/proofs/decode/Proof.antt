@@ -14,7 +14,8 @@ no-room-requires c κs = search needs
 returns : tie.Need-returns
 returns c =
     let a = c .before .before .before .before .args in
-    rw (c .before .before .if1 .taken) (decode-short 8 refl (now (a .bytes)) (eight-paired (now (a .bytes))) (now (a .values)) (c .no-room .ensures) (omega arith))
+    rw (c .before .before .if1 .taken)
+    (decode-short 8 refl (now (a .bytes)) (eight-paired (now (a .bytes))) (now (a .values)) (c .no-room .ensures) (omega arith))
 
 decode8-requires : tie.Need-decode8-requires
 decode8-requires c κs = search needs
@@ -34,7 +35,8 @@ bad-argument-requires c κs = search needs
 returns-3 : tie.Need-returns-3
 returns-3 c =
     let a = c .before .before .before .before .args in
-    decode-refused (a .width) (now (a .bytes)) (now (a .values)) (c .bad-argument .ensures) (decoding-width _ _ _ (c .before .before .if1 .left) (c .before .if3 .taken))
+    decode-refused (a .width) (now (a .bytes)) (now (a .values)) (c .bad-argument .ensures)
+    (decoding-width _ _ _ (c .before .before .if1 .left) (c .before .if3 .taken))
 
 bad-argument-requires-2 : tie.Need-bad-argument-requires-2
 bad-argument-requires-2 c κs = search needs
@@ -43,7 +45,8 @@ returns-4 : tie.Need-returns-4
 returns-4 c =
     let a = c .before .before .before .before .before .args in
     rw (c .before .before .if3 .left)
-    (decode-refused 16 (now (a .bytes)) (now (a .values)) (c .bad-argument2 .ensures) (decoding-odd 16 _ _ refl (λ paired. c .before .if4 .taken (paired refl))))
+    (decode-refused 16 (now (a .bytes)) (now (a .values)) (c .bad-argument2 .ensures)
+    (decoding-odd 16 _ _ refl (λ paired. c .before .if4 .taken (paired refl))))
 
 no-room-requires-2 : tie.Need-no-room-requires-2
 no-room-requires-2 c κs = search needs
@@ -51,7 +54,8 @@ no-room-requires-2 c κs = search needs
 returns-5 : tie.Need-returns-5
 returns-5 c =
     let a = c .before .before .before .before .before .before .args in
-    rw (c .before .before .before .if3 .left) (decode-short 16 refl (now (a .bytes)) (λ e. c .before .before .if4 .left) (now (a .values)) (c .no-room2 .ensures) (omega arith))
+    rw (c .before .before .before .if3 .left)
+    (decode-short 16 refl (now (a .bytes)) (λ e. c .before .before .if4 .left) (now (a .values)) (c .no-room2 .ensures) (omega arith))
 
 decode16-requires : tie.Need-decode16-requires
 decode16-requires c κs = search needs
@@ -61,9 +65,11 @@ same-length-2 c = search needs
 
 returns-6 : tie.Need-returns-6
 returns-6 c =
-    let a = c .before .before .before .before .before .before .before .before .args in
-    rw (c .before .before .before .before .before .if3 .left)
-    (decode-done 16 refl (now (a .bytes)) (λ e. c .before .before .before .before .if4 .left) (now (a .values)) (omega arith) (omega arith) (c .before .decode16 .ensures))
+    let c₄ = c .before .before .before .before in
+    let c₅ = c₄ .before in
+    let a = c₅ .before .before .before .args in
+    rw (c₅ .if3 .left)
+    (decode-done 16 refl (now (a .bytes)) (λ e. c₄ .if4 .left) (now (a .values)) (omega arith) (omega arith) (c .before .decode16 .ensures))
 
 pub decode-spec : {M : Type 1} → statement M
 decode-spec =

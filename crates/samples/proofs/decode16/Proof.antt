@@ -16,7 +16,8 @@ use Rattle.samples.proofs.decode16.Statement.{statement}
 use Rattle.samples.proofs.decode16.Tie as tie
 
 abbrev Inv-loop : tie.InvT-loop
-Inv-loop bytes values₀ sum₀ at₀ i₀ values sum at i = (at ≡ 2 * i) × (at ≤ length bytes) × Laid values₀ (decoded 16 bytes) values i (valuesFrom 16 sum (drop i (pairs bytes)))
+Inv-loop bytes values₀ sum₀ at₀ i₀ values sum at i =
+    (at ≡ 2 * i) × (at ≤ length bytes) × Laid values₀ (decoded 16 bytes) values i (valuesFrom 16 sum (drop i (pairs bytes)))
 
 abbrev μ-loop : tie.MeasureT-loop
 μ-loop bytes values₀ sum₀ at₀ i₀ values sum at i = length bytes - at

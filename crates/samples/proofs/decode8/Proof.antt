@@ -125,11 +125,18 @@ loop-less c = omega arith
 
 loop-again : tie.Need-loop-again Inv-loop μ-loop Inv-loop2 μ-loop2
 loop-again c =
-    let l = c .before .before .before .before .before .before .before .before .before .before .before .before .before .loop in (
+    let c₃ = c .before .before .before in
+    let c₄ = c₃ .before in
+    let c₆ = c₄ .before .before in
+    let c₈ = c₆ .before .before in
+    let c₁₀ = c₈ .before .before in
+    let c₁₃ = c₁₀ .before .before .before in
+    let a = c₁₃ .before .before .args in
+    let l = c₁₃ .loop in (
       omega arith,
-      decode-four 8 (l .sum) (l .i) (now (c .before .before .before .before .before .before .before .before .before .before .before .before .before .before .before .args .bytes)) (l .inv .1) (omega arith) _ _ _ _ _ _ _ _
-          (c .before .before .before .before .before .before .before .before .before .before .sum8 .ensures) (c .before .before .before .before .before .before .before .before .sum82 .ensures) (c .before .before .before .before .before .before .sum83 .ensures) (c .before .before .before .before .sum84 .ensures)
-          (toZ-ofZ (record { sfits = c .before .before .before .value8 .ok }) ∙ c .before .before .before .value8 .ensures)
+      decode-four 8 (l .sum) (l .i) (now (a .bytes)) (l .inv .1) (omega arith) _ _ _ _ _ _ _ _
+          (c₁₀ .sum8 .ensures) (c₈ .sum82 .ensures) (c₆ .sum83 .ensures) (c₄ .sum84 .ensures)
+          (toZ-ofZ (record { sfits = c₃ .value8 .ok }) ∙ c₃ .value8 .ensures)
           (toZ-ofZ (record { sfits = c .before .before .value82 .ok }) ∙ c .before .before .value82 .ensures)
           (toZ-ofZ (record { sfits = c .before .value83 .ok }) ∙ c .before .value83 .ensures)
           (toZ-ofZ (record { sfits = c .value84 .ok }) ∙ c .value84 .ensures),

@@ -50,7 +50,8 @@ loop-again : tie.Need-loop-again Inv-loop μ-loop
 loop-again c =
     let f = c .before .before .before .before .before in
     let l = f .before .before .before .before .before .loop in (
-      scanning-block (l .used) _ _ (f .fill-lengths .ensures) (omega (arith, f .before .before .block-of .ensures .inside)) (l .inv .0) (c .before .before .before .walk-block .ensures) (omega arith),
+      scanning-block (l .used) _ _ (f .fill-lengths .ensures) (omega (arith, f .before .before .block-of .ensures .inside)) (l .inv .0)
+          (c .before .before .before .walk-block .ensures) (omega arith),
       f .fill-lengths .ensures .long,
     )
 

@@ -37,7 +37,9 @@ loop-less : tie.Need-loop-less Inv-loop μ-loop
 loop-less c = omega arith
 
 loop-again : tie.Need-loop-again Inv-loop μ-loop
-loop-again c = let d = c .before .before .before in scanning-next (d .before .before .loop .inv) (omega arith) (d .try-cell .ensures) (c .before .step .given .1)
+loop-again c =
+    let d = c .before .before .before in
+    scanning-next (d .before .before .loop .inv) (omega arith) (d .try-cell .ensures) (c .before .step .given .1)
 
 returns-2 : tie.Need-returns-2 Inv-loop μ-loop
 returns-2 c = scanning-done (c .before .loop .inv) (omega arith)

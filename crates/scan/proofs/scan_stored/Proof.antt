@@ -35,13 +35,15 @@ returns-3 : tie.Need-returns-3
 returns-3 c =
     let d = c .before .before .before .before in
     let a = d .before .before .before .args in
-    scan-left (a .channels) (a .rows) (now (a .stored)) (omega (arith, d .before .if1 .left)) (d .scan-cells .ensures) (c .before .before .step .given .1) (c .if2 .taken)
+    scan-left (a .channels) (a .rows) (now (a .stored)) (omega (arith, d .before .if1 .left)) (d .scan-cells .ensures) (c .before .before .step .given .1)
+    (c .if2 .taken)
 
 returns-4 : tie.Need-returns-4
 returns-4 c =
     let d = c .before .before .before .before in
     let a = d .before .before .before .args in
-    scan-whole (a .channels) (a .rows) (now (a .stored)) (omega (arith, d .before .if1 .left)) (d .scan-cells .ensures) (c .before .before .step .given .1) (c .if2 .left)
+    scan-whole (a .channels) (a .rows) (now (a .stored)) (omega (arith, d .before .if1 .left)) (d .scan-cells .ensures) (c .before .before .step .given .1)
+    (c .if2 .left)
 
 pub scan-stored-spec : {M : Type 1} → statement M
 scan-stored-spec =

@@ -39,10 +39,16 @@ loop-again c =
     walked-more _ (now (a .lengths)) (a .size) (l .left) (l .at) tt (omega arith) (omega (arith, ltb-true)) ∙ l .inv
 
 returns : tie.Need-returns Inv-loop μ-loop
-returns c = let l = c .before .before .loop in let a = c .before .before .before .args in ap walkOf (sym (walked-none _ (now (a .lengths)) (a .size) (l .left) (l .at) tt (omega (arith, ltb-false))) ∙ l .inv)
+returns c =
+    let l = c .before .before .loop in
+    let a = c .before .before .before .args in
+    ap walkOf (sym (walked-none _ (now (a .lengths)) (a .size) (l .left) (l .at) tt (omega (arith, ltb-false))) ∙ l .inv)
 
 returns-2 : tie.Need-returns-2 Inv-loop μ-loop
-returns-2 c = let l = c .before .loop in let a = c .before .before .args in ap walkOf (sym (walked-past _ (now (a .lengths)) (a .size) (l .left) (l .at) tt (omega arith)) ∙ l .inv)
+returns-2 c =
+    let l = c .before .loop in
+    let a = c .before .before .args in
+    ap walkOf (sym (walked-past _ (now (a .lengths)) (a .size) (l .left) (l .at) tt (omega arith)) ∙ l .inv)
 
 pub walk-block-spec : {M : Type 1} → statement M
 walk-block-spec =

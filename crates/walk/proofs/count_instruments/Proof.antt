@@ -21,14 +21,18 @@ on : (t : tie.After-known-told Inv-loop μ-loop) →
     let part = t .before .step .given .0 .0 in
     InstrumentsTried (a .file .now) (a .at) (a .count) (l .loop .done + 1) (part .next) (l .loop .samples + part .samples)
 on t =
-    let l = t .before .before .before .before .before in
-    counted-on _ _ _ (l .loop .inv) (t .before .before .before .before .loop-test .taken) (record { below = λ i. omega (arith, l .before .shared-slice-known .given i) })
+    let t₄ = t .before .before .before .before in
+    let l = t₄ .before in
+    counted-on _ _ _ (l .loop .inv) (t₄ .loop-test .taken) (record { below = λ i. omega (arith, l .before .shared-slice-known .given i) })
     (sym (t .before .step .given .1) ∙ t .before .before .before .read-instrument .ensures)
 
 returns : tie.Need-returns Inv-loop μ-loop
 returns c =
-    let l = c .before .before .before .before .before in
-    sym (ap (countStep _) (instruments-out _ _ _ (l .loop .inv .reached) (c .before .before .before .before .loop-test .taken) (c .before .before .before .read-instrument .ensures) (c .before .enum-told .given .1) (c .fault-of-instrument .ensures)))
+    let c₄ = c .before .before .before .before in
+    let l = c₄ .before in
+    sym (ap (countStep _)
+    (instruments-out _ _ _ (l .loop .inv .reached) (c₄ .loop-test .taken) (c .before .before .before .read-instrument .ensures)
+    (c .before .enum-told .given .1) (c .fault-of-instrument .ensures)))
 
 pub count-instruments-spec : {M : Type 1} → statement M
 count-instruments-spec =

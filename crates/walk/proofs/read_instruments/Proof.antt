@@ -25,13 +25,19 @@ on : (u : tie.After-form-of Inv-loop μ-loop) →
 on u =
     let t = u .before in
     let l = t .before .before .before .before .before in
-    instruments-on _ _ _ (l .loop .inv) (t .before .before .before .before .loop-test .taken) (record { below = λ i. omega (arith, l .before .shared-slice-known .given i) })
+    instruments-on _ _ _ (l .loop .inv) (t .before .before .before .before .loop-test .taken)
+    (record { below = λ i. omega (arith, l .before .shared-slice-known .given i) })
     (u .form-of .result) (sym (t .before .step .given .1) ∙ t .before .before .before .read-instrument .ensures) (u .form-of .ensures)
 
 returns : tie.Need-returns Inv-loop μ-loop
 returns c =
-    let l = c .before .before .before .before .before in
-    (sym (ap (instrumentsStep _ _) (instruments-out _ _ _ (l .loop .inv .reached) (c .before .before .before .before .loop-test .taken) (c .before .before .before .read-instrument .ensures) (c .before .enum-told .given .1) (c .fault-of-instrument .ensures))), omega arith)
+    let c₄ = c .before .before .before .before in
+    let l = c₄ .before in (
+      sym (ap (instrumentsStep _ _)
+          (instruments-out _ _ _ (l .loop .inv .reached) (c₄ .loop-test .taken) (c .before .before .before .read-instrument .ensures)
+          (c .before .enum-told .given .1) (c .fault-of-instrument .ensures))),
+      omega arith,
+    )
 
 pub read-instruments-spec : {M : Type 1} → statement M
 read-instruments-spec =
@@ -45,7 +51,10 @@ read-instruments-spec =
     (search needs)
     (search needs)
     returns
-    (λ c κs. (sym (c .before .step .given .1) ∙ c .before .before .before .read-instrument .ensures, c .before .before .before .before .before .before .before .pre .1 .0))
+    (λ c κs. (
+      sym (c .before .step .given .1) ∙ c .before .before .before .read-instrument .ensures,
+      c .before .before .before .before .before .before .before .pre .1 .0,
+    ))
     (λ c. omega (arith, instruments-short _ _ _ (on (c .before))))
     (search needs)
     (omega arith)

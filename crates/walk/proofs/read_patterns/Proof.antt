@@ -1,4 +1,5 @@
--- `walk::read_patterns` meets its contract. The loop's invariant: so many patterns are read, their pressed forms are measured, and they are marked. Assumes nothing.
+-- `walk::read_patterns` meets its contract. The loop's invariant: so many patterns are read, their pressed forms are measured, and they are marked.
+-- Assumes nothing.
 use Prim.Native.Nat.{_+_, _-_}
 use mathlib.Core.Path.{_≡_, sym, _∙_}
 use native.Mathlib.Omega.{arith}
@@ -10,7 +11,8 @@ use Rattle.walk.proofs.read_patterns.Statement.{statement}
 use Rattle.walk.proofs.read_patterns.Tie as tie
 
 abbrev Inv-loop : tie.InvT-loop
-Inv-loop file at channels count marks₀ place₀ pressed₀ done₀ marks place pressed done = (length marks ≡ 8) × PatternsRead file at channels count done place pressed marks
+Inv-loop file at channels count marks₀ place₀ pressed₀ done₀ marks place pressed done =
+    (length marks ≡ 8) × PatternsRead file at channels count done place pressed marks
 
 abbrev μ-loop : tie.MeasureT-loop
 μ-loop file at channels count marks₀ place₀ pressed₀ done₀ marks place pressed done = count - done
@@ -21,11 +23,13 @@ on : (p : tie.After-put-mark Inv-loop μ-loop) →
     let l = t .before .before .before .before .before in
     let a = l .before .before .args in
     let part = t .before .step .given .0 .0 in
-    PatternsRead (a .file .now) (a .at) (a .channels) (a .count) (l .loop .done + 1) (part .next) (l .loop .pressed + (9 + part .shortest)) (p .put-mark .last .0)
+    PatternsRead (a .file .now) (a .at) (a .channels) (a .count) (l .loop .done + 1) (part .next) (l .loop .pressed + (9 + part .shortest))
+    (p .put-mark .last .0)
 on p =
     let t = p .before .before .before in
     let l = t .before .before .before .before .before in
-    patterns-on _ _ _ _ (l .loop .inv .1) (t .before .before .before .before .loop-test .taken) (record { below = λ i. omega (arith, l .before .shared-slice-known .given i) }) (l .before .before .pre .1 .1 .0 .0)
+    patterns-on _ _ _ _ (l .loop .inv .1) (t .before .before .before .before .loop-test .taken)
+    (record { below = λ i. omega (arith, l .before .shared-slice-known .given i) }) (l .before .before .pre .1 .1 .0 .0)
     (sym (t .before .step .given .1) ∙ t .before .before .before .read-pattern .ensures) (p .before .mark-of .ensures) (p .put-mark .ensures)
 
 put-mark-requires : tie.Need-put-mark-requires Inv-loop μ-loop
@@ -36,7 +40,11 @@ put-mark-requires c κs =
     (l .loop .inv .0, (omega (arith, l .before .before .pre), omega (arith, c .mark-of .ensures, mark-small (part .shortest) (part .same))))
 
 returns : tie.Need-returns Inv-loop μ-loop
-returns c = patterns-out _ _ _ _ (c .before .before .before .before .before .loop .inv .1) (c .before .before .before .before .loop-test .taken) (c .before .before .before .read-pattern .ensures) (c .before .enum-told .given .1) (c .fault-of-pattern .ensures)
+returns c =
+    let c₄ = c .before .before .before .before in
+    let l = c₄ .before .loop in
+    patterns-out _ _ _ _ (l .inv .1) (c₄ .loop-test .taken) (c .before .before .before .read-pattern .ensures) (c .before .enum-told .given .1)
+    (c .fault-of-pattern .ensures)
 
 loop-again : tie.Need-loop-again Inv-loop μ-loop
 loop-again c = (c .before .put-mark .ensures .size ∙ c .before .before .before .before .before .before .before .before .before .loop .inv .0, on (c .before))

@@ -14,12 +14,16 @@ abbrev μ-loop : tie.MeasureT-loop
 μ-loop file at channels count place₀ done₀ place done = count - done
 
 returns : tie.Need-returns Inv-loop μ-loop
-returns c = tried-out _ _ _ _ (c .before .before .before .before .loop .inv) (c .before .before .before .loop-test .taken) (c .before .before .scan-pattern .ensures) (c .enum-told .given .1)
+returns c =
+    tried-out _ _ _ _ (c .before .before .before .before .loop .inv) (c .before .before .before .loop-test .taken) (c .before .before .scan-pattern .ensures)
+    (c .enum-told .given .1)
 
 loop-again : tie.Need-loop-again Inv-loop μ-loop
 loop-again c =
-    let l = c .before .before .before .before .before in
-    tried-on _ _ _ _ (l .loop .inv) (c .before .before .before .before .loop-test .taken) (record { below = λ i. omega (arith, l .before .shared-slice-known .given i) }) (l .before .before .pre .1 .1 .0)
+    let c₄ = c .before .before .before .before in
+    let l = c₄ .before in
+    tried-on _ _ _ _ (l .loop .inv) (c₄ .loop-test .taken) (record { below = λ i. omega (arith, l .before .shared-slice-known .given i) })
+    (l .before .before .pre .1 .1 .0)
     (sym (c .before .step .given .1) ∙ c .before .before .before .scan-pattern .ensures)
 
 pub scan-patterns-spec : {M : Type 1} → statement M

@@ -11,7 +11,8 @@ use Rattle.steps.specs.Step.{headerStep}
 use Rattle.steps.specs.declared.header.HeaderStep.the-variants as header
 use Rattle.steps.proofs.HeaderLaws.{header-refused}
 use Rattle.walk.specs.File.{runPressed}
-use Rattle.walk.proofs.FileLaws.{walk-refuses, header-most, run-refused, header-out, HeaderTold, header-told, patterns-out, PatternsRead, patterns-read, PatternsTold, patterns-told, instruments-out, walk-accepted, walk-marked}
+use Rattle.walk.proofs.FileLaws.{walk-refuses, header-most, run-refused, header-out, HeaderTold, header-told, patterns-out, PatternsRead, patterns-read}
+use Rattle.walk.proofs.FileLaws.{PatternsTold, patterns-told, instruments-out, walk-accepted, walk-marked}
 use borrow.Author.Needs.{needs}
 use Rattle.walk.proofs.walk.Statement.{statement}
 use Rattle.walk.proofs.walk.Tie as tie
@@ -21,28 +22,36 @@ plain t = record { below = λ i. omega (arith, t .before .before .before .before
 
 -- The header was read, and then the patterns
 headed : (t : tie.After-known-told) →
-    let file = t .before .before .before .before .before .args .file .now in header.Read (t .before .step .given .0 .0) ≡ headerStep (readWhole (headerFormat (kindAt file)) file)
+    let file = t .before .before .before .before .before .args .file .now in
+    header.Read (t .before .step .given .0 .0) ≡ headerStep (readWhole (headerFormat (kindAt file)) file)
 headed t = sym (t .before .step .given .1) ∙ t .before .before .before .begin .ensures
 
 told : (t : tie.After-known-told) → HeaderTold (t .before .before .before .before .before .args .file .now) (headed t)
 told t = header-told _ (headed t) (plain t)
 
 patterned : (u : tie.After-known-told2) →
-    let t = u .before .before .before .before .before in PatternsRead (t .before .before .before .before .before .args .file .now) (headed t) (u .before .first .given .0 .0)
-patterned u = patterns-read _ (headed (u .before .before .before .before .before)) (sym (u .before .first .given .1) ∙ u .before .before .before .read-patterns .ensures .0)
+    let t = u .before .before .before .before .before in
+    PatternsRead (t .before .before .before .before .before .args .file .now) (headed t) (u .before .first .given .0 .0)
+patterned u =
+    let u₅ = u .before .before .before .before .before in
+    patterns-read _ (headed u₅) (sym (u .before .first .given .1) ∙ u .before .before .before .read-patterns .ensures .0)
 
 ended : (u : tie.After-known-told2) →
-    let t = u .before .before .before .before .before in PatternsTold (t .before .before .before .before .before .args .file .now) (headed t) (patterned u .ended)
+    let t = u .before .before .before .before .before in
+    PatternsTold (t .before .before .before .before .before .args .file .now) (headed t) (patterned u .ended)
 ended u = let t = u .before .before .before .before .before in patterns-told _ (headed t) (patterned u .ended) (plain t)
 
 returns-2 : tie.Need-returns-2
 returns-2 c =
-    walk-refuses _ _ _ (patterns-out _ (headed (c .before .before .before .before .before)) (run-refused _ _ _ (c .before .before .before .read-patterns .ensures .0) (c .before .enum-told2 .given .1) (c .fault-of-run .ensures)))
+    let c₅ = c .before .before .before .before .before in
+    walk-refuses _ _ _ (patterns-out _ (headed c₅)
+    (run-refused _ _ _ (c .before .before .before .read-patterns .ensures .0) (c .before .enum-told2 .given .1) (c .fault-of-run .ensures)))
 
 returns-3 : tie.Need-returns-3
 returns-3 c =
     let u = c .before .before .before .before in
-    walk-refuses _ _ _ (instruments-out _ (headed (u .before .before .before .before .before)) (patterned u .ended) (run-refused _ _ _ (c .before .before .before .read-instruments .ensures .0) (c .before .enum-told3 .given .1) (c .fault-of-run2 .ensures)))
+    walk-refuses _ _ _ (instruments-out _ (headed (u .before .before .before .before .before)) (patterned u .ended)
+    (run-refused _ _ _ (c .before .before .before .read-instruments .ensures .0) (c .before .enum-told3 .given .1) (c .fault-of-run2 .ensures)))
 
 -- How long its parts are at most: the header, the patterns and the instruments
 header-size : (c : tie.After-least-header) → c .least-header .result + 60 ≤ 65872
@@ -78,7 +87,8 @@ walk-spec =
     (search needs)
     (search needs)
     (search needs)
-    (λ c. walk-refuses _ _ _ (header-out _ (header-refused _ (c .before .before .before .begin .ensures) (c .before .enum-told .given .1) (c .fault-of-header .ensures))))
+    (λ c. walk-refuses _ _ _
+    (header-out _ (header-refused _ (c .before .before .before .begin .ensures) (c .before .enum-told .given .1) (c .fault-of-header .ensures))))
     (λ c κs. let t = told (c .before) in (t .start, (t .small, ((t .low, t .high), (t .many, c .before .before .before .before .before .before .pre)))))
     (search needs)
     (search needs)
@@ -93,5 +103,6 @@ walk-spec =
     (λ c κs. c .word .ensures .small)
     (λ c. omega (arith, header-size c))
     (λ c. omega (arith, header-size (c .before), patterns-size (c .before .before .before .before .before .before .before)))
-    (λ c. let v = c .before .before .before .before in omega (arith, header-size (c .before .before), patterns-size (v .before .before .before .before), instruments-size v))
+    (λ c. let v = c .before .before .before .before in
+    omega (arith, header-size (c .before .before), patterns-size (v .before .before .before .before), instruments-size v))
     returns-4)

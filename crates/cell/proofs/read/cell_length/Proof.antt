@@ -32,4 +32,5 @@ returns c = length-by _ _ _ (c .before .bits-by .ensures) (c .fields-from .ensur
 pub cell-length-spec : {M : Type 1} → statement M
 cell-length-spec =
     tie.close
-    (tie.spec (λ c κs. search needs) (λ c κs. search needs) (λ c. omega (arith, few (c .before .bits-by .result))) (λ c. omega (arith, few (c .before .bits-by .result))) returns)
+    (tie.spec (λ c κs. search needs) (λ c κs. search needs) (λ c. omega (arith, few (c .before .bits-by .result)))
+    (λ c. omega (arith, few (c .before .bits-by .result))) returns)

@@ -12,7 +12,10 @@ use Rattle.cell.proofs.read.take_cell.Tie as tie
 
 -- All five lie inside
 inside : (c : tie.After-first-field) → Inside 5 (c .first-field .result) (length (now (c .before .before .before .args .stored)))
-inside c = let a = c .before .before .before .args in first-inside (a .place) (getD (now (a .stored)) (a .place) 0) _ (c .first-field .ensures) (c .before .before .before .pre)
+inside c =
+    let c₃ = c .before .before .before in
+    let a = c₃ .args in
+    first-inside (a .place) (getD (now (a .stored)) (a .place) 0) _ (c .first-field .ensures) (c₃ .pre)
 
 shared-slice-read-first-field : tie.Need-shared-slice-read-first-field
 shared-slice-read-first-field c = let a = c .before .before .args in omega (arith, length-some (getD (now (a .stored)) (a .place) 0))
@@ -36,23 +39,52 @@ field-at-requires : tie.Need-field-at-requires
 field-at-requires c κs = field-inside (inside (c .before .before .before .before))
 
 field-at-requires-2 : tie.Need-field-at-requires-2
-field-at-requires-2 c κs = field-inside (next-inside (inside (c .before .before .before .before .before)) (c .before .before .before .before .next-field .ensures))
+field-at-requires-2 c κs =
+    let c₄ = c .before .before .before .before in
+    let c₅ = c₄ .before in
+    field-inside (next-inside (inside c₅) (c₄ .next-field .ensures))
 
 field-at-requires-3 : tie.Need-field-at-requires-3
-field-at-requires-3 c κs = field-inside (next-inside (next-inside (inside (c .before .before .before .before .before .before)) (c .before .before .before .before .before .next-field .ensures)) (c .before .before .before .before .next-field2 .ensures))
+field-at-requires-3 c κs =
+    let c₄ = c .before .before .before .before in
+    let c₅ = c₄ .before in
+    let c₆ = c₅ .before in
+    field-inside (next-inside (next-inside (inside c₆) (c₅ .next-field .ensures)) (c₄ .next-field2 .ensures))
 
 field-at-requires-4 : tie.Need-field-at-requires-4
-field-at-requires-4 c κs = field-inside (next-inside (next-inside (next-inside (inside (c .before .before .before .before .before .before .before)) (c .before .before .before .before .before .before .next-field .ensures)) (c .before .before .before .before .before .next-field2 .ensures)) (c .before .before .before .before .next-field3 .ensures))
+field-at-requires-4 c κs =
+    let c₄ = c .before .before .before .before in
+    let c₅ = c₄ .before in
+    let c₆ = c₅ .before in
+    let c₇ = c₆ .before in
+    field-inside (next-inside (next-inside (next-inside (inside c₇) (c₆ .next-field .ensures)) (c₅ .next-field2 .ensures)) (c₄ .next-field3 .ensures))
 
 field-at-requires-5 : tie.Need-field-at-requires-5
-field-at-requires-5 c κs = field-inside (next-inside (next-inside (next-inside (next-inside (inside (c .before .before .before .before .before .before .before .before)) (c .before .before .before .before .before .before .before .next-field .ensures)) (c .before .before .before .before .before .before .next-field2 .ensures)) (c .before .before .before .before .before .next-field3 .ensures)) (c .before .before .before .before .next-field4 .ensures))
+field-at-requires-5 c κs =
+    let c₄ = c .before .before .before .before in
+    let c₅ = c₄ .before in
+    let c₆ = c₅ .before in
+    let c₇ = c₆ .before in
+    let c₈ = c₇ .before in
+    field-inside (next-inside
+    (next-inside (next-inside (next-inside (inside c₈) (c₇ .next-field .ensures)) (c₆ .next-field2 .ensures)) (c₅ .next-field3 .ensures))
+    (c₄ .next-field4 .ensures))
 
 returns : tie.Need-returns
 returns c =
-    let d = c .before .before .before .before .before in
+    let c₄ = c .before .before .before .before in
+    let d = c₄ .before in
     let a = d .before .before .before .before .before .before .before .args in
-    rw (c .before .before .before .before .field-at .ensures, c .before .before .before .field-at2 .ensures, c .before .before .field-at3 .ensures, c .before .field-at4 .ensures, c .field-at5 .ensures)
-    (sym (ap cellOf (cell-fields (a .place) (now (a .stored)) (d .before .before .before .before .first-field .ensures) (d .before .before .before .next-field .ensures) (d .before .before .next-field2 .ensures) (d .before .next-field3 .ensures) (d .next-field4 .ensures))))
+    rw (
+      c₄ .field-at .ensures,
+      c .before .before .before .field-at2 .ensures,
+      c .before .before .field-at3 .ensures,
+      c .before .field-at4 .ensures,
+      c .field-at5 .ensures,
+    )
+    (sym (ap cellOf (cell-fields (a .place) (now (a .stored)) (d .before .before .before .before .first-field .ensures)
+    (d .before .before .before .next-field .ensures) (d .before .before .next-field2 .ensures) (d .before .next-field3 .ensures)
+    (d .next-field4 .ensures))))
 
 pub take-cell-spec : {M : Type 1} → statement M
 take-cell-spec =

@@ -40,14 +40,25 @@ field-over-requires-4 c κs = search needs
 field-over-requires-5 : tie.Need-field-over-requires-5
 field-over-requires-5 c κs =
     let d = c .before .before .before .before in
-    fifth-over (d .before .before .before .before .first-field .ensures) (d .before .before .before .next-field .ensures) (d .before .before .next-field2 .ensures) (d .before .next-field3 .ensures) (d .next-field4 .ensures) (d .before .before .before .before .before .before .before .pre)
+    fifth-over (d .before .before .before .before .first-field .ensures) (d .before .before .before .next-field .ensures)
+    (d .before .before .next-field2 .ensures) (d .before .next-field3 .ensures) (d .next-field4 .ensures)
+    (d .before .before .before .before .before .before .before .pre)
 
 returns : tie.Need-returns
 returns c =
-    let d = c .before .before .before .before .before in
+    let c₄ = c .before .before .before .before in
+    let d = c₄ .before in
     let a = d .before .before .before .before .before .before .before .args in
-    rw (c .before .before .before .before .field-over .ensures, c .before .before .before .field-over2 .ensures, c .before .before .field-over3 .ensures, c .before .field-over4 .ensures, c .field-over5 .ensures)
-    (sym (ap cellOf (cell-fields (a .place) (now (a .stored)) (d .before .before .before .before .first-field .ensures) (d .before .before .before .next-field .ensures) (d .before .before .next-field2 .ensures) (d .before .next-field3 .ensures) (d .next-field4 .ensures))))
+    rw (
+      c₄ .field-over .ensures,
+      c .before .before .before .field-over2 .ensures,
+      c .before .before .field-over3 .ensures,
+      c .before .field-over4 .ensures,
+      c .field-over5 .ensures,
+    )
+    (sym (ap cellOf (cell-fields (a .place) (now (a .stored)) (d .before .before .before .before .first-field .ensures)
+    (d .before .before .before .next-field .ensures) (d .before .before .next-field2 .ensures) (d .before .next-field3 .ensures)
+    (d .next-field4 .ensures))))
 
 pub take-over-spec : {M : Type 1} → statement M
 take-over-spec =

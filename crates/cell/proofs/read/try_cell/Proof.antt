@@ -34,9 +34,10 @@ add-t6 c = search needs
 
 returns-3 : tie.Need-returns-3
 returns-3 c =
-    let a = c .before .before .before .before .before .args in
+    let c₅ = c .before .before .before .before .before in
+    let a = c₅ .args in
     rw (c .before .cell-length .ensures)
-    (sym (ap (placeStep (a .place)) (read-got-at (a .place) (now (a .stored)) (omega (arith, c .before .cell-length .ensures, c .before .before .before .before .before .pre)))))
+    (sym (ap (placeStep (a .place)) (read-got-at (a .place) (now (a .stored)) (omega (arith, c .before .cell-length .ensures, c₅ .pre)))))
 
 pub try-cell-spec : {M : Type 1} → statement M
 try-cell-spec =

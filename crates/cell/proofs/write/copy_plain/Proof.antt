@@ -15,7 +15,8 @@ returns : tie.Need-returns
 returns c =
     let s = c .before .before .before .before .before in
     let out = s .args .out .now in
-    sets-eq (bytesAt (s .args .place) (s .args .cells .now)) out 0 (s .pre .1) ∙ ap (λ (l : List ℕ). inFront l out) (sym (five-at (s .args .place) (s .args .cells .now)))
+    sets-eq (bytesAt (s .args .place) (s .args .cells .now)) out 0 (s .pre .1)
+    ∙ ap (λ (l : List ℕ). inFront l out) (sym (five-at (s .args .place) (s .args .cells .now)))
 
 pub copy-plain-spec : {M : Type 1} → statement M
 copy-plain-spec =

@@ -10,8 +10,10 @@ use Rattle.cell.proofs.write.put.Tie as tie
 
 returns : tie.Need-returns
 returns c =
-    let a = c .before .args in
-    (omega (arith, bit-none (a .field) (c .if1 .taken)), sym (ap (lay (a .out .now) (a .place)) (kept-none (a .field) (c .if1 .taken)) ∙ lay-none (a .out .now) (a .place)))
+    let a = c .before .args in (
+      omega (arith, bit-none (a .field) (c .if1 .taken)),
+      sym (ap (lay (a .out .now) (a .place)) (kept-none (a .field) (c .if1 .taken)) ∙ lay-none (a .out .now) (a .place)),
+    )
 
 slice-write-out : tie.Need-slice-write-out
 slice-write-out c = omega (arith, bit-some (c .before .args .field) (c .if1 .left))

@@ -6,4 +6,5 @@ use Rattle.cell.proofs.write.put_over.Statement.{statement}
 use Rattle.cell.proofs.write.put_over.Tie as tie
 
 pub put-over-spec : {M : Type 1} → statement M
-put-over-spec = tie.close (tie.spec (λ c. search needs) (λ c κs. search needs) (λ c. search needs) (λ c. search needs) (λ c. (omega arith, (omega arith, refl))))
+put-over-spec =
+    tie.close (tie.spec (λ c. search needs) (λ c κs. search needs) (λ c. search needs) (λ c. search needs) (λ c. (omega arith, (omega arith, refl))))

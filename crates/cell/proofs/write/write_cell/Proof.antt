@@ -22,11 +22,13 @@ room : (c : tie.After-lead-of) → (let a = c .before .before .before .args in l
 room c = let s = c .before .before .before in rw (five-at (s .args .place) (s .args .cells .now)) at (s .pre .1)
 
 -- A plain one is as it stands
-plain : (c : tie.Then1) → (let a = c .before .before .before .before .before .before .args in writeCell (bytesAt (a .place) (a .cells .now)) ≡ bytesAt (a .place) (a .cells .now))
+plain : (c : tie.Then1)
+    → (let a = c .before .before .before .before .before .before .args in writeCell (bytesAt (a .place) (a .cells .now)) ≡ bytesAt (a .place) (a .cells .now))
 plain c =
     let of = c .before .before .before in
     let a = of .before .before .before .args in
-    count-plain (bytesAt (a .place) (a .cells .now)) (sym (lead-plain _ _ _ _ _ (of .lead-of .result) (lead of)) ∙ sym (c .before .goes-plain .ensures) ∙ c .if1 .taken)
+    count-plain (bytesAt (a .place) (a .cells .now))
+    (sym (lead-plain _ _ _ _ _ (of .lead-of .result) (lead of)) ∙ sym (c .before .goes-plain .ensures) ∙ c .if1 .taken)
 
 returns : tie.Need-returns
 returns c =
@@ -39,12 +41,14 @@ returns c =
 marked : (c : tie.Else1) → (let a = c .before .before .before .before .before .before .args in let cell = bytesAt (a .place) (a .cells .now) in
     (plainBy (getD cell 0 0) (length (kepts cell)) ≡ false) × (1 + length (kepts cell) ≤ length (a .out .now)))
 marked c =
-    let a = c .before .before .before .before .before .before .args in
-    let mark = sym (lead-plain _ _ _ _ _ (c .before .before .before .lead-of .result) (lead (c .before .before .before))) ∙ sym (c .before .goes-plain .ensures) ∙ c .if1 .left in
-    (mark, omega (arith, written-marked (bytesAt (a .place) (a .cells .now)) mark, room (c .before .before .before)))
+    let c₃ = c .before .before .before in
+    let a = c₃ .before .before .before .args in
+    let mark = sym (lead-plain _ _ _ _ _ (c₃ .lead-of .result) (lead c₃)) ∙ sym (c .before .goes-plain .ensures) ∙ c .if1 .left in
+    (mark, omega (arith, written-marked (bytesAt (a .place) (a .cells .now)) mark, room c₃))
 
 bits : (c : tie.Else1) → (let a = c .before .before .before .before .before .before .args in let s = a .cells .now in
-    1 + (bit (getD s (a .place) 0) + (bit (getD s (a .place + 1) 0) + (bit (getD s (a .place + 2) 0) + (bit (getD s (a .place + 3) 0) + bit (getD s (a .place + 4) 0)))))
+    1 + (bit (getD s (a .place) 0)
+    + (bit (getD s (a .place + 1) 0) + (bit (getD s (a .place + 2) 0) + (bit (getD s (a .place + 3) 0) + bit (getD s (a .place + 4) 0)))))
     ≤ length (set (a .out .now) 0 (c .before .before .before .lead-of .result)))
 bits c =
     let a = c .before .before .before .before .before .before .args in
@@ -97,7 +101,8 @@ returns-2 c =
 pub write-cell-spec : {M : Type 1} → statement M
 write-cell-spec =
     tie.close
-    (tie.spec (λ c κs. search needs) (λ c. search needs) (λ c κs. search needs) (λ c κs. (omega arith, omega (arith, ap length (plain (c .before)), room (c .before .before .before .before)))) (λ c. search needs) returns
+    (tie.spec (λ c κs. search needs) (λ c. search needs) (λ c κs. search needs)
+    (λ c κs. (omega arith, omega (arith, ap length (plain (c .before)), room (c .before .before .before .before)))) (λ c. search needs) returns
     (λ c. omega (arith, marked c .1))
     (λ c. search needs) (λ c κs. omega (arith, bits (first c)))
     (λ c. search needs) (λ c. search needs) (λ c κs. omega (arith, bits (second c)))

@@ -17,7 +17,8 @@ lead : (c : tie.After-lead-of) → (let a = c .before .before .before .args in c
 lead c = let a = c .before .before .before .args in c .lead-of .ensures ∙ ap (λ (l : List ℕ). 128 + marks l) (five-at (a .place) (a .cells .now))
 
 -- The lead byte stands where a byte stood
-long : (c : tie.After-first-place) → (let of = c .before .before .before in let out = of .before .before .before .args .out .now in length (set out 0 (of .lead-of .result)) ≡ length out)
+long : (c : tie.After-first-place)
+    → (let of = c .before .before .before in let out = of .before .before .before .args .out .now in length (set out 0 (of .lead-of .result)) ≡ length out)
 long c = let of = c .before .before .before in length-set (of .before .before .before .args .out .now) 0 (of .lead-of .result)
 
 -- From one call of `put_over` back to the one before, and from the first to its place
@@ -47,7 +48,8 @@ returns c =
     let of = place .before .before .before in
     let s = of .before .before .before in
     let six = s .pre .1 in
-    let s₀ = over-first (s .args .out .now) _ _ _ _ _ _ _ (lead of) (place .first-place .ensures .0 ∙ ap (λ (t : Bool). cond t 0 1) (place .before .goes-plain .ensures ∙ lead-plain _ _ _ _ _ _ (lead of))) six in
+    let s₀ = over-first (s .args .out .now) _ _ _ _ _ _ _ (lead of)
+    (place .first-place .ensures .0 ∙ ap (λ (t : Bool). cond t 0 1) (place .before .goes-plain .ensures ∙ lead-plain _ _ _ _ _ _ (lead of))) six in
     let s₁ = over-more _ _ s₀ (omega arith) six (p₁ .put-over .ensures) in
     let s₂ = over-more _ _ s₁ (omega arith) six (p₂ .put-over2 .ensures) in
     let s₃ = over-more _ _ s₂ (omega arith) six (p₃ .put-over3 .ensures) in

@@ -24,8 +24,9 @@ same-length c = search needs
 
 returns-2 : tie.Need-returns-2
 returns-2 c =
-    let a = c .before .before .before .before .before .before .args in
-    let within = loaders-tell .code-limited (a .width) (a .values .now) (length (a .bytes .now)) .within (omega (arith, c .before .before .before .before .if1 .left)) in
+    let c₄ = c .before .before .before .before in
+    let a = c₄ .before .before .args in
+    let within = loaders-tell .code-limited (a .width) (a .values .now) (length (a .bytes .now)) .within (omega (arith, c₄ .if1 .left)) in
     rw within (c .before .before .code .ensures)
 
 pub code-spec : {M : Type 1} → statement M

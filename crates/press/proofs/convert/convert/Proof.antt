@@ -16,7 +16,9 @@ use Rattle.press.proofs.convert.convert.Tie as tie
 plain : (t : tie.After-known-told) → Bytes (t .before .before .before .before .before .before .before .args .file .now)
 plain t = record { below = λ i. omega (arith, t .before .before .before .before .before .before .shared-slice-known .given i) }
 
-accepted : (t : tie.After-known-told) → walked.Accepted (t .before .step .given .0 .0) ≡ walkStep (kindBy (t .before .before .before .before .before .before .before .args .to)) (readFile (t .before .before .before .before .before .before .before .args .file .now))
+accepted : (t : tie.After-known-told) →
+    let a = t .before .before .before .before .before .before .before .args in
+    walked.Accepted (t .before .step .given .0 .0) ≡ walkStep (kindBy (a .to)) (readFile (a .file .now))
 accepted t = sym (t .before .step .given .1) ∙ t .before .before .before .walk .ensures .0
 
 returns-2 : tie.Need-returns-2
@@ -28,10 +30,13 @@ returns-3 c = let t = c .before .before in convert-short _ _ _ (accepted t) (pla
 write-module-requires : tie.Need-write-module-requires
 write-module-requires c κs =
     let t = c .before .before .before .before in
-    (accepted-told _ _ (t .before .before .before .before .before .before .before .args .out .now) (accepted t) _ (t .before .before .before .walk .ensures .1), omega (arith, accepted-size _ _ (t .before .before .before .before .before .before .before .args .out .now) (accepted t) (plain t) false))
+    let out = t .before .before .before .before .before .before .before .args .out .now in
+    (accepted-told _ _ out (accepted t) _ (t .before .before .before .walk .ensures .1), omega (arith, accepted-size _ _ out (accepted t) (plain t) false))
 
 returns-4 : tie.Need-returns-4
-returns-4 c = let t = c .before .before .before .before .before .before .before in convert-done _ _ _ (accepted t) (plain t) (omega arith) (omega arith) (omega arith) (c .before .before .write-module .ensures)
+returns-4 c =
+    let t = c .before .before .before .before .before .before .before in
+    convert-done _ _ _ (accepted t) (plain t) (omega arith) (omega arith) (omega arith) (c .before .before .write-module .ensures)
 
 pub convert-spec : {M : Type 1} → statement M
 convert-spec =

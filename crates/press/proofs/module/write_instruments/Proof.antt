@@ -4,7 +4,8 @@ use native.Mathlib.Omega.{arith}
 use lib.ListN.{length-drop}
 use Rattle.xm.specs.ModuleKind.{kindBy}
 use Rattle.xm.proofs.Lay.{part-all}
-use Rattle.press.proofs.RowLaws.{InstrumentsLeft, instruments-none, instrument-inside, instrument-room, instrument-never, instruments-more, instruments-done}
+use Rattle.press.proofs.RowLaws.{InstrumentsLeft, instruments-none, instrument-inside, instrument-room, instrument-never, instruments-more}
+use Rattle.press.proofs.RowLaws.{instruments-done}
 use borrow.Author.Needs.{needs}
 use Rattle.press.proofs.module.write_instruments.Statement.{statement}
 use Rattle.press.proofs.module.write_instruments.Tie as tie
@@ -31,7 +32,9 @@ same-length : tie.Need-same-length Inv-loop μ-loop
 same-length c = c .before .before .before .before .loop .inv .writes .laid .kept
 
 returns : tie.Need-returns Inv-loop μ-loop
-returns c = instrument-never _ _ _ _ _ (c .before .before .before .before .loop .inv) (c .before .before .before .loop-test .taken) (c .before .before .read-instrument .ensures) (c .enum-told .given .1)
+returns c =
+    instrument-never _ _ _ _ _ (c .before .before .before .before .loop .inv) (c .before .before .before .loop-test .taken)
+    (c .before .before .read-instrument .ensures) (c .enum-told .given .1)
 
 sub-write-instrument : tie.Need-sub-write-instrument Inv-loop μ-loop
 sub-write-instrument c = omega (arith, c .before .before .before .before .before .loop .inv .writes .laid .room)
@@ -44,11 +47,20 @@ part-write-instrument-end c = omega (arith, c .before .before .before .before .b
 
 write-instrument-requires : tie.Need-write-instrument-requires Inv-loop μ-loop
 write-instrument-requires c κs =
-    let is = sym (c .before .before .step .given .1) ∙ c .before .before .before .before .read-instrument .ensures in
-    (is, (c .before .before .before .before .before .before .before .before .before .pre .0, rw (part-all, length-drop) (omega (arith, instrument-room _ _ _ _ _ (c .before .before .before .before .before .before .loop .inv) (c .before .before .before .before .before .loop-test .taken)))))
+    let c₄ = c .before .before .before .before in
+    let c₅ = c₄ .before in
+    let l = c₅ .before .loop in
+    let c₉ = c₅ .before .before .before .before in
+    let is = sym (c .before .before .step .given .1) ∙ c₄ .read-instrument .ensures in
+    (is, (c₉ .pre .0, rw (part-all, length-drop) (omega (arith, instrument-room _ _ _ _ _ (l .inv) (c₅ .loop-test .taken)))))
 
 add-written : tie.Need-add-written Inv-loop μ-loop
-add-written c = let inv = c .before .before .before .before .before .before .before .before .before .loop .inv in omega (arith, instrument-room _ _ _ _ _ inv (c .before .before .before .before .before .before .before .before .loop-test .taken), c .before .before .write-instrument .ensures .0, inv .writes .laid .kept, c .before .before .before .before .before .before .before .before .before .before .before .before .good)
+add-written c =
+    let c₈ = c .before .before .before .before .before .before .before .before in
+    let l = c₈ .before .loop in
+    let c₁₂ = c₈ .before .before .before .before in
+    let inv = l .inv in
+    omega (arith, instrument-room _ _ _ _ _ inv (c₈ .loop-test .taken), c .before .before .write-instrument .ensures .0, inv .writes .laid .kept, c₁₂ .good)
 
 sub-left : tie.Need-sub-left Inv-loop μ-loop
 sub-left c = omega arith
@@ -58,8 +70,13 @@ loop-less c = omega arith
 
 loop-again : tie.Need-loop-again Inv-loop μ-loop
 loop-again c =
-    let is = sym (c .before .before .before .before .before .step .given .1) ∙ c .before .before .before .before .before .before .before .read-instrument .ensures in
-    instruments-more _ _ _ _ _ (c .before .before .before .before .before .before .before .before .before .loop .inv) (c .before .before .before .before .before .before .before .before .loop-test .taken) is (c .before .before .write-instrument .ensures .0) (c .before .before .write-instrument .ensures .1)
+    let c₅ = c .before .before .before .before .before in
+    let c₇ = c₅ .before .before in
+    let c₈ = c₇ .before in
+    let l = c₈ .before .loop in
+    let is = sym (c₅ .step .given .1) ∙ c₇ .read-instrument .ensures in
+    instruments-more _ _ _ _ _ (l .inv) (c₈ .loop-test .taken) is (c .before .before .write-instrument .ensures .0)
+    (c .before .before .write-instrument .ensures .1)
 
 same-length-2 : tie.Need-same-length-2 Inv-loop μ-loop
 same-length-2 c = c .before .loop .inv .writes .laid .kept

@@ -34,29 +34,52 @@ part-write-pattern-end c = omega (arith, c .before .before .loop .inv .writes .l
 write-pattern-requires : tie.Need-write-pattern-requires Inv-loop μ-loop
 write-pattern-requires c κs =
     let l = c .before .before .before .loop in
-    let room = pattern-room _ _ _ _ _ _ (l .inv) (c .before .before .loop-test .taken) in
-    (c .before .before .before .before .before .before .pre .0, (pattern-told _ _ _ _ _ _ (l .inv) (c .before .before .loop-test .taken) (omega (arith, c .before .mark-at .ensures)), rw (part-all, length-drop) (omega arith)))
+    let c₆ = c .before .before .before .before .before .before in
+    let room = pattern-room _ _ _ _ _ _ (l .inv) (c .before .before .loop-test .taken) in (
+      c₆ .pre .0,
+      (
+        pattern-told _ _ _ _ _ _ (l .inv) (c .before .before .loop-test .taken) (omega (arith, c .before .mark-at .ensures)),
+        rw (part-all, length-drop) (omega arith),
+      ),
+    )
 
 add-to : tie.Need-add-to Inv-loop μ-loop
-add-to c = omega (arith, pattern-room _ _ _ _ _ _ (c .before .before .before .before .before .before .loop .inv) (c .before .before .before .before .before .loop-test .taken), c .before .before .write-pattern .ensures .0, c .before .before .before .before .before .before .loop .inv .writes .laid .kept, c .before .before .before .before .before .before .before .before .before .good)
+add-to c =
+    let c₅ = c .before .before .before .before .before in
+    let l = c₅ .before .loop in
+    let c₉ = c₅ .before .before .before .before in
+    omega (arith, pattern-room _ _ _ _ _ _ (l .inv) (c₅ .loop-test .taken), c .before .before .write-pattern .ensures .0, l .inv .writes .laid .kept, c₉ .good)
 
 long-requires : tie.Need-long-requires Inv-loop μ-loop
 long-requires c κs =
-    let a = c .before .before .before .before .before .before .before .before .before .args in
-    omega (arith, head-inside (a .file .now) (c .before .before .before .before .before .before .loop .place) (a .channels) _ refl refl refl (pattern-told _ _ _ _ _ _ (c .before .before .before .before .before .before .loop .inv) (c .before .before .before .before .before .loop-test .taken) refl))
+    let c₅ = c .before .before .before .before .before in
+    let l = c₅ .before .loop in
+    let a = c₅ .before .before .before .before .args in
+    omega (arith, head-inside (a .file .now) (l .place) (a .channels) _ refl refl refl (pattern-told _ _ _ _ _ _ (l .inv) (c₅ .loop-test .taken) refl))
 
 word-requires : tie.Need-word-requires Inv-loop μ-loop
 word-requires c κs =
-    let a = c .before .before .before .before .before .before .before .before .before .before .args in
-    omega (arith, head-inside (a .file .now) (c .before .before .before .before .before .before .before .loop .place) (a .channels) _ refl refl refl (pattern-told _ _ _ _ _ _ (c .before .before .before .before .before .before .before .loop .inv) (c .before .before .before .before .before .before .loop-test .taken) refl))
+    let c₆ = c .before .before .before .before .before .before in
+    let l = c₆ .before .loop in
+    let a = c₆ .before .before .before .before .args in
+    omega (arith, head-inside (a .file .now) (l .place) (a .channels) _ refl refl refl (pattern-told _ _ _ _ _ _ (l .inv) (c₆ .loop-test .taken) refl))
 
 add-place : tie.Need-add-place Inv-loop μ-loop
 add-place c = omega (arith, c .before .long .ensures .small, c .word .ensures .small)
 
 add-place-2 : tie.Need-add-place-2 Inv-loop μ-loop
 add-place-2 c =
-    let a = c .before .before .before .before .before .before .before .before .before .before .before .args in
-    omega (arith, pattern-inside (a .file .now) (c .before .before .before .before .before .before .before .before .loop .place) (a .channels) _ (pattern-told _ _ _ _ _ _ (c .before .before .before .before .before .before .before .before .loop .inv) (c .before .before .before .before .before .before .before .loop-test .taken) refl), c .before .long .ensures .value, c .word .ensures .value, c .before .before .before .before .before .before .before .before .before .before .before .good)
+    let c₇ = c .before .before .before .before .before .before .before in
+    let l = c₇ .before .loop in
+    let c₁₁ = c₇ .before .before .before .before in
+    let a = c₁₁ .args in
+    omega (
+      arith,
+      pattern-inside (a .file .now) (l .place) (a .channels) _ (pattern-told _ _ _ _ _ _ (l .inv) (c₇ .loop-test .taken) refl),
+      c .before .long .ensures .value,
+      c .word .ensures .value,
+      c₁₁ .good,
+    )
 
 add-done : tie.Need-add-done Inv-loop μ-loop
 add-done c = search needs
@@ -65,7 +88,12 @@ loop-less : tie.Need-loop-less Inv-loop μ-loop
 loop-less c = omega arith
 
 loop-again : tie.Need-loop-again Inv-loop μ-loop
-loop-again c = patterns-more _ _ _ _ _ _ (c .before .before .before .before .before .before .before .before .loop .inv) (c .before .before .before .before .before .before .before .loop-test .taken) (ap₂ _+_ (c .before .long .ensures .value) (c .word .ensures .value)) (c .before .before .before .before .write-pattern .ensures .0) (c .before .before .before .before .write-pattern .ensures .1)
+loop-again c =
+    let c₄ = c .before .before .before .before in
+    let c₇ = c₄ .before .before .before in
+    let l = c₇ .before .loop in
+    patterns-more _ _ _ _ _ _ (l .inv) (c₇ .loop-test .taken) (ap₂ _+_ (c .before .long .ensures .value) (c .word .ensures .value))
+    (c₄ .write-pattern .ensures .0) (c₄ .write-pattern .ensures .1)
 
 same-length : tie.Need-same-length Inv-loop μ-loop
 same-length c = c .before .loop .inv .writes .laid .kept

@@ -7,7 +7,8 @@ use Rattle.xm.specs.Format.{joined}
 use Rattle.xm.specs.Cell.{writeCell}
 use Rattle.xm.specs.Row.{cellsIn}
 use Rattle.xm.proofs.Lay.{part-all, laid-last}
-use Rattle.shortest.proofs.Read.{Rewriting, rewriting-none, rewriting-stored, rewriting-lent, rewriting-here, rewriting-room, rewriting-over, empty-room, rewriting-empty}
+use Rattle.shortest.proofs.Read.{Rewriting, rewriting-none, rewriting-stored, rewriting-lent, rewriting-here, rewriting-room, rewriting-over}
+use Rattle.shortest.proofs.Read.{empty-room, rewriting-empty}
 use Rattle.shortest.proofs.stored.press_cells.Statement.{statement}
 use Rattle.shortest.proofs.stored.press_cells.Tie as tie
 
@@ -22,7 +23,9 @@ abbrev turn : tie.After-cell-end Inv-loop μ-loop → tie.At-loop Inv-loop μ-lo
 turn c = c .before .before .before .before
 
 add-to : tie.Need-add-to Inv-loop μ-loop
-add-to c = let t = c .before .before .before in omega (arith, empty-room (t .loop .inv) (omega arith) (c .if1 .taken), t .loop .inv .writing .kept, t .before .before .before .good)
+add-to c =
+    let t = c .before .before .before in
+    omega (arith, empty-room (t .loop .inv) (omega arith) (c .if1 .taken), t .loop .inv .writing .kept, t .before .before .before .good)
 
 add-place : tie.Need-add-place Inv-loop μ-loop
 add-place c = let t = c .before .before .before in omega (arith, rewriting-here (t .loop .inv) (omega arith), t .before .before .before .good)
@@ -41,7 +44,13 @@ rewrite-over-requires c κs =
 add-to-2 : tie.Need-add-to-2 Inv-loop μ-loop
 add-to-2 c =
     let t = turn (c .before .before .before .before) in
-    omega (arith, c .before .before .rewrite-over .ensures .0, rewriting-room (t .loop .inv) (omega arith) refl, t .loop .inv .writing .kept, t .before .before .before .good)
+    omega (
+      arith,
+      c .before .before .rewrite-over .ensures .0,
+      rewriting-room (t .loop .inv) (omega arith) refl,
+      t .loop .inv .writing .kept,
+      t .before .before .before .good,
+    )
 
 loop-again-2 : tie.Need-loop-again-2 Inv-loop μ-loop
 loop-again-2 c =
@@ -68,7 +77,8 @@ returns c =
 pub press-cells-spec : {M : Type 1} → statement M
 press-cells-spec =
     tie.close
-    (tie.spec Inv-loop μ-loop (λ c. rewriting-none _ _ 0 _ (omega arith) (c .before .before .pre .0) (c .before .before .pre .1)) (λ c. rewriting-here (c .before .before .loop .inv) (omega arith))
+    (tie.spec Inv-loop μ-loop (λ c. rewriting-none _ _ 0 _ (omega arith) (c .before .before .pre .0) (c .before .before .pre .1))
+    (λ c. rewriting-here (c .before .before .loop .inv) (omega arith))
     (λ c. omega arith) (λ c. empty-room (c .before .before .before .loop .inv) (omega arith) (c .if1 .taken)) add-to add-place (λ c. omega arith)
     (λ c. rewriting-empty (c .before .before .before .loop .inv) (omega arith) (c .if1 .taken)) cell-end-requires
     (λ c. omega arith) (λ c. omega arith) (λ c. omega arith) rewrite-over-requires add-to-2 (λ c. omega arith) loop-again-2

@@ -12,7 +12,8 @@ use Rattle.shortest.proofs.stored.press_each.Statement.{statement}
 use Rattle.shortest.proofs.stored.press_each.Tie as tie
 
 abbrev Inv-loop : tie.InvT-loop
-Inv-loop stored from count out₀ place₀ to₀ unwritten₀ out place to unwritten = Rewriting stored out₀ (joined writeCell (cellsIn count (drop from stored))) out place to unwritten
+Inv-loop stored from count out₀ place₀ to₀ unwritten₀ out place to unwritten =
+    Rewriting stored out₀ (joined writeCell (cellsIn count (drop from stored))) out place to unwritten
 
 abbrev μ-loop : tie.MeasureT-loop
 μ-loop stored from count out₀ place₀ to₀ unwritten₀ out place to unwritten = unwritten
@@ -27,12 +28,19 @@ add-place c = omega (arith, c .cell-length .ensures, rewriting-fits (turn c .loo
 rewrite-cell-requires : tie.Need-rewrite-cell-requires Inv-loop μ-loop
 rewrite-cell-requires c κs =
     let l = turn (c .before) .loop in
-    rw (part-all (l .to) (l .out)) (rewriting-fits (l .inv) (omega arith), omega (arith, rewriting-room (l .inv) (omega arith) refl, length-drop (l .to) (l .out)))
+    rw (part-all (l .to) (l .out))
+    (rewriting-fits (l .inv) (omega arith), omega (arith, rewriting-room (l .inv) (omega arith) refl, length-drop (l .to) (l .out)))
 
 add-to : tie.Need-add-to Inv-loop μ-loop
 add-to c =
     let t = turn (c .before .before .before .before) in
-    omega (arith, c .before .before .rewrite-cell .ensures .0, rewriting-room (t .loop .inv) (omega arith) refl, t .loop .inv .writing .kept, t .before .before .before .good)
+    omega (
+      arith,
+      c .before .before .rewrite-cell .ensures .0,
+      rewriting-room (t .loop .inv) (omega arith) refl,
+      t .loop .inv .writing .kept,
+      t .before .before .before .good,
+    )
 
 loop-again : tie.Need-loop-again Inv-loop μ-loop
 loop-again c =
@@ -44,6 +52,7 @@ loop-again c =
 pub press-each-spec : {M : Type 1} → statement M
 press-each-spec =
     tie.close
-    (tie.spec Inv-loop μ-loop (λ c. let p = c .before .before .pre in rewriting-none _ _ _ _ (p .0) (p .1 .0) (p .1 .1)) (λ c. rewriting-here (c .before .before .loop .inv) (omega arith)) (λ c κs. tt)
+    (tie.spec Inv-loop μ-loop (λ c. let p = c .before .before .pre in rewriting-none _ _ _ _ (p .0) (p .1 .0) (p .1 .1))
+    (λ c. rewriting-here (c .before .before .loop .inv) (omega arith)) (λ c κs. tt)
     add-place (λ c. omega arith) (λ c. omega arith) (λ c. omega arith) rewrite-cell-requires add-to
     (λ c. omega arith) (λ c. omega arith) loop-again (λ c. c .before .loop .inv .writing .kept) (λ c. rewriting-done (c .before .loop .inv) (omega arith)))

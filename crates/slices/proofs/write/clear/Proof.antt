@@ -35,7 +35,9 @@ same-length : tie.Need-same-length Inv-loop μ-loop
 same-length c = c .before .loop .inv .1 .kept
 
 returns : tie.Need-returns Inv-loop μ-loop
-returns c = let none : c .before .before .args .count - c .before .loop .done ≡ 0 = omega arith in laid-done (c .before .loop .inv .1) (ap (λ (n : ℕ). replicate {A = ℕ} n 0) none)
+returns c =
+    let none : c .before .before .args .count - c .before .loop .done ≡ 0 = omega arith in
+    laid-done (c .before .loop .inv .1) (ap (λ (n : ℕ). replicate {A = ℕ} n 0) none)
 
 pub clear-spec : {M : Type 1} → statement M
 clear-spec =

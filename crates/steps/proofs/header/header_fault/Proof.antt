@@ -35,7 +35,8 @@ returns-5 : tie.Need-returns-5
 returns-5 c =
     let part = part-of _ (c .before .before .before .before .before .before .header-part .ensures) in
     let l = least (c .before .before .before .before) in
-    sym (fault-among 4 4 _ (omega arith) (refl, (refl, (refl, (refl, tt)))) (λ h. not-all-hold _ (sym (c .before .counts-pass .ensures) ∙ not-true _ (c .if5 .taken)) (omega arith)))
+    sym (fault-among 4 4 _ (omega arith) (refl, (refl, (refl, (refl, tt))))
+    (λ h. not-all-hold _ (sym (c .before .counts-pass .ensures) ∙ not-true _ (c .if5 .taken)) (omega arith)))
 
 returns-6 : tie.Need-returns-6
 returns-6 c =

@@ -21,15 +21,21 @@ own t =
     t .header-fault .ensures ∙ ap (λ (kind : ModuleKind). firstFault (headerTests kind 0 file)) (own-kind file (t .before .is-stripped .ensures))
 
 returns : tie.Need-returns
-returns c = let file = c .before .before .before .before .args .file .now in sym (ap headerStep (header-faulty (kindAt file) file (own (c .before)) (c .if1 .taken)))
+returns c =
+    let file = c .before .before .before .before .args .file .now in
+    sym (ap headerStep (header-faulty (kindAt file) file (own (c .before)) (c .if1 .taken)))
 
 header-part-requires : tie.Need-header-part-requires
-header-part-requires c κs = let file = c .before .before .before .before .args .file .now in header-holds (kindAt file) file (own (c .before)) (c .if1 .left) .0
+header-part-requires c κs =
+    let file = c .before .before .before .before .args .file .now in
+    header-holds (kindAt file) file (own (c .before)) (c .if1 .left) .0
 
 returns-2 : tie.Need-returns-2
 returns-2 c =
-    let file = c .before .before .before .before .before .args .file .now in
-    ap Read (c .header-part .ensures) ∙ sym (ap headerStep (header-read (kindAt file) file (header-holds (kindAt file) file (own (c .before .before)) (c .before .if1 .left))))
+    let a = c .before .before .before .before .before .args in
+    let file = a .file .now in
+    ap Read (c .header-part .ensures)
+    ∙ sym (ap headerStep (header-read (kindAt file) file (header-holds (kindAt file) file (own (c .before .before)) (c .before .if1 .left))))
 
 pub read-header-spec : {M : Type 1} → statement M
 read-header-spec = tie.close (tie.spec (search needs) (search needs) returns header-part-requires returns-2)

@@ -12,12 +12,14 @@ use Rattle.steps.proofs.instrument.fault_by.Tie as tie
 returns : tie.Need-returns
 returns c =
     let a = c .before .before .before .args in
-    c .stripped-fault .ensures ∙ ap (λ (is : Bool). firstFault (instrumentTests (kindBy is) (a .at) (drop (a .at) (a .file .now)))) (sym (c .before .if1 .taken))
+    c .stripped-fault .ensures
+    ∙ ap (λ (is : Bool). firstFault (instrumentTests (kindBy is) (a .at) (drop (a .at) (a .file .now)))) (sym (c .before .if1 .taken))
 
 returns-2 : tie.Need-returns-2
 returns-2 c =
     let a = c .before .before .before .args in
-    c .instrument-fault .ensures ∙ ap (λ (is : Bool). firstFault (instrumentTests (kindBy is) (a .at) (drop (a .at) (a .file .now)))) (sym (c .before .if1 .left))
+    c .instrument-fault .ensures
+    ∙ ap (λ (is : Bool). firstFault (instrumentTests (kindBy is) (a .at) (drop (a .at) (a .file .now)))) (sym (c .before .if1 .left))
 
 pub fault-by-spec : {M : Type 1} → statement M
 fault-by-spec = tie.close (tie.spec (search needs) returns (search needs) returns-2)

@@ -21,10 +21,12 @@ kind t = kindBy (t .is-stripped .result)
 
 own : (t : tie.After-is-stripped) →
     let a = t .before .before .args in
-    instrumentStep (a .at) (readInstrument (kind t) (a .at) (drop (a .at) (a .file .now))) ≡ instrumentStep (a .at) (readInstrument (kindAt (a .file .now)) (a .at) (drop (a .at) (a .file .now)))
+    instrumentStep (a .at) (readInstrument (kind t) (a .at) (drop (a .at) (a .file .now)))
+    ≡ instrumentStep (a .at) (readInstrument (kindAt (a .file .now)) (a .at) (drop (a .at) (a .file .now)))
 own t =
     let a = t .before .before .args in
-    ap (λ (k : ModuleKind). instrumentStep (a .at) (readInstrument k (a .at) (drop (a .at) (a .file .now)))) (own-kind (a .file .now) (t .is-stripped .ensures))
+    ap (λ (k : ModuleKind). instrumentStep (a .at) (readInstrument k (a .at) (drop (a .at) (a .file .now))))
+    (own-kind (a .file .now) (t .is-stripped .ensures))
 
 -- The tests in front hold, from where they have passed
 held : (t : tie.Else1) →

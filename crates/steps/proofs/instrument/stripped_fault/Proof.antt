@@ -14,7 +14,8 @@ use Rattle.steps.proofs.instrument.stripped_fault.Statement.{statement}
 use Rattle.steps.proofs.instrument.stripped_fault.Tie as tie
 
 -- The bytes from its place on; k as it is cut; and what k headers take
-left : (t : tie.After-shared-slice-known) → length (drop (t .before .args .at) (t .before .args .file .now)) ≡ length (t .before .args .file .now) - t .before .args .at
+left : (t : tie.After-shared-slice-known)
+    → length (drop (t .before .args .at) (t .before .args .file .now)) ≡ length (t .before .args .file .now) - t .before .args .at
 left t = length-drop (t .before .args .at) (t .before .args .file .now)
 
 counted : (t : tie.After-word-in) →
@@ -29,8 +30,9 @@ taken : (t : tie.After-long-in) →
     let fields = fieldsOf stripped (drop (a .at) (a .file .now)) in
     t .before .before .word-in .result * t .long-in .result ≡ countAt fields * headerSizeAt fields
 taken t =
-    let a = t .before .before .before .before .before .before .before .before .args in
-    ap₂ (λ (k H : ℕ). k * H) (counted (t .before .before)) (size-cut (drop (a .at) (a .file .now)) (t .before .before .before .before .before .long .ensures .value) (t .long-in .ensures))
+    let t₅ = t .before .before .before .before .before in
+    let a = t₅ .before .before .before .args in
+    ap₂ (λ (k H : ℕ). k * H) (counted (t .before .before)) (size-cut (drop (a .at) (a .file .now)) (t₅ .long .ensures .value) (t .long-in .ensures))
 
 most : (t : tie.After-long-in) → t .before .before .word-in .result * t .long-in .result ≤ 16 * t .long-in .result
 most t = mul-le-mul-right {n = 16} (t .long-in .result) (t .before .if4 .left)

@@ -20,7 +20,8 @@ there t =
     omega (arith, sized (t .before), t .before .before .pre .1 .1 .0, t .long .ensures .value, length-drop (a .at) (a .file .now))
 
 -- k as it is cut
-counted : (t : tie.After-word-in) → t .word-in .result ≡ countAt (fieldsOf stripped (drop (t .before .before .before .args .at) (t .before .before .before .args .file .now)))
+counted : (t : tie.After-word-in)
+    → t .word-in .result ≡ countAt (fieldsOf stripped (drop (t .before .before .before .args .at) (t .before .before .before .args .file .now)))
 counted t =
     let a = t .before .before .before .args in
     count-cut (drop (a .at) (a .file .now)) (t .before .long .ensures .value) (t .word-in .ensures)

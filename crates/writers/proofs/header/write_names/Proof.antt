@@ -14,23 +14,35 @@ use Rattle.writers.proofs.header.write_names.Statement.{statement}
 use Rattle.writers.proofs.header.write_names.Tie as tie
 
 cast-put-byte : tie.Need-cast-put-byte
-cast-put-byte c = omega (arith, c .mark-by .ensures, mark-low (kindBy (c .before .before .before .before .before .before .before .before .before .before .before .before .args .to)))
+cast-put-byte c =
+    let a = c .before .before .before .before .before .before .before .before .before .before .before .before .args in
+    omega (arith, c .mark-by .ensures, mark-low (kindBy (a .to)))
 
 put-word-requires : tie.Need-put-word-requires
-put-word-requires c κs = omega (arith, c .before .version-by .ensures, version-low (kindBy (c .before .before .before .before .before .before .before .before .before .before .before .before .before .before .before .before .before .before .before .before .before .before .args .to)))
+put-word-requires c κs =
+    let c₁₁ = c .before .before .before .before .before .before .before .before .before .before .before in
+    let a = c₁₁ .before .before .before .before .before .before .before .before .before .before .before .args in
+    omega (arith, c .before .version-by .ensures, version-low (kindBy (a .to)))
 
 returns : tie.Need-returns
 returns c =
-    let a = c .before .before .before .before .before .before .before .before .before .before .before .before .before .before .before .before .before .before .before .before .before .before .before .before .before .args in
+    let c₄ = c .before .before .before .before in
+    let c₇ = c₄ .before .before .before in
+    let c₁₁ = c₇ .before .before .before .before in
+    let c₁₃ = c₁₁ .before .before in
+    let c₁₆ = c₁₃ .before .before .before in
+    let c₂₁ = c₁₆ .before .before .before .before .before in
+    let a = c₂₁ .before .before .before .before .args in
     let file = a .file .now in
     let kind = kindBy (a .to) in
     let tracker = trackerBy (a .kept) file in
     let named = tracker-size (a .kept) file (omega arith) in
-    let first = laid-first (a .out .now) (namesOf kind tracker file) (idText kind) _ refl (omega (arith, names-size kind tracker file named (omega arith))) (sym (id-size kind)) (c .before .before .before .before .before .before .before .before .before .before .before .before .before .before .before .before .before .before .before .before .before .write-id .ensures) in
-    let second = laid-part first (part 17 20 file) _ {next = 37} refl refl (omega (arith, part-length 17 20 file (omega arith))) (c .before .before .before .before .before .before .before .before .before .before .before .before .before .before .before .before .copy .ensures) in
-    let third = laid-part second (byte (mark kind)) _ refl (ap (λ (n : ℕ). byte n) (c .before .before .before .before .before .before .before .before .before .before .before .before .before .mark-by .ensures)) refl (c .before .before .before .before .before .before .before .before .before .before .before .put-byte .ensures) in
-    let fourth = laid-part third tracker _ {next = 58} refl refl (omega (arith, named)) (c .before .before .before .before .before .before .before .write-tracker .ensures) in
-    laid-last fourth (sym (ap (λ (n : ℕ). word n) (c .before .before .before .before .version-by .ensures))) (c .before .before .put-word .ensures)
+    let first = laid-first (a .out .now) (namesOf kind tracker file) (idText kind) _ refl (omega (arith, names-size kind tracker file named (omega arith)))
+    (sym (id-size kind)) (c₂₁ .write-id .ensures) in
+    let second = laid-part first (part 17 20 file) _ {next = 37} refl refl (omega (arith, part-length 17 20 file (omega arith))) (c₁₆ .copy .ensures) in
+    let third = laid-part second (byte (mark kind)) _ refl (ap (λ (n : ℕ). byte n) (c₁₃ .mark-by .ensures)) refl (c₁₁ .put-byte .ensures) in
+    let fourth = laid-part third tracker _ {next = 58} refl refl (omega (arith, named)) (c₇ .write-tracker .ensures) in
+    laid-last fourth (sym (ap (λ (n : ℕ). word n) (c₄ .version-by .ensures))) (c .before .before .put-word .ensures)
 
 pub write-names-spec : {M : Type 1} → statement M
 write-names-spec =

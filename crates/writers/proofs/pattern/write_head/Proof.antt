@@ -52,10 +52,14 @@ same-length c = search needs
 
 returns : tie.Need-returns
 returns c =
-    let a = c .before .before .before .before .before .before .before .before .before .before .before .before .before .before .before .before .before .args in
-    let first = laid-first (a .out .now) (patternHead (a .rows) (a .size)) (long 9) _ refl (omega (arith, c .before .before .before .before .before .before .before .before .before .before .before .before .before .before .before .before .before .pre)) refl (c .before .before .before .before .before .before .before .before .before .before .before .before .before .before .put-long .ensures) in
-    let second = laid-part first (byte 0) _ refl refl refl (c .before .before .before .before .before .before .before .before .before .before .put-byte .ensures) in
-    let third = laid-part second (word (a .rows)) _ refl refl refl (c .before .before .before .before .before .before .put-word .ensures) in
+    let c₆ = c .before .before .before .before .before .before in
+    let c₁₀ = c₆ .before .before .before .before in
+    let c₁₄ = c₁₀ .before .before .before .before in
+    let c₁₇ = c₁₄ .before .before .before in
+    let a = c₁₇ .args in
+    let first = laid-first (a .out .now) (patternHead (a .rows) (a .size)) (long 9) _ refl (omega (arith, c₁₇ .pre)) refl (c₁₄ .put-long .ensures) in
+    let second = laid-part first (byte 0) _ refl refl refl (c₁₀ .put-byte .ensures) in
+    let third = laid-part second (word (a .rows)) _ refl refl refl (c₆ .put-word .ensures) in
     laid-last third refl (c .before .before .put-word2 .ensures)
 
 pub write-head-spec : {M : Type 1} → statement M
