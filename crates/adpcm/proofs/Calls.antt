@@ -11,21 +11,21 @@ use Rattle.xm.proofs.Answer.{refused-unchanged}
 use Rattle.samples.specs.Answers.{decodedNumbers}
 use Rattle.samples.specs.declared.Decoded.{Decoded}
 use Rattle.samples.proofs.Calls.{decode-cases}
-use Rattle.adpcm.proofs.Exits.{Decodes}
+use Rattle.adpcm.proofs.Exits.{AdpcmDecodes}
 
 module _ (count : ℕ) (bytes : List ℕ) (lent : List ℤ) where
   -- One answer, one memory
-  pub decode-one : {answer other : Decoded} {held kept : List ℤ} → Decodes count bytes lent answer held → Decodes count bytes lent other kept
+  pub decode-once : {answer other : Decoded} {held kept : List ℤ} → AdpcmDecodes count bytes lent answer held → AdpcmDecodes count bytes lent other kept
       → (answer ≡ other) × (held ≡ kept)
-  decode-one d e = (d .0 ∙ sym (e .0), d .1 ∙ sym (e .1))
+  decode-once d e = (d .0 ∙ sym (e .0), d .1 ∙ sym (e .1))
 
   -- The paper's numbers
-  pub decode-numbers : {answer : Decoded} {held : List ℤ} → Decodes count bytes lent answer held
+  pub decode-numbers : {answer : Decoded} {held : List ℤ} → AdpcmDecodes count bytes lent answer held
       → decodedNumbers answer ≡ adpcmNumbers count bytes (length lent)
   decode-numbers d = ap decodedNumbers (d .0) ∙ decode-cases (adpcmDecoding count bytes (length lent))
 
   -- A refusal leaves the memory as it was
-  pub decode-unchanged : {answer : Decoded} {held : List ℤ} → Decodes count bytes lent answer held → (accepts (decodedNumbers answer) → ⊥) → held ≡ lent
+  pub decode-unchanged : {answer : Decoded} {held : List ℤ} → AdpcmDecodes count bytes lent answer held → (accepts (decodedNumbers answer) → ⊥) → held ≡ lent
   decode-unchanged d refused =
       d .1 ∙ refused-unchanged (λ (values : List ℤ). values) (adpcmDecoding count bytes (length lent)) lent
       (λ a. refused (subst accepts (sym (decode-numbers d)) a))

@@ -16,14 +16,14 @@ use Rattle.samples.specs.declared.Decoded.{Decoded}
 use Rattle.samples.specs.declared.Decoded.the-variants as decodes
 
 -- An answer of `decode_adpcm`, and what the memory that it was lent holds afterwards
-abbrev pub Decodes : (count : ℕ) (bytes : List ℕ) (lent : List ℤ) (answer : Decoded) (held : List ℤ) → Type 0
-Decodes count bytes lent answer held = (answer ≡ decodeAnswer (adpcmDecoding count bytes (length lent))) × (held ≡ adpcmAfter count bytes lent)
+abbrev pub AdpcmDecodes : (count : ℕ) (bytes : List ℕ) (lent : List ℤ) (answer : Decoded) (held : List ℤ) → Type 0
+AdpcmDecodes count bytes lent answer held = (answer ≡ decodeAnswer (adpcmDecoding count bytes (length lent))) × (held ≡ adpcmAfter count bytes lent)
 
 module _ (count : ℕ) (bytes : List ℕ) (lent : List ℤ) where
   pub decode-refused : {refusal : Refusal} {fault : Fault} → fault ≡ faultOf refusal → adpcmDecoding count bytes (length lent) ≡ refuses refusal
-      → Decodes count bytes lent (decodes.Refused fault) lent
+      → AdpcmDecodes count bytes lent (decodes.Refused fault) lent
   decode-refused f e = rw (e, f) (refl, refl)
 
   pub decode-done : {held : List ℤ} → length bytes ≡ adpcmSize count → count ≤ length lent → held ≡ inFront (adpcmDecoded count bytes) lent
-      → Decodes count bytes lent (decodes.Values count) held
+      → AdpcmDecodes count bytes lent (decodes.Values count) held
   decode-done fit h m = rw (adpcm-given count bytes (length lent) fit h) (ap decodes.Values (sym (adpcm-length count bytes fit)), m)

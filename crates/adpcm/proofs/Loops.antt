@@ -14,7 +14,7 @@ use Rattle.xm.specs.Sample.{deltaTable, adpcmSize}
 use Rattle.xm.specs.Delta.{decoded, storedNumbers}
 use Rattle.xm.specs.Adpcm.{chosen, adpcmDecoded}
 use Rattle.xm.proofs.Delta.{valuesFrom, values-end}
-use Rattle.xm.proofs.Adpcm.{size-some, chosen-length, chosen-at, adpcm-length}
+use Rattle.xm.proofs.Adpcm.{adpcm-some, chosen-length, chosen-at, adpcm-length}
 use Rattle.xm.proofs.Lay.{Laid, laid-none, laid-done}
 use Rattle.samples.proofs.Loops.{decode-turn}
 
@@ -41,7 +41,7 @@ writing-start count bytes lent fit h =
 module _ {count : ℕ} {bytes : List ℕ} {lent values : List ℤ} {sum at i : ℕ} (w : Writing count bytes lent values sum at i) where
   -- a value is left: its byte, and the table, are there
   pub writing-inside : i < count → (at < length bytes) × (deltaTable ≤ length bytes)
-  writing-inside h = let n = w .fit ∙ size-some count (omega arith) in (omega (arith, w .low, w .place), omega arith)
+  writing-inside h = let n = w .fit ∙ adpcm-some count (omega arith) in (omega (arith, w .low, w .place), omega arith)
 
   -- the delta that the code reads is the chosen one: by the low half, and by the high half after it
   low-chosen : (index : ℕ) → i < count → index ≡ getD bytes at 0 % 16 → getD bytes index 0 ≡ getD (chosen count bytes) i 0

@@ -12,7 +12,7 @@ use lib.ListN.{length, getD, drop}
 use Rattle.xm.specs.Got.{got}
 use Rattle.xm.specs.Cell.{lengthBy, cellAt, readCell}
 use Rattle.cell.proofs.ReadLaws.{read-got-at, empty-length}
-use Rattle.ahead.specs.Ahead.{eightAt, byteIn, Empties, EmptyRun, behind, AheadOf}
+use Rattle.ahead.specs.Ahead.{eightAt, byteIn, Empties, EmptyRun, cellBehind, AheadOf}
 use Rattle.ahead.proofs.Lengths.{length-six}
 
 -- A number whose lowest binary digits are 0
@@ -199,7 +199,7 @@ module _ (s : List ℕ) (place word : ℕ) (small : (i : ℕ) → getD s i 0 ≤
       let p : place + k ≡ place + bits / 8 = omega arith in
       ap (λ (x : ℕ). place + bits / 8 + lengthBy x) (ap (λ (x : ℕ). word / 2 ^ x % 256) b ∙ byte-at s place word small e k h ∙ ap (λ (x : ℕ). getD s x 0) p)
 
-  pub ahead-run : (k bits : ℕ) → word % 256 ≡ 128 → Empties word k → bits ≡ 8 * k → AheadOf s place (behind word place k bits)
+  pub ahead-run : (k bits : ℕ) → word % 256 ≡ 128 → Empties word k → bits ≡ 8 * k → AheadOf s place (cellBehind word place k bits)
   ahead-run k bits l r b =
       let few = r .few in
       record {
@@ -211,7 +211,7 @@ module _ (s : List ℕ) (place word : ℕ) (small : (i : ℕ) → getD s i 0 ≤
         reach = omega (arith, length-six (word / 2 ^ bits % 256));
       }
 
-  pub ahead-one : (bits : ℕ) → (word % 256 ≡ 128 → ⊥) → bits ≡ 8 * lengthBy (word % 256) → AheadOf s place (behind word place 1 bits)
+  pub ahead-one : (bits : ℕ) → (word % 256 ≡ 128 → ⊥) → bits ≡ 8 * lengthBy (word % 256) → AheadOf s place (cellBehind word place 1 bits)
   ahead-one bits l b =
       let six = length-six (word % 256) in
       record {

@@ -38,8 +38,8 @@ unfoldable pub lengthsBy : (word : ℕ) → ℕ
 lengthsBy word = cond (ltb (word % 256) markedFrom) 0x5555555555555555 (cond (eqb (word / 16 % 2) 0) 0x5443433243323221 0x6554544354434332)
 
 -- The cell behind some bits of the word that stands at a place.
-abbrev pub behind : (word place cells bits : ℕ) → Ahead
-behind word place cells bits =
+abbrev pub cellBehind : (word place cells bits : ℕ) → Ahead
+cellBehind word place cells bits =
     record { cells = cells; last = place + bits / 8; next = place + bits / 8 + lengthBy (word / 2 ^ bits % 256) }
 
 -- From a place on: empty cells, or else one cell; and a last one behind.

@@ -5,7 +5,7 @@ ghost use mathlib.Core.Path.{_≡_};
 ghost use Prim.Native.Nat.{_+_, _*_, _/_, _%_, _≤_};
 ghost use lib.ListN.{length};
 ghost use Rattle.xm.specs.Cell.{lengthBy};
-ghost use Rattle.ahead.specs.Ahead.{eightAt, WordAt, Empties, AheadOf, behind, lengthsBy, blockSize, BlockOf, Follows, lengthsFrom};
+ghost use Rattle.ahead.specs.Ahead.{eightAt, WordAt, Empties, AheadOf, cellBehind, lengthsBy, blockSize, BlockOf, Follows, lengthsFrom};
 
 // Of cells from a place on: how many stand in front of the last one, where that stands, and what follows it.
 pub struct Ahead {
@@ -81,7 +81,7 @@ fn cell_bits(word: u64) -> u64
 fn ahead_by(word: u64, place: usize, cells: usize, bits: u64) -> Ahead
     requires { ⌜ place + 13 ≤ 18446744073709551615 ⌝ }
     requires { ⌜ bits ≤ 56 ⌝ }
-    ensures { λ r. ⌜ r ≡ behind word place cells bits ⌝ }
+    ensures { λ r. ⌜ r ≡ cellBehind word place cells bits ⌝ }
 {
     let last = place + (bits / 8) as usize;
     let length = cell_bits(word >> bits) / 8;

@@ -10,7 +10,7 @@ use Rattle.xm.specs.Asking.{Lies, asking, stretchOf}
 use Rattle.xm.proofs.Answer.{gives-passed, gives-same}
 use Rattle.xm.proofs.Accepted.{asks-exactly}
 use Rattle.refusal.specs.Fault.{faultOf}
-use Rattle.asking.specs.Ask.{askedOf, liesIn, Inside, stretchAsked, refusalAsked}
+use Rattle.asking.specs.Ask.{askedOf, liesIn, AskedInside, stretchAsked, refusalAsked}
 use Rattle.asking.specs.declared.Stretch.{Stretch}
 use Rattle.asking.specs.declared.Asked.{Asked}
 use Rattle.asking.specs.declared.Asked.the-variants as asked
@@ -30,18 +30,18 @@ ask-beyond file rows number row other h =
     asks-exactly file rows number row .1 (λ l. omega (arith, l .0)) ∙ sym (asks-exactly file rows number other .1 (λ l. omega (arith, l .0)))
 
 -- What is answered lies inside the file
-pub lies-inside : (file : List ℕ) {a : Asked} {s : Stretch} → Inside file a → a ≡ asked.Lies s → s .place + s .length ≤ length file
-lies-inside file h e = subst (Inside file) e h
+pub lies-inside : (file : List ℕ) {a : Asked} {s : Stretch} → AskedInside file a → a ≡ asked.Lies s → s .place + s .length ≤ length file
+lies-inside file h e = subst (AskedInside file) e h
 
-pub asked-inside : (file : List ℕ) (rows number : ℕ) (row : Lies) {a : Asked} → a ≡ askedOf (asking file rows number row) → Inside file a
+pub asked-inside : (file : List ℕ) (rows number : ℕ) (row : Lies) {a : Asked} → a ≡ askedOf (asking file rows number row) → AskedInside file a
 unfolding asking
 asked-inside file rows number row {a} e = go (asking file rows number row) refl e
   where
-    go : (answer : Answer Lies) → asking file rows number row ≡ answer → a ≡ askedOf answer → Inside file a
+    go : (answer : Answer Lies) → asking file rows number row ≡ answer → a ≡ askedOf answer → AskedInside file a
     go (gives lies) q e =
-        subst (Inside file) (sym e)
+        subst (AskedInside file) (sym e)
         (gives-passed _ _ _ q λ h d. subst (λ (l : Lies). l .place + l .size ≤ length file) (gives-same d) (omega (arith, h .1 .0, h .1 .1 .0)))
-    go (refuses r) q e = subst (Inside file) (sym e) tt
+    go (refuses r) q e = subst (AskedInside file) (sym e) tt
 
 -- as the very stretch, and as 0 or 16
 pub stretch-asked : (file : List ℕ) (answer : Answer Lies) {a : Asked} → a ≡ askedOf answer → stretchAsked file a ≡ stretchOf file answer

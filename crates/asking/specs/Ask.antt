@@ -24,9 +24,9 @@ abbrev pub liesIn : Stretch → Lies
 liesIn row = record { place = row .place; size = row .length }
 
 -- What an answer speaks of is inside the file; as its very stretch; and 0 or the refusal's number.
-abbrev pub Inside : (file : List ℕ) → Asked → Type 0
-Inside file (asked.Lies stretch) = stretch .place + stretch .length ≤ length file
-Inside file (asked.Refused fault) = Unit {0}
+abbrev pub AskedInside : (file : List ℕ) → Asked → Type 0
+AskedInside file (asked.Lies stretch) = stretch .place + stretch .length ≤ length file
+AskedInside file (asked.Refused fault) = Unit {0}
 
 abbrev pub stretchAsked : (file : List ℕ) → Asked → List ℕ
 stretchAsked file (asked.Lies stretch) = part (stretch .place) (stretch .length) file

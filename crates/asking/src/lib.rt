@@ -3,7 +3,7 @@ use refusal::Fault;
 ghost use mathlib.Core.Path.{_≡_};
 ghost use Rattle.xm.specs.Answer.{numberOf};
 ghost use Rattle.xm.specs.Asking.{asking, stretchOf, askingFlat};
-ghost use Rattle.asking.specs.Ask.{askedOf, liesIn, Inside, stretchAsked, refusalAsked};
+ghost use Rattle.asking.specs.Ask.{askedOf, liesIn, AskedInside, stretchAsked, refusalAsked};
 
 // Numbers to a sample's row in a table over flat numbers.
 pub const SAMPLE_STRIDE: usize = 7;
@@ -38,7 +38,7 @@ pub fn ask_row(file: &[u8], rows: usize, number: usize, row: Stretch) -> Asked
 
 // What was asked for, as the very stretch of the lent file; or an empty one.
 pub fn asked_stretch<'a>(file: &'a [u8], asked: Asked) -> &'a [u8]
-    requires { ⌜ Inside (now file) asked ⌝ }
+    requires { ⌜ AskedInside (now file) asked ⌝ }
     ensures { λ r. ⌜ now r ≡ stretchAsked (now (file .entry)) asked ⌝ }
 {
     let Asked::Lies(stretch) = asked else {

@@ -23,7 +23,7 @@ use Rattle.refusal.specs.Fault.{placeStep}
 use Rattle.refusal.proofs.Steps.{next-got}
 use Rattle.cell.specs.declared.read.Cell.{Cell}
 use Rattle.cell.specs.declared.read.Field.{Field}
-use Rattle.cell.specs.Read.{bitsBy, fieldsFrom, FirstField, NextField, cellOf, fieldsOf, keptCount}
+use Rattle.cell.specs.Read.{bitsBy, fieldsFrom, FirstField, NextField, cellOf, cellFields, keptCount}
 
 -- The five bytes at a place, one by one
 abbrev pub bytesAt : (place : ℕ) (s : List ℕ) → List ℕ
@@ -33,10 +33,10 @@ pub five-at : (place : ℕ) (s : List ℕ) → five (drop place s) ≡ bytesAt p
 five-at place s = rw (head-at place s 0, getD-drop place s 1 0, getD-drop place s 2 0, getD-drop place s 3 0, getD-drop place s 4 0)
 
 -- A cell's fields as a list
-pub fields-of : (s : List ℕ) {cell : Cell} → cell ≡ cellOf (cellAt s) → fieldsOf cell ≡ cellAt s
-fields-of s e = ap fieldsOf e ∙ five-same (cellAt s) (cell-length s)
+pub fields-of : (s : List ℕ) {cell : Cell} → cell ≡ cellOf (cellAt s) → cellFields cell ≡ cellAt s
+fields-of s e = ap cellFields e ∙ five-same (cellAt s) (cell-length s)
 
-pub kept-fields : (cell : Cell) → keptCount cell ≡ length (kepts (fieldsOf cell))
+pub kept-fields : (cell : Cell) → keptCount cell ≡ length (kepts (cellFields cell))
 kept-fields cell = sym (kepts-sum (cell .note) (cell .instrument) (cell .volume) (cell .effect) (cell .parameter))
 
 pub kept-of : (s : List ℕ) {cell : Cell} → cell ≡ cellOf (cellAt s) → keptCount cell ≡ length (kepts (cellAt s))
@@ -114,18 +114,18 @@ length-bits place lead = go (ltb lead 128) refl
     go false e = omega (arith, length-marked lead (ltb-false lead 128 e), ones-five lead)
 
 -- One field after the other: so many from one on stand in the first n bytes
-pub record Inside (count : ℕ) (field : Field) (n : ℕ) : Type 0 where
+pub record FieldInside (count : ℕ) (field : Field) (n : ℕ) : Type 0 where
   pub ends : field .place + onesIn count (field .bits) ≤ n
 
-pub first-inside : (place lead n : ℕ) {field : Field} → FirstField lead place field → place + lengthBy lead ≤ n → Inside 5 field n
+pub first-inside : (place lead n : ℕ) {field : Field} → FirstField lead place field → place + lengthBy lead ≤ n → FieldInside 5 field n
 first-inside place lead n f h = record { ends = rw (f .place, f .bits, length-bits) h }
 
 module _ {count : ℕ} {field : Field} {n : ℕ} where
-  pub next-inside : Inside (suc count) field n → {next : Field} → NextField field next → Inside count next n
+  pub next-inside : FieldInside (suc count) field n → {next : Field} → NextField field next → FieldInside count next n
   unfolding onesIn
   next-inside e g = record { ends = rw (g .place, g .bits) (omega (arith, e .ends)) }
 
-  pub field-inside : Inside (suc count) field n → field .place + field .bits % 2 ≤ n
+  pub field-inside : FieldInside (suc count) field n → field .place + field .bits % 2 ≤ n
   unfolding onesIn
   field-inside e = omega (arith, e .ends)
 

@@ -18,18 +18,18 @@ use Rattle.xm.proofs.Lay.{head-at}
 use Rattle.xm.proofs.Stored.{stored-some}
 
 -- A cell in front of what the rest is read as
-abbrev pub onto : (cell : List ℕ) (used : ℕ) → Got (List (List ℕ)) → Got (List (List ℕ))
-onto cell used (got cells n) = got (cell ∷ cells) (used + n)
-onto cell used (refused r) = refused r
+abbrev pub cellOnto : (cell : List ℕ) (used : ℕ) → Got (List (List ℕ)) → Got (List (List ℕ))
+cellOnto cell used (got cells n) = got (cell ∷ cells) (used + n)
+cellOnto cell used (refused r) = refused r
 
-onto-bind : (cell : List ℕ) (used : ℕ) (g : Got (List (List ℕ))) → (g >>= λ q. got (cell ∷ q .0) (used + q .1)) ≡ onto cell used g
+onto-bind : (cell : List ℕ) (used : ℕ) (g : Got (List (List ℕ))) → (g >>= λ q. got (cell ∷ q .0) (used + q .1)) ≡ cellOnto cell used g
 unfolding _>>=_
 onto-bind cell used (got cells n) = refl
 onto-bind cell used (refused r) = refl
 
 module _ (s : List ℕ) (place : ℕ) where
   pub row-more : (left : ℕ) → 0 < left → {cell : List ℕ} {used : ℕ} → readCell place (drop place s) ≡ got cell used
-      → readRow left place (drop place s) ≡ onto cell used (readRow (left - 1) (place + used) (drop (place + used) s))
+      → readRow left place (drop place s) ≡ cellOnto cell used (readRow (left - 1) (place + used) (drop (place + used) s))
   row-more zero some e = absurd (omega arith)
   row-more (suc left) some {cell} {used} e =
       let one : suc left - 1 ≡ left = omega arith in

@@ -38,8 +38,8 @@ cellOf fields = record {
   parameter = getD fields 4 0;
 }
 
-abbrev pub fieldsOf : Cell → List ℕ
-fieldsOf cell = cell .note ∷ cell .instrument ∷ cell .volume ∷ cell .effect ∷ cell .parameter ∷ []
+abbrev pub cellFields : Cell → List ℕ
+cellFields cell = cell .note ∷ cell .instrument ∷ cell .volume ∷ cell .effect ∷ cell .parameter ∷ []
 
 -- How many of them aren't 0.
 abbrev pub keptCount : Cell → ℕ

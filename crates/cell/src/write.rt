@@ -9,7 +9,7 @@ ghost use lib.ListN.{length, drop, set};
 ghost use Rattle.xm.specs.Answer.{inFront};
 ghost use Rattle.xm.specs.Lay.{lay};
 ghost use Rattle.xm.specs.Cell.{five, bit, kept, marks, writeCell};
-ghost use Rattle.cell.specs.Read.{fieldsOf};
+ghost use Rattle.cell.specs.Read.{cellFields};
 ghost use Rattle.cell.specs.Over.{overMost, Over};
 
 // The lead byte of a lent cell that is marked: a bit for each field that isn't 0.
@@ -41,7 +41,7 @@ pub fn put(field: u8, place: usize, out: &mut [u8]) -> usize
 // All fields of a cell that was read as they stand, at the front of out.
 pub fn put_plain(cell: Cell, out: &mut [u8])
     requires { ⌜ 5 ≤ length (now out) ⌝ }
-    ensures { λ _. ⌜ now (out .exit) ≡ inFront (fieldsOf cell) (now (out .entry)) ⌝ }
+    ensures { λ _. ⌜ now (out .exit) ≡ inFront (cellFields cell) (now (out .entry)) ⌝ }
 {
     out[0] = cell.note;
     out[1] = cell.instrument;

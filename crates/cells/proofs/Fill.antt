@@ -28,8 +28,8 @@ use Rattle.ahead.specs.Ahead.{EmptyRun, AheadOf}
 use Rattle.ahead.proofs.Run.{run-over}
 use Rattle.cells.specs.Unpacked.{firstFields}
 
-pub cells-length : (count : ℕ) (s : List ℕ) → length (flat (cellsIn count s)) ≡ count * 5
-cells-length count s = flat-length (cellsIn count s) (in-fives count s) ∙ ap (λ (n : ℕ). n * 5) (in-length count s)
+pub filled-length : (count : ℕ) (s : List ℕ) → length (flat (cellsIn count s)) ≡ count * 5
+filled-length count s = flat-length (cellsIn count s) (in-fives count s) ∙ ap (λ (n : ℕ). n * 5) (in-length count s)
 
 -- A loop that fills: `left` cells are still to come, from `at` on, were accepted, and go to `to`; `goal` is what all are to be
 pub record Filling (s goal lent out : List ℕ) (at to left : ℕ) : Type 0 where
@@ -45,7 +45,7 @@ filling-none s at count {out} i a h e = rw e (record {
   inside = i;
   fine = a;
   room = omega arith;
-  writes = laid-none out (flat (cellsIn count (drop at s))) (omega (arith, cells-length count (drop at s)));
+  writes = laid-none out (flat (cellsIn count (drop at s))) (omega (arith, filled-length count (drop at s)));
 })
 
 module _ {s goal lent : List ℕ} where
@@ -72,7 +72,7 @@ module _ {s goal lent : List ℕ} where
         record {
           inside = omega (arith, n, r .fits);
           fine = rw (n, o) (r .rest);
-          room = omega (arith, o, m .room, cells-length (left - 1) (drop next s));
+          room = omega (arith, o, m .room, filled-length (left - 1) (drop next s));
           writes = rw o m;
         }
 
@@ -152,7 +152,7 @@ module _ {s goal lent out : List ℕ} {at to left : ℕ} (f : Filling s goal len
       let rest : List ℕ = flat (cellsIn (left - k) (drop (at + k) s)) in
       let lw : length w ≡ k * 5 = length-replicate (k * 5) 0 in
       let lv : length v ≡ 40 - k * 5 = length-replicate (40 - k * 5) 0 in
-      let lr : length rest ≡ (left - k) * 5 = cells-length (left - k) (drop (at + k) s) in
+      let lr : length rest ≡ (left - k) * 5 = filled-length (left - k) (drop (at + k) s) in
       let new : List ℕ = putMid to (length out - to) out written in
       let y : List ℕ = take to out ++ inFront w (drop to out) in
       let m : Laid lent goal y p rest = laid-more (f .writes) w rest y p (past .cells) (ap (λ (x : ℕ). to + x) (sym lw)) refl in

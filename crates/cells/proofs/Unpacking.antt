@@ -25,7 +25,7 @@ use Rattle.refusal.proofs.Steps.{next-got}
 use Rattle.cells.specs.declared.Unpacked.{Unpacked}
 use Rattle.cells.specs.declared.Unpacked.the-variants.{Rows, Refused as RefusedUnpacked}
 use Rattle.cells.specs.Unpacked.{unpackedOf, unpackedNumbers}
-use Rattle.cells.proofs.Fill.{cells-length}
+use Rattle.cells.proofs.Fill.{filled-length}
 
 -- The tests for 16
 module _ (rows channels : ℕ) (stored : List ℕ) where
@@ -36,13 +36,13 @@ module _ (rows channels : ℕ) (stored : List ℕ) where
   range-fails e h = no-true (sym e ∙ all-pass (argumentTests rows channels) (h .0, (h .1 .0, tt)))
 
 -- What reading a stored pattern found
-pub record Found (channels rows : ℕ) (d : List ℕ) : Type 0 where
+pub record StoredFound (channels rows : ℕ) (d : List ℕ) : Type 0 where
   pub pattern : Pattern
   pub used : ℕ
   pub reads : readStored channels rows 0 d ≡ got pattern used
 
 pub found-of : (channels rows : ℕ) (d : List ℕ) {step : Step} {next : ℕ} → step ≡ placeStep 0 (readStored channels rows 0 d) → step ≡ Next next
-    → Found channels rows d
+    → StoredFound channels rows d
 found-of channels rows d e told = next-got 0 (readStored channels rows 0 d) (sym told ∙ e) λ p n q en. record { pattern = p; used = n; reads = q }
 
 -- With some data, the cells of the pattern are those in a row, and they were accepted
@@ -58,7 +58,7 @@ from-cells channels rows d p n some e =
     (record { cells = row-read (rows * channels) 0 d cells m ec .same; fine = got-accepted ec })
 
 -- Its rows, and what is to be filled: zeros, or the cells in a row; five bytes a cell
-module _ {channels rows : ℕ} {d : List ℕ} (f : Found channels rows d) where
+module _ {channels rows : ℕ} {d : List ℕ} (f : StoredFound channels rows d) where
   pub rows-found : f .pattern .rows ≡ rows
   rows-found = stored-rows channels rows 0 d (f .pattern) (f .used) (f .reads)
 
@@ -82,7 +82,7 @@ module _ {channels rows : ℕ} {d : List ℕ} (f : Found channels rows d) where
     where
       go : (n : ℕ) → length d ≡ n → length (cellBytes (f .pattern)) ≡ rows * channels * 5
       go zero e = ap length (bytes-none e) ∙ length-replicate (rows * channels * 5) 0
-      go (suc n) e = ap length (bytes-some (omega arith)) ∙ cells-length (rows * channels) d
+      go (suc n) e = ap length (bytes-some (omega arith)) ∙ filled-length (rows * channels) d
 
 -- An answer and the memory, from what unpacking comes to
 module _ (rows channels : ℕ) (stored lent : List ℕ) where
@@ -98,8 +98,8 @@ module _ (rows channels : ℕ) (stored lent : List ℕ) where
   answers-pattern e r m = (rw e (ap Rows r), rw e m)
 
   -- Two answers and memories that both meet the contract are the same
-  pub answers-fixed : (one other : Unpacked) (left kept : List ℕ) → Answers one left → Answers other kept → (one ≡ other) × (left ≡ kept)
-  answers-fixed one other left kept a b = (a .0 ∙ sym (b .0), a .1 ∙ sym (b .1))
+  pub unpack-once : (one other : Unpacked) (left kept : List ℕ) → Answers one left → Answers other kept → (one ≡ other) × (left ≡ kept)
+  unpack-once one other left kept a b = (a .0 ∙ sym (b .0), a .1 ∙ sym (b .1))
 
 -- A refusal leaves the memory as it was
 refused-kept : (answer : Answer Pattern) (lent : List ℕ) {fault : Fault} → RefusedUnpacked fault ≡ unpackedOf answer → after cellBytes answer lent ≡ lent

@@ -10,7 +10,7 @@ use Rattle.xm.specs.Number.{Bytes}
 use Rattle.xm.specs.Got.{Refusal}
 use Rattle.xm.specs.Answer.{Answer, gives, refuses, after}
 use Rattle.xm.specs.Stored.{Pattern, writeStored}
-use Rattle.xm.specs.Table.{Checked, checking, checkingInto, Tables, roomOf, tablesAfter}
+use Rattle.xm.specs.Table.{CheckReport, checking, checkingInto, Tables, roomOf, tablesAfter}
 use Rattle.xm.specs.Packing.{cellBytes, rowsRead, lengthAndRows, unpacking, packing}
 use Rattle.xm.specs.ModuleKind.{ModuleKind}
 use Rattle.xm.specs.Press.{pressedLength, pressing}
@@ -21,7 +21,7 @@ use Rattle.xm.specs.Demands.{LoaderTells}
 use Rattle.xm.proofs.Demands.{loaders-tell}
 use Rattle.periods.specs.Period.{Period, tuning, bothNumbers}
 use Rattle.periods.proofs.Calls as periods
-use Rattle.fiddlemarsh.specs.Promise.{Checks, Unpacks, Packs, Presses, Converts, Fills, Decodes, Codes, DecodesAdpcm, Tunes, Tells, TellsKept}
+use Rattle.fiddlemarsh.specs.Promise.{LoaderChecks, LoaderUnpacks, LoaderPacks, LoaderPresses, LoaderConverts, LoaderFills, LoaderDecodes, LoaderCodes, LoaderDecodesAdpcm, LoaderTunes, NumberTells, NumberTellsKept}
 
 -- At least 2^32 exactly when refused
 refused-exactly : {A : Type 0} (value : A → ℕ) (answer : Answer A) {number : ℕ} → LoaderTells value answer number
@@ -29,13 +29,13 @@ refused-exactly : {A : Type 0} (value : A → ℕ) (answer : Answer A) {number :
 refused-exactly value (gives a) t = (λ h. absurd (omega (arith, t .accepted a refl .1)), λ e. t .refused (e .0) (e .1) .0)
 refused-exactly value (refuses r) t = (λ h. (r, refl), λ e. t .refused r refl .0)
 
-tells : {A : Type 0} (value : A → ℕ) (answer : Answer A) {number other : ℕ} → number ≡ other → LoaderTells value answer other → Tells value answer number
+tells : {A : Type 0} (value : A → ℕ) (answer : Answer A) {number other : ℕ} → number ≡ other → LoaderTells value answer other → NumberTells value answer number
 tells value answer e t = rw e (record { loaded = t; refused-exactly = refused-exactly value answer t })
 
 -- and then the memory is as it was
 kept : {A M : Type 0} (value : A → ℕ) (memory : Answer A → M) (answer : Answer A) (lent : M) {number other : ℕ} {held : M}
     → ((r : Refusal) → memory (refuses r) ≡ lent)
-    → number ≡ other → held ≡ memory answer → LoaderTells value answer other → TellsKept value answer number lent held
+    → number ≡ other → held ≡ memory answer → LoaderTells value answer other → NumberTellsKept value answer number lent held
 kept value memory answer lent stays e m t =
     let told = tells value answer e t in
     record {
@@ -44,7 +44,7 @@ kept value memory answer lent stays e m t =
     }
 
 tells-kept : {A B : Type 0} (value : A → ℕ) (written : A → List B) (answer : Answer A) (lent : List B) {number other : ℕ} {held : List B} → number ≡ other
-    → held ≡ after written answer lent → LoaderTells value answer other → TellsKept value answer number lent held
+    → held ≡ after written answer lent → LoaderTells value answer other → NumberTellsKept value answer number lent held
 tells-kept value written answer lent = kept value (λ a. after written a lent) answer lent (λ r. refl)
 
 -- No second number and no second memory
@@ -54,121 +54,121 @@ once met e = (met .0 ∙ sym (e .0), met .1 ∙ sym (e .1))
 
 -- Check
 module _ (file : List ℕ) where
-  pub check-tells : {number : ℕ} → Checks file number → Bytes file → Tells Checked.end (checking file) number
-  check-tells met b = tells Checked.end (checking file) met (loaders-tell .check file b)
+  pub check-tells : {number : ℕ} → LoaderChecks file number → Bytes file → NumberTells CheckReport.end (checking file) number
+  check-tells met b = tells CheckReport.end (checking file) met (loaders-tell .check file b)
 
-  pub check-once : {number other : ℕ} → Checks file number → Checks file other → number ≡ other
+  pub check-once : {number other : ℕ} → LoaderChecks file number → LoaderChecks file other → number ≡ other
   check-once met e = met ∙ sym e
 
 -- Unpack
 module _ (rows channels : ℕ) (stored lent : List ℕ) where
-  pub unpack-tells : {number : ℕ} {held : List ℕ} → Unpacks rows channels stored lent number held → Bytes stored
-      → TellsKept rowsRead (unpacking rows channels stored (length lent)) number lent held
+  pub unpack-tells : {number : ℕ} {held : List ℕ} → LoaderUnpacks rows channels stored lent number held → Bytes stored
+      → NumberTellsKept rowsRead (unpacking rows channels stored (length lent)) number lent held
   unpack-tells met b =
       tells-kept rowsRead cellBytes (unpacking rows channels stored (length lent)) lent (met .0) (met .1)
       (loaders-tell .unpack rows channels stored (length lent) b)
 
-  pub unpack-once : {number other : ℕ} {held kept : List ℕ} → Unpacks rows channels stored lent number held → Unpacks rows channels stored lent other kept
+  pub unpack-once : {number other : ℕ} {held kept : List ℕ} → LoaderUnpacks rows channels stored lent number held → LoaderUnpacks rows channels stored lent other kept
       → (number ≡ other) × (held ≡ kept)
   unpack-once = once
 
 -- Pack
 module _ (rows channels : ℕ) (cells lent : List ℕ) where
-  pub pack-tells : {number : ℕ} {held : List ℕ} → Packs rows channels cells lent number held
-      → TellsKept lengthAndRows (packing rows channels cells (length lent)) number lent held
+  pub pack-tells : {number : ℕ} {held : List ℕ} → LoaderPacks rows channels cells lent number held
+      → NumberTellsKept lengthAndRows (packing rows channels cells (length lent)) number lent held
   pack-tells met =
       tells-kept lengthAndRows writeStored (packing rows channels cells (length lent)) lent (met .0) (met .1)
       (loaders-tell .pack rows channels cells (length lent))
 
   -- the length and the rows come back
-  pub pack-apart : {number : ℕ} {held : List ℕ} → Packs rows channels cells lent number held → (p : Pattern)
+  pub pack-apart : {number : ℕ} {held : List ℕ} → LoaderPacks rows channels cells lent number held → (p : Pattern)
       → packing rows channels cells (length lent) ≡ gives p
       → (number % 65536 ≡ length (writeStored p)) × (number / 65536 ≡ p .rows)
   pack-apart met p e = rw (met .0) (loaders-tell .pack-apart rows channels cells (length lent) p e)
 
-  pub pack-once : {number other : ℕ} {held kept : List ℕ} → Packs rows channels cells lent number held → Packs rows channels cells lent other kept
+  pub pack-once : {number other : ℕ} {held kept : List ℕ} → LoaderPacks rows channels cells lent number held → LoaderPacks rows channels cells lent other kept
       → (number ≡ other) × (held ≡ kept)
   pack-once = once
 
 -- Press
 module _ (file lent : List ℕ) where
-  pub press-tells : {number : ℕ} {held : List ℕ} → Presses file lent number held → Bytes file
-      → TellsKept pressedLength (pressing file (length lent)) number lent held
+  pub press-tells : {number : ℕ} {held : List ℕ} → LoaderPresses file lent number held → Bytes file
+      → NumberTellsKept pressedLength (pressing file (length lent)) number lent held
   press-tells met b =
       tells-kept pressedLength (λ (bytes : List ℕ). bytes) (pressing file (length lent)) lent (met .0) (met .1) (loaders-tell .press file (length lent) b)
 
-  pub press-once : {number other : ℕ} {held kept : List ℕ} → Presses file lent number held → Presses file lent other kept → (number ≡ other) × (held ≡ kept)
+  pub press-once : {number other : ℕ} {held kept : List ℕ} → LoaderPresses file lent number held → LoaderPresses file lent other kept → (number ≡ other) × (held ≡ kept)
   press-once = once
 
 -- To either kind
 module _ (to : ModuleKind) (file lent : List ℕ) where
-  pub convert-tells : {number : ℕ} {held : List ℕ} → Converts to file lent number held → Bytes file
-      → TellsKept pressedLength (converting to file (length lent)) number lent held
+  pub convert-tells : {number : ℕ} {held : List ℕ} → LoaderConverts to file lent number held → Bytes file
+      → NumberTellsKept pressedLength (converting to file (length lent)) number lent held
   convert-tells met b =
       tells-kept pressedLength (λ (bytes : List ℕ). bytes) (converting to file (length lent)) lent (met .0) (met .1)
       (loaders-tell .convert to file (length lent) b)
 
-  pub convert-once : {number other : ℕ} {held kept : List ℕ} → Converts to file lent number held → Converts to file lent other kept
+  pub convert-once : {number other : ℕ} {held kept : List ℕ} → LoaderConverts to file lent number held → LoaderConverts to file lent other kept
       → (number ≡ other) × (held ≡ kept)
   convert-once = once
 
 -- The check with tables
 module _ (file : List ℕ) (lent : Tables) where
-  pub tables-tells : {number : ℕ} {held : Tables} → Fills file lent number held → Bytes file
-      → TellsKept Checked.end (checkingInto (roomOf lent) file) number lent held
+  pub tables-tells : {number : ℕ} {held : Tables} → LoaderFills file lent number held → Bytes file
+      → NumberTellsKept CheckReport.end (checkingInto (roomOf lent) file) number lent held
   unfolding tablesAfter
   tables-tells met b =
-      kept Checked.end (λ a. tablesAfter a lent) (checkingInto (roomOf lent) file) lent (λ r. refl) (met .0) (met .1)
+      kept CheckReport.end (λ a. tablesAfter a lent) (checkingInto (roomOf lent) file) lent (λ r. refl) (met .0) (met .1)
       (loaders-tell .tables (roomOf lent) file b)
 
-  pub tables-once : {number other : ℕ} {held kept : Tables} → Fills file lent number held → Fills file lent other kept → (number ≡ other) × (held ≡ kept)
+  pub tables-once : {number other : ℕ} {held kept : Tables} → LoaderFills file lent number held → LoaderFills file lent other kept → (number ≡ other) × (held ≡ kept)
   tables-once = once
 
 -- Deltas to values
 module _ (width : ℕ) (bytes : List ℕ) (lent : List ℤ) where
-  pub decode-tells : {number : ℕ} {held : List ℤ} → Decodes width bytes lent number held
-      → TellsKept countWritten (decodingLimited width bytes (length lent)) number lent held
+  pub decode-tells : {number : ℕ} {held : List ℤ} → LoaderDecodes width bytes lent number held
+      → NumberTellsKept countWritten (decodingLimited width bytes (length lent)) number lent held
   decode-tells met =
       tells-kept countWritten (λ (values : List ℤ). values) (decodingLimited width bytes (length lent)) lent (met .0) (met .1)
       (loaders-tell .decode width bytes (length lent))
 
-  pub decode-once : {number other : ℕ} {held kept : List ℤ} → Decodes width bytes lent number held → Decodes width bytes lent other kept
+  pub decode-once : {number other : ℕ} {held kept : List ℤ} → LoaderDecodes width bytes lent number held → LoaderDecodes width bytes lent other kept
       → (number ≡ other) × (held ≡ kept)
   decode-once = once
 
 -- Values to deltas
 module _ (width : ℕ) (values : List ℤ) (lent : List ℕ) where
-  pub code-tells : {number : ℕ} {held : List ℕ} → Codes width values lent number held
-      → TellsKept countWritten (codingLimited width values (length lent)) number lent held
+  pub code-tells : {number : ℕ} {held : List ℕ} → LoaderCodes width values lent number held
+      → NumberTellsKept countWritten (codingLimited width values (length lent)) number lent held
   code-tells met =
       tells-kept countWritten (λ (bytes : List ℕ). bytes) (codingLimited width values (length lent)) lent (met .0) (met .1)
       (loaders-tell .code width values (length lent))
 
-  pub code-once : {number other : ℕ} {held kept : List ℕ} → Codes width values lent number held → Codes width values lent other kept
+  pub code-once : {number other : ℕ} {held kept : List ℕ} → LoaderCodes width values lent number held → LoaderCodes width values lent other kept
       → (number ≡ other) × (held ≡ kept)
   code-once = once
 
 -- ADPCM to values
 module _ (count : ℕ) (bytes : List ℕ) (lent : List ℤ) where
-  pub adpcm-tells : {number : ℕ} {held : List ℤ} → DecodesAdpcm count bytes lent number held
-      → TellsKept countWritten (adpcmLimited count bytes (length lent)) number lent held
+  pub adpcm-tells : {number : ℕ} {held : List ℤ} → LoaderDecodesAdpcm count bytes lent number held
+      → NumberTellsKept countWritten (adpcmLimited count bytes (length lent)) number lent held
   adpcm-tells met =
       tells-kept countWritten (λ (values : List ℤ). values) (adpcmLimited count bytes (length lent)) lent (met .0) (met .1)
       (loaders-tell .adpcm count bytes (length lent))
 
-  pub adpcm-once : {number other : ℕ} {held kept : List ℤ} → DecodesAdpcm count bytes lent number held → DecodesAdpcm count bytes lent other kept
+  pub adpcm-once : {number other : ℕ} {held kept : List ℤ} → LoaderDecodesAdpcm count bytes lent number held → LoaderDecodesAdpcm count bytes lent other kept
       → (number ≡ other) × (held ≡ kept)
   adpcm-once = once
 
 -- The period
 module _ (note : ℕ) (finetune : ℤ) where
-  pub period-tells : {number : ℕ} → Tunes note finetune number → Tells bothNumbers (tuning note finetune) number
+  pub period-tells : {number : ℕ} → LoaderTunes note finetune number → NumberTells bothNumbers (tuning note finetune) number
   period-tells met = tells bothNumbers (tuning note finetune) met (periods.period-tells note finetune .loads)
 
   -- its two numbers come back
-  pub period-apart : {number : ℕ} → Tunes note finetune number → (period : Period) → tuning note finetune ≡ gives period
+  pub period-apart : {number : ℕ} → LoaderTunes note finetune number → (period : Period) → tuning note finetune ≡ gives period
       → (number % 65536 ≡ period .dividend) × (number / 65536 ≡ period .divisor)
   period-apart met period e = rw met (periods.period-tells note finetune .apart period e)
 
-  pub period-once : {number other : ℕ} → Tunes note finetune number → Tunes note finetune other → number ≡ other
+  pub period-once : {number other : ℕ} → LoaderTunes note finetune number → LoaderTunes note finetune other → number ≡ other
   period-once met e = met ∙ sym e

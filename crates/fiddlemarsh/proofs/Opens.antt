@@ -19,24 +19,24 @@ use Rattle.xm.specs.Sample.{leastHead, headBytes, lengthOf, kindOf, adpcm}
 use Rattle.xm.specs.Delta.{countWritten, decoding, decodingLimited}
 use Rattle.xm.specs.Adpcm.{adpcmDecoding, adpcmLimited, decodingBy}
 use Rattle.xm.specs.Press.{contentOf}
-use Rattle.xm.specs.Table.{Checked, checkingInto, Tables, roomOf, patternRows, sampleRows, patternStride, sampleStride}
+use Rattle.xm.specs.Table.{CheckReport, checkingInto, Tables, roomOf, patternRows, sampleRows, patternStride, sampleStride}
 use Rattle.xm.specs.Demands.{LoopReads}
 use Rattle.xm.proofs.Module.{whole-read}
 use Rattle.xm.proofs.Adpcm.{size-half, adpcm-gave}
 use Rattle.xm.proofs.Accepted.{accepted-files, decodes-at}
 use Rattle.xm.proofs.Demands.{loaders-tell}
 use Rattle.tables.proofs.IntoLaws.{into-accepted}
-use Rattle.tables.proofs.Calls.{headAt, headSizeAt, valuesAt, sample-number, filled-whole, filled-loops, filled-unpacks}
-use Rattle.fiddlemarsh.specs.Promise.{Unpacks, Fills, Decodes, DecodesAdpcm}
+use Rattle.tables.proofs.Calls.{headAt, rowHeadSize, valuesAt, sample-number, filled-whole, filled-loops, filled-unpacks}
+use Rattle.fiddlemarsh.specs.Promise.{LoaderUnpacks, LoaderFills, LoaderDecodes, LoaderDecodesAdpcm}
 
 -- A number and a memory of an answer that gives something
-told : {A B : Type 0} (value : A → ℕ) (written : A → List B) (answer : Answer A) (lent : List B) {number : ℕ} {held : List B} {a : A} → answer ≡ gives a
+given-number : {A B : Type 0} (value : A → ℕ) (written : A → List B) (answer : Answer A) (lent : List B) {number : ℕ} {held : List B} {a : A} → answer ≡ gives a
     → (number ≡ loaderNumber value answer) × (held ≡ after written answer lent) → (number ≡ value a) × (held ≡ inFront (written a) lent)
 unfolding loaderNumber
-told value written answer lent e met = (met .0 ∙ ap (loaderNumber value) e, met .1 ∙ ap (λ (a : Answer _). after written a lent) e)
+given-number value written answer lent e met = (met .0 ∙ ap (loaderNumber value) e, met .1 ∙ ap (λ (a : Answer _). after written a lent) e)
 
-module _ (file : List ℕ) (plain : Bytes file) (lent : Tables) (c : Checked) (accepted : checkingInto (roomOf lent) file ≡ gives c) {number : ℕ} {held : Tables}
-    (met : Fills file lent number held)
+module _ (file : List ℕ) (plain : Bytes file) (lent : Tables) (c : CheckReport) (accepted : checkingInto (roomOf lent) file ≡ gives c) {number : ℕ} {held : Tables}
+    (met : LoaderFills file lent number held)
   where
     abbrev channels : ℕ
     channels = c .found .0 .content .channels
@@ -50,9 +50,9 @@ module _ (file : List ℕ) (plain : Bytes file) (lent : Tables) (c : Checked) (a
 
     pub opens-pattern : (k : ℕ) (cells : List ℕ) {answer : ℕ} {then : List ℕ} → k < length (patternRows (c .found))
         → length (cellBytes (patternIn k)) ≤ length cells
-        → Unpacks (patternNumber k 2) channels (part (patternNumber k 0) (patternNumber k 1) file) cells answer then
+        → LoaderUnpacks (patternNumber k 2) channels (part (patternNumber k 0) (patternNumber k 1) file) cells answer then
         → (answer ≡ patternIn k .rows) × (then ≡ inFront (cellBytes (patternIn k)) cells)
-    opens-pattern k cells low enough = rw (met .1) (told rowsRead cellBytes _ cells (filled-unpacks file plain lent c accepted k (length cells) low enough))
+    opens-pattern k cells low enough = rw (met .1) (given-number rowsRead cellBytes _ cells (filled-unpacks file plain lent c accepted k (length cells) low enough))
 
     -- of a sample's row: header place, data place, length, width, loop kind, loop start, loop length; and of its header, as far as its region goes,
     -- the length and the kind
@@ -60,7 +60,7 @@ module _ (file : List ℕ) (plain : Bytes file) (lent : Tables) (c : Checked) (a
     sampleNumber k column = getD (held .samples) (sampleStride * k + column) 0
 
     abbrev pub headIn : ℕ → List ℕ
-    headIn k = headBytes (headSizeAt c k) (drop (sampleNumber k 0) file)
+    headIn k = headBytes (rowHeadSize c k) (drop (sampleNumber k 0) file)
 
     abbrev pub kindIn : ℕ → ℕ
     kindIn k = kindOf (headIn k)
@@ -98,9 +98,9 @@ module _ (file : List ℕ) (plain : Bytes file) (lent : Tables) (c : Checked) (a
           (length values) enough))
 
       -- of any kind but AD,
-      pub opens-sample : {answer : ℕ} {then : List ℤ} → (kindIn k ≡ adpcm → ⊥) → Decodes (sampleNumber k 3) (dataIn k) values answer then
+      pub opens-sample : {answer : ℕ} {then : List ℤ} → (kindIn k ≡ adpcm → ⊥) → LoaderDecodes (sampleNumber k 3) (dataIn k) values answer then
           → (answer ≡ length (valuesAt c k)) × (then ≡ inFront (valuesAt c k) values)
-      opens-sample other = told countWritten (λ (v : List ℤ). v) _ values gave
+      opens-sample other = given-number countWritten (λ (v : List ℤ). v) _ values gave
         where
           own : decoding (sampleNumber k 3) (dataIn k) (length values) ≡ gives (valuesAt c k)
           own = rw (ne-eqb (kindIn k) adpcm other) at by-kind
@@ -109,9 +109,9 @@ module _ (file : List ℕ) (plain : Bytes file) (lent : Tables) (c : Checked) (a
           gave = loaders-tell .decode-limited (sampleNumber k 3) (dataIn k) (length values) .within (part-small (sampleNumber k 1) (sampleNumber k 2)) ∙ own
 
       -- and of kind AD.
-      pub opens-adpcm : {answer : ℕ} {then : List ℤ} → kindIn k ≡ adpcm → DecodesAdpcm (lengthIn k) (dataIn k) values answer then
+      pub opens-adpcm : {answer : ℕ} {then : List ℤ} → kindIn k ≡ adpcm → LoaderDecodesAdpcm (lengthIn k) (dataIn k) values answer then
           → (answer ≡ length (valuesAt c k)) × (then ≡ inFront (valuesAt c k) values)
-      opens-adpcm same = told countWritten (λ (v : List ℤ). v) _ values gave
+      opens-adpcm same = given-number countWritten (λ (v : List ℤ). v) _ values gave
         where
           own : adpcmDecoding (lengthIn k) (dataIn k) (length values) ≡ gives (valuesAt c k)
           own = rw (eq-eqb (kindIn k) adpcm same) at by-kind

@@ -19,42 +19,42 @@ use Rattle.periods.specs.Period.{periodLoader}
 use Rattle.tables.specs.Into.{tablesThen}
 
 -- The contracts.
-abbrev pub Checks : (file : List ℕ) (number : ℕ) → Type 0
-Checks file number = number ≡ checkLoader file
+abbrev pub LoaderChecks : (file : List ℕ) (number : ℕ) → Type 0
+LoaderChecks file number = number ≡ checkLoader file
 
-abbrev pub Unpacks : (rows channels : ℕ) (stored lent : List ℕ) (number : ℕ) (held : List ℕ) → Type 0
-Unpacks rows channels stored lent number held = (number ≡ unpackLoader rows channels stored (length lent)) × (held ≡ unpackAfter rows channels stored lent)
+abbrev pub LoaderUnpacks : (rows channels : ℕ) (stored lent : List ℕ) (number : ℕ) (held : List ℕ) → Type 0
+LoaderUnpacks rows channels stored lent number held = (number ≡ unpackLoader rows channels stored (length lent)) × (held ≡ unpackAfter rows channels stored lent)
 
-abbrev pub Packs : (rows channels : ℕ) (cells lent : List ℕ) (number : ℕ) (held : List ℕ) → Type 0
-Packs rows channels cells lent number held = (number ≡ packLoader rows channels cells (length lent)) × (held ≡ packAfter rows channels cells lent)
+abbrev pub LoaderPacks : (rows channels : ℕ) (cells lent : List ℕ) (number : ℕ) (held : List ℕ) → Type 0
+LoaderPacks rows channels cells lent number held = (number ≡ packLoader rows channels cells (length lent)) × (held ≡ packAfter rows channels cells lent)
 
-abbrev pub Presses : (file lent : List ℕ) (number : ℕ) (held : List ℕ) → Type 0
-Presses file lent number held = (number ≡ pressLoader file (length lent)) × (held ≡ pressAfter file lent)
+abbrev pub LoaderPresses : (file lent : List ℕ) (number : ℕ) (held : List ℕ) → Type 0
+LoaderPresses file lent number held = (number ≡ pressLoader file (length lent)) × (held ≡ pressAfter file lent)
 
-abbrev pub Converts : (to : ModuleKind) (file lent : List ℕ) (number : ℕ) (held : List ℕ) → Type 0
-Converts to file lent number held = (number ≡ convertLoader to file (length lent)) × (held ≡ convertAfter to file lent)
+abbrev pub LoaderConverts : (to : ModuleKind) (file lent : List ℕ) (number : ℕ) (held : List ℕ) → Type 0
+LoaderConverts to file lent number held = (number ≡ convertLoader to file (length lent)) × (held ≡ convertAfter to file lent)
 
-abbrev pub Fills : (file : List ℕ) (lent : Tables) (number : ℕ) (held : Tables) → Type 0
-Fills file lent number held = (number ≡ checkIntoLoader (roomOf lent) file) × (held ≡ tablesThen file lent)
+abbrev pub LoaderFills : (file : List ℕ) (lent : Tables) (number : ℕ) (held : Tables) → Type 0
+LoaderFills file lent number held = (number ≡ checkIntoLoader (roomOf lent) file) × (held ≡ tablesThen file lent)
 
-abbrev pub Decodes : (width : ℕ) (bytes : List ℕ) (lent : List ℤ) (number : ℕ) (held : List ℤ) → Type 0
-Decodes width bytes lent number held = (number ≡ decodeLoader width bytes (length lent)) × (held ≡ decodeLimitedAfter width bytes lent)
+abbrev pub LoaderDecodes : (width : ℕ) (bytes : List ℕ) (lent : List ℤ) (number : ℕ) (held : List ℤ) → Type 0
+LoaderDecodes width bytes lent number held = (number ≡ decodeLoader width bytes (length lent)) × (held ≡ decodeLimitedAfter width bytes lent)
 
-abbrev pub Codes : (width : ℕ) (values : List ℤ) (lent : List ℕ) (number : ℕ) (held : List ℕ) → Type 0
-Codes width values lent number held = (number ≡ codeLoader width values (length lent)) × (held ≡ codeLimitedAfter width values lent)
+abbrev pub LoaderCodes : (width : ℕ) (values : List ℤ) (lent : List ℕ) (number : ℕ) (held : List ℕ) → Type 0
+LoaderCodes width values lent number held = (number ≡ codeLoader width values (length lent)) × (held ≡ codeLimitedAfter width values lent)
 
-abbrev pub DecodesAdpcm : (count : ℕ) (bytes : List ℕ) (lent : List ℤ) (number : ℕ) (held : List ℤ) → Type 0
-DecodesAdpcm count bytes lent number held = (number ≡ adpcmLoader count bytes (length lent)) × (held ≡ adpcmLimitedAfter count bytes lent)
+abbrev pub LoaderDecodesAdpcm : (count : ℕ) (bytes : List ℕ) (lent : List ℤ) (number : ℕ) (held : List ℤ) → Type 0
+LoaderDecodesAdpcm count bytes lent number held = (number ≡ adpcmLoader count bytes (length lent)) × (held ≡ adpcmLimitedAfter count bytes lent)
 
-abbrev pub Tunes : (note : ℕ) (finetune : ℤ) (number : ℕ) → Type 0
-Tunes note finetune number = number ≡ periodLoader note finetune
+abbrev pub LoaderTunes : (note : ℕ) (finetune : ℤ) (number : ℕ) → Type 0
+LoaderTunes note finetune number = number ≡ periodLoader note finetune
 
 -- The number tells the answer: the value, below 2^32, or number and place; and which of the two it is, it shows by itself.
-pub record Tells {A : Type 0} (value : A → ℕ) (answer : Answer A) (number : ℕ) : Type 0 where
+pub record NumberTells {A : Type 0} (value : A → ℕ) (answer : Answer A) (number : ℕ) : Type 0 where
   pub loaded : LoaderTells value answer number
   pub refused-exactly : (2 ^ 32 ≤ number) ↔ ((r : Refusal) × (answer ≡ refuses r))
 
 -- The same of a call that is lent memory: "All lent memory holds what it held" if the number says refused.
-pub record TellsKept {A M : Type 0} (value : A → ℕ) (answer : Answer A) (number : ℕ) (lent held : M) : Type 0 where
-  pub tells : Tells value answer number
+pub record NumberTellsKept {A M : Type 0} (value : A → ℕ) (answer : Answer A) (number : ℕ) (lent held : M) : Type 0 where
+  pub tells : NumberTells value answer number
   pub unchanged : 2 ^ 32 ≤ number → held ≡ lent

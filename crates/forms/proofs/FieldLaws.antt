@@ -13,7 +13,7 @@ use Rattle.xm.proofs.Number.{Agree, agree-byte, agree-part}
 use Rattle.xm.proofs.Format.{cons-path}
 use Rattle.xm.proofs.Cut.{padded-length, front-padded}
 use Rattle.steps.proofs.InstrumentLaws.{fields-pass, some-samples}
-use Rattle.forms.specs.Form.{fieldsFrom}
+use Rattle.forms.specs.Form.{writtenFields}
 use Rattle.forms.proofs.KeptLaws.{part-padded, trimmed-behind, trimmed-front}
 
 -- Small numbers: their first byte says them
@@ -52,7 +52,7 @@ module _ (t : List ℕ) where
       ∙ ap (λ (b : ℕ). part 4 22 fields ++ (b ∷ [])) (getD-drop 4 fields 22 0))
 
   -- no samples
-  bare-fields : length (trimmed (fieldsFrom fields 0 0)) ≡ length (trimmed (part 4 23 t))
+  bare-fields : length (trimmed (writtenFields fields 0 0)) ≡ length (trimmed (part 4 23 t))
   unfolding trimmed before
   bare-fields =
       ap length
@@ -62,15 +62,15 @@ module _ (t : List ℕ) where
       ∙ part-padded 4 23 237 t (omega arith))
 
   pub fields-none : (samples headSize : ℕ) → samples ≡ 0 → headSize ≡ 0 → {kept : ℕ} → kept ≡ length (trimmed (part 4 23 t))
-      → 4 + kept ≡ leastStripped + length (trimmed (fieldsFrom fields samples headSize))
-  fields-none samples headSize p q e = ap (λ (n : ℕ). 4 + n) (e ∙ sym (ap₂ (λ (k h : ℕ). length (trimmed (fieldsFrom fields k h))) p q ∙ bare-fields))
+      → 4 + kept ≡ leastStripped + length (trimmed (writtenFields fields samples headSize))
+  fields-none samples headSize p q e = ap (λ (n : ℕ). 4 + n) (e ∙ sym (ap₂ (λ (k h : ℕ). length (trimmed (writtenFields fields k h))) p q ∙ bare-fields))
 
   -- some samples
   module _ (samples headSize : ℕ) (some : 1 ≤ samples) (few : samples < 256) (low : headSize < 256) where
     abbrev start : List ℕ
     start = part 4 22 fields ++ (byte (byteAt 26 fields) ++ word samples)
 
-    all-fields : fieldsFrom fields samples headSize ≡ (start ++ long headSize) ++ part voiceFrom voiceSize fields
+    all-fields : writtenFields fields samples headSize ≡ (start ++ long headSize) ++ part voiceFrom voiceSize fields
     all-fields =
         ap (λ (voice : List ℕ). part 4 22 fields ++ (byte (byteAt 26 fields) ++ (word samples ++ (long headSize ++ (voice ++ [])))))
         (voice-some samples fields some)
@@ -83,7 +83,7 @@ module _ (t : List ℕ) where
     voice-kept = ap length (part-padded 33 208 208 t (omega arith))
 
     abbrev written : ℕ
-    written = length (trimmed (fieldsFrom fields samples headSize))
+    written = length (trimmed (writtenFields fields samples headSize))
 
     pub fields-voice : {voice : ℕ} → voice ≡ length (trimmed (part voiceFrom voiceSize t)) → 0 < voice → 33 + voice ≡ leastStripped + written
     fields-voice {voice} e h =
@@ -92,7 +92,7 @@ module _ (t : List ℕ) where
         omega (arith, l, length-append start (long headSize), start-size, voice-kept)
 
     module _ (none : length (trimmed (part voiceFrom voiceSize t)) ≡ 0) where
-      no-voice : trimmed (fieldsFrom fields samples headSize) ≡ trimmed (start ++ long headSize)
+      no-voice : trimmed (writtenFields fields samples headSize) ≡ trimmed (start ++ long headSize)
       no-voice = ap trimmed all-fields ∙ trimmed-front (start ++ long headSize) (part voiceFrom voiceSize fields) (voice-kept ∙ none)
 
       pub fields-head : 1 ≤ headSize → 30 ≡ leastStripped + written
@@ -122,8 +122,8 @@ module _ (kind : ModuleKind) (place : ℕ) (s : List ℕ) (h : AllHold (instrume
   }
 
 pub same-fields : (kind : ModuleKind) (place : ℕ) (s : List ℕ) → AllHold (instrumentTests kind place s) → (headSize : ℕ)
-    → fieldsFrom (fieldsOf kind s) (countAt (fieldsOf kind s)) headSize
-    ≡ fieldsFrom (padded 241 (take (instrumentSizeAt s) s)) (countAt (fieldsOf kind s)) headSize
+    → writtenFields (fieldsOf kind s) (countAt (fieldsOf kind s)) headSize
+    ≡ writtenFields (padded 241 (take (instrumentSizeAt s) s)) (countAt (fieldsOf kind s)) headSize
 same-fields stripped place s h headSize = refl
 same-fields normal place s h headSize =
     let a = agree normal place s h 29 (omega arith) (omega (arith, h .1 .0)) in

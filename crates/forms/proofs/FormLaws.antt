@@ -12,7 +12,7 @@ use Rattle.xm.specs.Got.{Told}
 use Rattle.xm.specs.Format.{each, joined, flat}
 use Rattle.xm.specs.Header.{kindAt}
 use Rattle.xm.specs.Sample.{leastHead, Stretch, headFormat, dataFormat, smallestHead}
-use Rattle.xm.specs.Instrument.{leastInstrument, leastStripped, samplesMost, instrumentSizeAt, countAt, headerSizeAt, fieldsOf, Instrument, GoodInstrument}
+use Rattle.xm.specs.Instrument.{leastInstrument, leastStripped, samplesMost, instrumentSizeAt, countAt, sampleHeadSizeAt, fieldsOf, Instrument, GoodInstrument}
 use Rattle.xm.specs.Instrument.{readInstrument, countOf, writeFields, writeInstrument, instrumentView}
 use Rattle.xm.proofs.Number.{bytes-drop}
 use Rattle.xm.proofs.Sample.{smallest-fits, cut-heads, cut-heads-size}
@@ -23,7 +23,7 @@ use Rattle.heads.proofs.SampleLaws.{samples-size}
 use Rattle.steps.specs.Step.{InstrumentIs}
 use Rattle.steps.specs.declared.instrument.InstrumentPart.{InstrumentPart}
 use Rattle.steps.proofs.InstrumentLaws.{found, AsRead, as-read, PartLies, part-lies, part-inside}
-use Rattle.forms.specs.Form.{FormIs, fieldsFrom}
+use Rattle.forms.specs.Form.{FormIs, writtenFields}
 use Rattle.forms.specs.declared.Form.{Form}
 use Rattle.forms.proofs.FieldLaws.{same-fields}
 
@@ -45,7 +45,7 @@ none-smallest zero size s z = refl
 none-smallest (suc count) size s z = absurd (omega arith)
 
 -- A part that was read lies inside the file: its fields, its headers, and behind them its data
-pub record Inside (file : List ℕ) (place : ℕ) (piece : InstrumentPart) : Type 0 where
+pub record PartInside (file : List ℕ) (place : ℕ) (piece : InstrumentPart) : Type 0 where
   pub few : piece .samples ≤ samplesMost
   pub there : place + piece .size ≤ length file
   pub behind : place + piece .size + piece .samples * piece .«head_size» ≤ piece .next
@@ -100,7 +100,7 @@ module _ (file : List ℕ) (place : ℕ) {piece : InstrumentPart} (is : Instrume
     good : GoodInstrument x
     good = instrument-keeps kind .keeps place from (found file kind place (r .samples)) (instrumentSizeAt from + r .used) (bytes-drop place b) (r .is) .good
 
-    pub inside : Inside file place piece
+    pub inside : PartInside file place piece
     inside = record { few = lies .few; there = lies .there; behind = omega (arith, lies .ends); ends = part-inside file kind place r b }
 
     -- what is told of the reading is told of this one
@@ -111,7 +111,7 @@ module _ (file : List ℕ) (place : ℕ) {piece : InstrumentPart} (is : Instrume
     -- A normal one
     normal-length : length (writeInstrument normal x) ≡ leastInstrument (piece .samples) + 40 * piece .samples + bytes
     normal-length =
-        let s = samples-size (countAt fields) (headerSizeAt fields) _ (drop (instrumentSizeAt from) from) (r .samples) (r .used) (r .reads) in
+        let s = samples-size (countAt fields) (sampleHeadSizeAt fields) _ (drop (instrumentSizeAt from) from) (r .samples) (r .used) (r .reads) in
         instrument-size x good 0 []
         ∙ ap₂ (λ (a b : ℕ). a + b) (ap leastInstrument counted) (length-append (each headFormat .write (x .samples .0)) dataBytes)
         ∙ omega (arith, s .headed, lies .count)
@@ -128,14 +128,14 @@ module _ (file : List ℕ) (place : ℕ) {piece : InstrumentPart} (is : Instrume
 
     -- A stripped one, with any H
     abbrev fieldsWith : (headSize : ℕ) → List ℕ
-    fieldsWith headSize = trimmed (fieldsFrom (padded 241 (take (piece .size) from)) (piece .samples) headSize)
+    fieldsWith headSize = trimmed (writtenFields (padded 241 (take (piece .size) from)) (piece .samples) headSize)
 
     same-written : writeFields x ≡ fieldsWith smallest
     unfolding writeFields
     same-written =
         ap₂ (λ (k h : ℕ). trimmed (flat (x .name ∷ byte (x .type) ∷ word k ∷ long h ∷ x .voice ∷ []))) (counted ∙ lies .count) same-smallest
         ∙ ap trimmed (same-fields kind place from (r .tests) smallest)
-        ∙ ap₂ (λ (I k : ℕ). trimmed (fieldsFrom (padded 241 (take I from)) k smallest)) (sym (lies .size)) (sym (lies .count))
+        ∙ ap₂ (λ (I k : ℕ). trimmed (writtenFields (padded 241 (take I from)) k smallest)) (sym (lies .size)) (sym (lies .count))
 
     cut-length : length (joined (take (smallestHead (x .samples .0))) (x .samples .0)) ≡ piece .samples * smallest
     cut-length =

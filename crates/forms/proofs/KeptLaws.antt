@@ -131,13 +131,13 @@ unfolding trimmed
 trimmed-behind [] b h = omega arith
 trimmed-behind (x ∷ a) b h = let q = trimmed-behind a b h in ap length (before-long x (trimmed (a ++ b)) (omega arith)) ∙ omega arith
 
-none : (s : List ℕ) → length s ≡ 0 → s ≡ []
-none [] h = refl
-none (x ∷ s) h = absurd (omega arith)
+none-left : (s : List ℕ) → length s ≡ 0 → s ≡ []
+none-left [] h = refl
+none-left (x ∷ s) h = absurd (omega arith)
 
 pub trimmed-front : (a b : List ℕ) → length (trimmed b) ≡ 0 → trimmed (a ++ b) ≡ trimmed a
 unfolding trimmed
-trimmed-front [] b h = none (trimmed b) h
+trimmed-front [] b h = none-left (trimmed b) h
 trimmed-front (x ∷ a) b h = ap (before x) (trimmed-front a b h)
 
 -- The loop over the headers: the most of those behind and of those ahead
@@ -181,7 +181,7 @@ module _ {file : List ℕ} {heads size count head most left : ℕ} (w : HeadsLef
   pub heads-end : left ≡ 0 → most ≡ smallestHead (headsFrom count size (drop heads file))
   unfolding headsFrom smallestHead
   heads-end z =
-      let none : smallestHead (headsFrom left size (drop head file)) ≡ 0 = ap (λ (n : ℕ). smallestHead (headsFrom n size (drop head file))) z in
+      let none-left : smallestHead (headsFrom left size (drop head file)) ≡ 0 = ap (λ (n : ℕ). smallestHead (headsFrom n size (drop head file))) z in
       omega (arith, w .same)
 
   module _ (some : 0 < left) where

@@ -22,5 +22,5 @@ pub record FormIs (kind : ModuleKind) (place next : ℕ) (x : Instrument) (form 
   pub most : place + form .length ≤ next + 903
 
 -- The fields behind I, from the bytes that they are read from.
-abbrev pub fieldsFrom : (fields : List ℕ) (samples headSize : ℕ) → List ℕ
-fieldsFrom fields samples headSize = flat (part 4 22 fields ∷ byte (byteAt 26 fields) ∷ word samples ∷ long headSize ∷ voiceOf samples fields ∷ [])
+abbrev pub writtenFields : (fields : List ℕ) (samples headSize : ℕ) → List ℕ
+writtenFields fields samples headSize = flat (part 4 22 fields ∷ byte (byteAt 26 fields) ∷ word samples ∷ long headSize ∷ voiceOf samples fields ∷ [])

@@ -13,7 +13,7 @@ ghost use Rattle.xm.specs.Instrument.{leastInstrument, leastStripped, samplesMo
 ghost use Rattle.xm.specs.Module.{fileMost};
 ghost use Rattle.heads.specs.Sample.{headsFrom};
 ghost use Rattle.steps.specs.Step.{InstrumentIs};
-ghost use Rattle.forms.specs.Form.{FormIs, fieldsFrom};
+ghost use Rattle.forms.specs.Form.{FormIs, writtenFields};
 
 pub struct Form {
     pub size: usize,
@@ -76,7 +76,7 @@ fn smallest_size(file: &[u8], at: usize, size: usize, samples: usize, head_size:
     requires { ⌜ samples ≤ samplesMost ⌝ }
     requires { ⌜ «head_size» ≤ leastHead ⌝ }
     requires { ⌜ (samples ≡ 0 → «head_size» ≡ 0) ⌝ }
-    ensures { λ r. ⌜ r ≡ leastStripped + length (trimmed (fieldsFrom (padded 241 (take size (drop at (now (file .entry))))) samples «head_size»)) ⌝ }
+    ensures { λ r. ⌜ r ≡ leastStripped + length (trimmed (writtenFields (padded 241 (take size (drop at (now (file .entry))))) samples «head_size»)) ⌝ }
     ensures { λ r. ⌜ r ≤ 241 ⌝ }
 {
     if samples == 0 {

@@ -11,7 +11,7 @@ use Rattle.xm.specs.Got.{got, AllHold, listIn, Told}
 use Rattle.xm.specs.Format.{each, joined, flat}
 use Rattle.xm.specs.Header.{kindAt}
 use Rattle.xm.specs.Sample.{leastHead, Stretch, readData, headFormat, dataFormat, SamplesFound, samplesFormat, cutSamplesFormat, smallestHead}
-use Rattle.xm.specs.Instrument.{leastInstrument, leastStripped, voiceFrom, voiceSize, instrumentSizeAt, countAt, headerSizeAt, fieldsOf, instrumentTests}
+use Rattle.xm.specs.Instrument.{leastInstrument, leastStripped, voiceFrom, voiceSize, instrumentSizeAt, countAt, sampleHeadSizeAt, fieldsOf, instrumentTests}
 use Rattle.xm.specs.Instrument.{Instrument, InstrumentFound, voiceOf, readInstrument, writeVoice, countOf, writeFields, writeInstrument, GoodInstrument}
 use Rattle.xm.specs.Instrument.{instrumentView}
 use Rattle.xm.proofs.Number.{bytes-drop, bytes-take}
@@ -29,7 +29,7 @@ use Rattle.forms.specs.declared.Form.{Form}
 use Rattle.forms.proofs.KeptLaws.{trimmed-front}
 use Rattle.forms.proofs.FormLaws.{least-most}
 use Rattle.writers.specs.Found.{instrumentAs}
-use Rattle.instruments.specs.Instrument.{voiceIn, fieldsIn, headsIn}
+use Rattle.instruments.specs.Instrument.{voiceIn, fieldsIn, headsCut}
 use Rattle.writers.proofs.Kept.{part-split, byte-kept, word-kept}
 use Rattle.instruments.proofs.CutLaws.{padded-short, padded-front, cut-whole}
 use Rattle.instruments.proofs.PieceLaws.{fields-short, fields-size, heads-size, heads-whole}
@@ -238,7 +238,7 @@ module _ (file : List ℕ) (place : ℕ) (piece : InstrumentPart) where
   fieldsBy form = fieldsIn (form .size) (form .«head_size») cut
 
   abbrev pub headsBy : Form → List ℕ
-  headsBy form = headsIn (piece .samples) (piece .«head_size») (form .«head_size») (drop heads file)
+  headsBy form = headsCut (piece .samples) (piece .«head_size») (form .«head_size») (drop heads file)
 
   pub record InstrumentLies (to : ModuleKind) (form : Form) : Type 0 where
     pub there : heads ≤ length file
@@ -291,7 +291,7 @@ module _ (file : List ℕ) (place : ℕ) (piece : InstrumentPart) where
 
     data-own : bytes ≡ take (piece .next - behind) (drop behind file)
     data-own =
-        let H = headerSizeAt (fieldsOf kind from) in
+        let H = sampleHeadSizeAt (fieldsOf kind from) in
         let I = instrumentSizeAt from in
         let s = samples-size k H (place + I) (drop I from) (r .samples) (r .used) (r .reads) in
         let next = ap InstrumentPart.next (r .same) in
@@ -301,12 +301,12 @@ module _ (file : List ℕ) (place : ℕ) (piece : InstrumentPart) where
         ∙ ap₂ (λ (n : ℕ) (l : List ℕ). take n l) left (drop-drop (k * H) I from ∙ drop-drop (I + k * H) place file ∙ ap (λ (n : ℕ). drop n file) sum)
 
     -- its headers, of 40 bytes or as many as are kept
-    samples-whole : samplesFormat .write (x .samples) ≡ headsIn (piece .samples) (piece .«head_size») leastHead (drop heads file) ++ bytes
+    samples-whole : samplesFormat .write (x .samples) ≡ headsCut (piece .samples) (piece .«head_size») leastHead (drop heads file) ++ bytes
     samples-whole =
         ap (λ (l : List (List ℕ)). joined (λ (head : List ℕ). head) l ++ bytes) (lies .views)
         ∙ ap (λ (l : List ℕ). l ++ bytes) (heads-whole (piece .samples) (piece .«head_size») (drop heads file))
 
-    samples-cut : (size : ℕ) → cutSamplesFormat size .write (x .samples) ≡ headsIn (piece .samples) (piece .«head_size») size (drop heads file) ++ bytes
+    samples-cut : (size : ℕ) → cutSamplesFormat size .write (x .samples) ≡ headsCut (piece .samples) (piece .«head_size») size (drop heads file) ++ bytes
     samples-cut size = ap (λ (l : List (List ℕ)). joined (take size) l ++ bytes) (lies .views)
 
     good : GoodInstrument x

@@ -17,7 +17,7 @@ use Rattle.xm.proofs.Lay.{Laid, laid-none, laid-part, laid-done}
 use Rattle.xm.proofs.Cut.{padded-length, take-padded}
 use Rattle.heads.specs.Sample.{headsFrom}
 use Rattle.forms.proofs.FieldLaws.{long-low}
-use Rattle.instruments.specs.Instrument.{voiceIn, fieldsIn, headsIn}
+use Rattle.instruments.specs.Instrument.{voiceIn, fieldsIn, headsCut}
 use Rattle.instruments.proofs.CutLaws.{padded-front, padded-padded, padded-behind}
 
 -- H below 256 is its first byte, and zeros follow
@@ -54,18 +54,18 @@ fields-size size headSize s h =
 
 -- Headers in a row, of each as many bytes as are kept: the first of them, and how many they are
 module _ (size kept : ℕ) (few : kept ≤ leastHead) where
-  heads-first : (left : ℕ) (s : List ℕ) → 0 < left → headsIn left size kept s ≡ padded kept (take size s) ++ headsIn (left - 1) size kept (drop size s)
+  heads-first : (left : ℕ) (s : List ℕ) → 0 < left → headsCut left size kept s ≡ padded kept (take size s) ++ headsCut (left - 1) size kept (drop size s)
   unfolding headsFrom
   heads-first zero s h = absurd (omega arith)
   heads-first (suc left) s h =
       let n : left ≡ suc left - 1 = omega arith in
-      ap₂ (λ (l : List ℕ) (k : ℕ). l ++ headsIn k size kept (drop size s)) (take-padded kept leastHead (take size s) few) n
+      ap₂ (λ (l : List ℕ) (k : ℕ). l ++ headsCut k size kept (drop size s)) (take-padded kept leastHead (take size s) few) n
 
-  pub heads-size : (count : ℕ) (s : List ℕ) → length (headsIn count size kept s) ≡ count * kept
+  pub heads-size : (count : ℕ) (s : List ℕ) → length (headsCut count size kept s) ≡ count * kept
   unfolding headsFrom
   heads-size zero s = sym (zero-mul kept)
   heads-size (suc count) s =
-      length-append (take kept (headBytes size s)) (headsIn count size kept (drop size s))
+      length-append (take kept (headBytes size s)) (headsCut count size kept (drop size s))
       ∙ omega (
         arith,
         suc-mul count kept,
@@ -74,7 +74,7 @@ module _ (size kept : ℕ) (few : kept ≤ leastHead) where
       )
 
 -- whole ones are those of 40 bytes
-pub heads-whole : (count size : ℕ) (s : List ℕ) → joined (λ (head : List ℕ). head) (headsFrom count size s) ≡ headsIn count size leastHead s
+pub heads-whole : (count size : ℕ) (s : List ℕ) → joined (λ (head : List ℕ). head) (headsFrom count size s) ≡ headsCut count size leastHead s
 unfolding headsFrom
 heads-whole zero size s = refl
 heads-whole (suc count) size s =
@@ -82,19 +82,19 @@ heads-whole (suc count) size s =
     (heads-whole count size (drop size s))
 
 -- The loop over them: those that are left are still to be laid
-pub record HeadsLeft (file lent goal : List ℕ) (size kept left head : ℕ) (out : List ℕ) (to : ℕ) : Type 0 where
+pub record HeadsToWrite (file lent goal : List ℕ) (size kept left head : ℕ) (out : List ℕ) (to : ℕ) : Type 0 where
   pub inside : head + left * size ≤ length file
-  pub laid : Laid lent goal out to (headsIn left size kept (drop head file))
+  pub laid : Laid lent goal out to (headsCut left size kept (drop head file))
 
 module _ (file lent : List ℕ) (size kept : ℕ) (few : kept ≤ leastHead) where
   pub heads-none : (count head : ℕ) → head + count * size ≤ length file → count * kept ≤ length lent
-      → HeadsLeft file lent (headsIn count size kept (drop head file)) size kept count head lent 0
+      → HeadsToWrite file lent (headsCut count size kept (drop head file)) size kept count head lent 0
   heads-none count head h room = record { inside = h; laid = laid-none lent _ (omega (arith, heads-size size kept few count (drop head file))) }
 
-  module _ {goal out : List ℕ} {left head to : ℕ} (w : HeadsLeft file lent goal size kept left head out to) where
+  module _ {goal out : List ℕ} {left head to : ℕ} (w : HeadsToWrite file lent goal size kept left head out to) where
     pub heads-done : left ≡ 0 → out ≡ inFront goal lent
     unfolding headsFrom
-    heads-done z = laid-done (w .laid) (ap (λ (n : ℕ). headsIn n size kept (drop head file)) z)
+    heads-done z = laid-done (w .laid) (ap (λ (n : ℕ). headsCut n size kept (drop head file)) z)
 
     module _ (some : 0 < left) where
       less : left * size ≡ size + (left - 1) * size
@@ -108,14 +108,14 @@ module _ (file lent : List ℕ) (size kept : ℕ) (few : kept ≤ leastHead) whe
       abbrev first : List ℕ
       first = padded kept (take size (drop head file))
 
-      rest : headsIn left size kept (drop head file) ≡ first ++ headsIn (left - 1) size kept (drop (head + size) file)
-      rest = heads-first size kept few left (drop head file) some ∙ ap (λ (s : List ℕ). first ++ headsIn (left - 1) size kept s) (drop-drop size head file)
+      rest : headsCut left size kept (drop head file) ≡ first ++ headsCut (left - 1) size kept (drop (head + size) file)
+      rest = heads-first size kept few left (drop head file) some ∙ ap (λ (s : List ℕ). first ++ headsCut (left - 1) size kept s) (drop-drop size head file)
 
       pub head-room : to + kept ≤ length out
       head-room = omega (arith, w .laid .room, ap length rest ∙ length-append first _, padded-length kept (take size (drop head file)))
 
       pub heads-more : {next : ℕ} {part : List ℕ} → next ≡ head + size → part ≡ inFront first (take (length out - to) (drop to out))
-          → HeadsLeft file lent goal size kept (left - 1) next (putMid to (length out - to) out part) (to + kept)
+          → HeadsToWrite file lent goal size kept (left - 1) next (putMid to (length out - to) out part) (to + kept)
       heads-more n e = rw n (record {
         inside = omega (arith, w .inside, less);
         laid = laid-part (w .laid) first _ rest refl (omega (arith, padded-length kept (take size (drop head file)))) e;

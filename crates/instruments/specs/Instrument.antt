@@ -17,5 +17,5 @@ abbrev pub fieldsIn : (size headSize : ℕ) → List ℕ → List ℕ
 fieldsIn size headSize s = long size ++ padded (size - leastStripped) (padded 25 (drop 4 s) ++ voiceIn headSize s)
 
 -- The first bytes of each of `count` sample headers.
-abbrev pub headsIn : (count size kept : ℕ) → List ℕ → List ℕ
-headsIn count size kept s = joined (take kept) (headsFrom count size s)
+abbrev pub headsCut : (count size kept : ℕ) → List ℕ → List ℕ
+headsCut count size kept s = joined (take kept) (headsFrom count size s)

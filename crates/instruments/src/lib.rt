@@ -16,7 +16,7 @@ ghost use Rattle.xm.specs.Instrument.{leastStripped, voiceFrom, voiceSize};
 ghost use Rattle.xm.specs.Module.{fileMost};
 ghost use Rattle.steps.specs.Step.{InstrumentIs};
 ghost use Rattle.writers.specs.Found.{instrumentAs};
-ghost use Rattle.instruments.specs.Instrument.{voiceIn, fieldsIn, headsIn};
+ghost use Rattle.instruments.specs.Instrument.{voiceIn, fieldsIn, headsCut};
 
 // `count` bytes of a structure of `size` bytes, from an offset on; those that are not there are 0.
 fn write_cut(file: &[u8], at: usize, size: usize, from: usize, count: usize, out: &mut [u8])
@@ -91,7 +91,7 @@ fn write_heads(file: &[u8], heads: usize, size: usize, count: usize, kept: usize
     requires { ⌜ heads + count * size ≤ length (now file) ⌝ }
     requires { ⌜ kept ≤ leastHead ⌝ }
     requires { ⌜ count * kept ≤ length (now out) ⌝ }
-    ensures { λ _. ⌜ now (out .exit) ≡ inFront (headsIn count size kept (drop heads (now (file .entry)))) (now (out .entry)) ⌝ }
+    ensures { λ _. ⌜ now (out .exit) ≡ inFront (headsCut count size kept (drop heads (now (file .entry)))) (now (out .entry)) ⌝ }
 {
     let mut head = heads;
     let mut to: usize = 0;

@@ -7,7 +7,7 @@ use native.Mathlib.Omega.{arith}
 use borrow.Author.Tests.{ltb-true, ltb-false, lt-ltb, le-ltb}
 use lib.Dec.{ltb}
 use lib.ListN.{length, getD, length-append}
-use Rattle.line.specs.Decimal.{lastDigit, decimalWithin, decimal, valueFrom, Tells}
+use Rattle.line.specs.Decimal.{lastDigit, decimalWithin, decimal, valueFrom, DecimalTells}
 
 -- A larger bound changes nothing
 within-same : (most more n : ℕ) → n ≤ most → n ≤ more → decimalWithin most n ≡ decimalWithin more n
@@ -64,7 +64,7 @@ some-digit n = go (ltb n 10) refl
     go true e = omega (arith, ap length (decimal-short n (ltb-true n 10 e)))
     go false e = omega (arith, decimal-longer n (ltb-false n 10 e))
 
-tells-short : (n : ℕ) → n < 10 → Tells n
+tells-short : (n : ℕ) → n < 10 → DecimalTells n
 tells-short n h =
     let d = decimal-short n h in
     record {
@@ -72,7 +72,7 @@ tells-short n h =
       front = λ z. let e : lastDigit n ≡ 48 = sym (ap (λ (s : List ℕ). getD s 0 0) d) ∙ z in omega (arith, e);
     }
 
-tells-long : (n : ℕ) → 10 ≤ n → Tells (n / 10) → Tells n
+tells-long : (n : ℕ) → 10 ≤ n → DecimalTells (n / 10) → DecimalTells n
 tells-long n h t =
     let d = decimal-long n h in
     record {
@@ -83,13 +83,13 @@ tells-long n h t =
           absurd (omega (arith, e));
     }
 
-tells-within : (most n : ℕ) → n ≤ most → Tells n
+tells-within : (most n : ℕ) → n ≤ most → DecimalTells n
 tells-within zero n h = tells-short n (omega arith)
 tells-within (suc most) n h = go (λ k. tells-within most (n / 10) k) (ltb n 10) refl
   where
-    go : (n / 10 ≤ most → Tells (n / 10)) → (b : Bool) → ltb n 10 ≡ b → Tells n
+    go : (n / 10 ≤ most → DecimalTells (n / 10)) → (b : Bool) → ltb n 10 ≡ b → DecimalTells n
     go tenth true e = tells-short n (ltb-true n 10 e)
     go tenth false e = let large = ltb-false n 10 e in tells-long n large (tenth (omega arith))
 
-pub decimal-tells : (n : ℕ) → Tells n
+pub decimal-tells : (n : ℕ) → DecimalTells n
 decimal-tells n = tells-within n n (omega arith)

@@ -9,7 +9,7 @@ use Rattle.xm.specs.Number.{Bytes}
 use Rattle.xm.specs.Got.{Got, got, refused, _at_}
 use Rattle.xm.specs.Answer.{Answer, gives, refuses, answered, numbers, inFront}
 use Rattle.xm.specs.Module.{Found, readFile}
-use Rattle.xm.specs.Table.{Checked, checkedAs, checking}
+use Rattle.xm.specs.Table.{CheckReport, checkedAs, checking}
 use Rattle.xm.specs.Structure.{structures}
 use Rattle.xm.proofs.Format.{cons-path}
 use Rattle.refusal.specs.Fault.{faultOf}
@@ -19,13 +19,13 @@ use Rattle.walk.specs.declared.Verdict.{Verdict}
 use Rattle.walk.specs.declared.Verdict.the-variants as verdict
 use Rattle.walk.specs.File.{verdictOf}
 use Rattle.reader.specs.declared.count.Counted.{Counted}
-use Rattle.reader.specs.Count.{countsOf, counting, countedOf, countedNumbers, countResults}
+use Rattle.reader.specs.Count.{structureCounts, counting, countedOf, countedNumbers, countResults}
 use Rattle.reader.proofs.Calls.{counted-numbers}
 use Rattle.line.specs.Line.{okWord, numbered, lineOf, listedMost, listing}
-use Rattle.line.specs.Filled.{refusedLine, countedLine, Fills}
+use Rattle.line.specs.Filled.{refusedLine, countedLine, LineFills}
 
 -- What is filled with a text is filled with an equal one
-pub filled-as : (text lent : List ℕ) {other held : List ℕ} {size : ℕ} → text ≡ other → Fills text lent size held → Fills other lent size held
+pub filled-as : (text lent : List ℕ) {other held : List ℕ} {size : ℕ} → text ≡ other → LineFills text lent size held → LineFills other lent size held
 filled-as text lent e f = (f .0 ∙ ap length e, (f .1 .0 ∙ ap (λ (text : List ℕ). inFront text lent) e, f .1 .1))
 
 never-accepted : {A : Type 0} {found : Module} {fault : Fault} → verdict.Accepted found ≡ verdict.Refused fault → A
@@ -34,14 +34,14 @@ never-accepted e = absurd (let z : _≡_ {A = ℕ} 0 1 = cc in omega arith)
 same-module : {a b : Module} → verdict.Accepted a ≡ verdict.Accepted b → a ≡ b
 same-module e = cc
 
-refused-text : (x : Answer Checked) {fault : Fault} → verdict.Refused fault ≡ verdictOf x → refusedLine fault ≡ lineOf x
+refused-text : (x : Answer CheckReport) {fault : Fault} → verdict.Refused fault ≡ verdictOf x → refusedLine fault ≡ lineOf x
 refused-text (gives c) e = never-accepted (sym e)
 refused-text (refuses r) e = ap refusedLine (cc)
 
 -- The small reader's counts are the check's
 counted-text : (g : Got Found) {found : Module} → verdict.Accepted found ≡ verdictOf (answered checkedAs g)
-    → countedNumbers (countedOf (answered (λ found end. countsOf (structures found)) g)) ≡ numbers countResults (answered checkedAs g)
-    → countedLine (found .end) (found .channels) (countedOf (answered (λ found end. countsOf (structures found)) g)) ≡ lineOf (answered checkedAs g)
+    → countedNumbers (countedOf (answered (λ found end. structureCounts (structures found)) g)) ≡ numbers countResults (answered checkedAs g)
+    → countedLine (found .end) (found .channels) (countedOf (answered (λ found end. structureCounts (structures found)) g)) ≡ lineOf (answered checkedAs g)
 counted-text (got f end) e n =
     let same = same-module e in
     ap (λ (ns : List ℕ). okWord ++ numbered ns) (cons-path (ap Module.end same) (cons-path (ap Module.channels same) (ap (drop 2) n)))

@@ -12,21 +12,21 @@ use Rattle.xm.specs.Lay.{lay}
 use Rattle.xm.proofs.Lay.{lay-front, lay-none, lay-lay, lay-one, length-lay}
 use Rattle.line.specs.Decimal.{lastDigit, decimal}
 use Rattle.line.specs.Line.{space, newline, numbered}
-use Rattle.line.specs.Filled.{Fills}
+use Rattle.line.specs.Filled.{LineFills}
 use Rattle.line.proofs.DecimalLaws.{decimal-short, decimal-long, decimal-longer, decimal-few}
 
 -- A piece stands at a place, and the next place is behind it
-abbrev pub Stands : (held : List ℕ) (at : ℕ) (piece : List ℕ) (next : ℕ) (out : List ℕ) → Type 0
-Stands held at piece next out = (next ≡ at + length piece) × (out ≡ lay held at piece)
+abbrev pub PieceStands : (held : List ℕ) (at : ℕ) (piece : List ℕ) (next : ℕ) (out : List ℕ) → Type 0
+PieceStands held at piece next out = (next ≡ at + length piece) × (out ≡ lay held at piece)
 
 module _ (held : List ℕ) (at : ℕ) where
   -- One byte
-  pub put-one : (byte : ℕ) → at < length held → Stands held at (byte ∷ []) (at + 1) (set held at byte)
+  pub put-one : (byte : ℕ) → at < length held → PieceStands held at (byte ∷ []) (at + 1) (set held at byte)
   put-one byte h = (refl, lay-one held at byte h)
 
   -- One piece behind another
   pub put-more : (piece later : List ℕ) {next end : ℕ} {mid out : List ℕ} → at + length piece + length later ≤ length held
-      → Stands held at piece next mid → Stands mid next later end out → Stands held at (piece ++ later) end out
+      → PieceStands held at piece next mid → PieceStands mid next later end out → PieceStands held at (piece ++ later) end out
   put-more piece later h s t = (
     omega (arith, s .0, t .0, length-append piece later),
     t .1 ∙ ap₂ (λ (l : List ℕ) (n : ℕ). lay l n later) (s .1) (s .0) ∙ lay-lay held at piece later h,
@@ -34,13 +34,13 @@ module _ (held : List ℕ) (at : ℕ) where
 
   -- A number below 10, and another
   pub put-short : (n digit : ℕ) → digit ≡ lastDigit n → n < 10 → at + length (decimal n) ≤ length held
-      → Stands held at (decimal n) (at + 1) (set held at digit)
+      → PieceStands held at (decimal n) (at + 1) (set held at digit)
   put-short n digit same h room =
       let e : decimal n ≡ digit ∷ [] = decimal-short n h ∙ ap (λ (d : ℕ). d ∷ []) (sym same) in
       rw e (put-one digit (omega (arith, ap length e)))
 
   pub put-long : (n digit : ℕ) {last : ℕ} {mid : List ℕ} → digit ≡ lastDigit n → 10 ≤ n → at + length (decimal n) ≤ length held
-      → Stands held at (decimal (n / 10)) last mid → Stands held at (decimal n) (last + 1) (set mid last digit)
+      → PieceStands held at (decimal (n / 10)) last mid → PieceStands held at (decimal n) (last + 1) (set mid last digit)
   put-long n digit {last} {mid} same h room s =
       let e : decimal n ≡ decimal (n / 10) ++ (digit ∷ []) = decimal-long n h ∙ ap (λ (d : ℕ). decimal (n / 10) ++ (d ∷ [])) (sym same) in
       let few = decimal-longer n h in
@@ -48,16 +48,16 @@ module _ (held : List ℕ) (at : ℕ) where
       rw e (put-more (decimal (n / 10)) (digit ∷ []) (omega (arith, few)) s (refl, lay-one mid last digit (omega (arith, s .0, few, kept))))
 
 -- Some of the numbers are written, up to `next`
-pub record Written (held : List ℕ) (at : ℕ) (numbers : List ℕ) (done next : ℕ) (line : List ℕ) : Type 0 where
+pub record NumbersWritten (held : List ℕ) (at : ℕ) (numbers : List ℕ) (done next : ℕ) (line : List ℕ) : Type 0 where
   pub front : List ℕ
-  pub stands : Stands held at front next line
+  pub stands : PieceStands held at front next line
   pub whole : numbered numbers ≡ front ++ numbered (drop done numbers)
 
 module _ (held : List ℕ) (at : ℕ) (numbers : List ℕ) where
-  pub written-none : Written held at numbers 0 at held
+  pub written-none : NumbersWritten held at numbers 0 at held
   written-none = record { front = []; stands = (omega arith, sym (lay-none held at)); whole = refl }
 
-  module _ {done next : ℕ} {line : List ℕ} (w : Written held at numbers done next line) where
+  module _ {done next : ℕ} {line : List ℕ} (w : NumbersWritten held at numbers done next line) where
     -- what is left has room
     pub written-left : next + length (numbered (drop done numbers)) ≡ at + length (numbered numbers)
     written-left = omega (arith, w .stands .0, ap length (w .whole), length-append (w .front) (numbered (drop done numbers)))
@@ -80,12 +80,12 @@ module _ (held : List ℕ) (at : ℕ) (numbers : List ℕ) where
             length-append (space ∷ decimal (getD numbers done 0)) (numbered (drop (done + 1) numbers)),
           )
 
-      pub written-more : done < length numbers → {end : ℕ} {out : List ℕ} → Stands (set line next space) (next + 1) (decimal (getD numbers done 0)) end out
-          → Written held at numbers (done + 1) end out
+      pub written-more : done < length numbers → {end : ℕ} {out : List ℕ} → PieceStands (set line next space) (next + 1) (decimal (getD numbers done 0)) end out
+          → NumbersWritten held at numbers (done + 1) end out
       written-more h {end} {out} s =
           let n = decimal (getD numbers done 0) in
           let fits = written-next h in
-          let one : Stands line next (space ∷ n) end out =
+          let one : PieceStands line next (space ∷ n) end out =
           put-more line next (space ∷ []) n (omega (arith, fits)) (put-one line next space (omega (arith, fits))) s in
           record {
             front = w .front ++ (space ∷ n);
@@ -98,7 +98,7 @@ module _ (held : List ℕ) (at : ℕ) (numbers : List ℕ) where
       pub written-last : length numbers ≤ done → next < length line
       written-last h = omega (arith, written-kept, written-left, ap (λ (left : List ℕ). length (numbered left)) (drop-of-length-le numbers h))
 
-      pub written-done : length numbers ≤ done → Stands held at (numbered numbers) (next + 1) (set line next newline)
+      pub written-done : length numbers ≤ done → PieceStands held at (numbered numbers) (next + 1) (set line next newline)
       written-done h =
           let last : numbered (drop done numbers) ≡ newline ∷ [] = ap numbered (drop-of-length-le numbers h) in
           let one = put-one line next newline (written-last h) in
@@ -112,7 +112,7 @@ numbered-few (n ∷ ns) h = omega (arith, length-append (decimal n) (numbered ns
 -- A word in front, and numbers behind it
 pub put-whole : (held word numbers : List ℕ) {at end : ℕ} {mid out : List ℕ} → length (word ++ numbered numbers) ≤ length held
     → at ≡ length word → mid ≡ inFront word held
-    → Stands mid at (numbered numbers) end out → Fills (word ++ numbered numbers) held end out
+    → PieceStands mid at (numbered numbers) end out → LineFills (word ++ numbered numbers) held end out
 put-whole held word numbers {end = end} {out = out} h n m s =
     let t = put-more held 0 word (numbered numbers) (omega (arith, length-append word (numbered numbers))) (omega arith, m ∙ sym (lay-front held word)) s in
     let kept : length out ≡ length held = ap length (t .1) ∙ length-lay held 0 (word ++ numbered numbers) (omega arith) in

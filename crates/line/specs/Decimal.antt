@@ -23,6 +23,6 @@ valueFrom so [] = so
 valueFrom so (digit ∷ digits) = valueFrom (so * 10 + (digit - 48)) digits
 
 -- The digits stand for the number, and a zero in front is the number 0.
-pub record Tells (n : ℕ) : Type 0 where
+pub record DecimalTells (n : ℕ) : Type 0 where
   pub value : valueFrom 0 (decimal n) ≡ n
   pub front : getD (decimal n) 0 0 ≡ 48 → n ≡ 0

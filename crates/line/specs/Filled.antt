@@ -26,5 +26,5 @@ abbrev pub Front : (count : ℕ) (held : List ℕ) → Type 0
 Front count held = (count ≤ length held) × (count ≡ length (take count held))
 
 -- A text fills the front of what was lent.
-abbrev pub Fills : (text lent : List ℕ) (count : ℕ) (held : List ℕ) → Type 0
-Fills text lent count held = (count ≡ length text) × ((held ≡ inFront text lent) × Front count held)
+abbrev pub LineFills : (text lent : List ℕ) (count : ℕ) (held : List ℕ) → Type 0
+LineFills text lent count held = (count ≡ length text) × ((held ≡ inFront text lent) × Front count held)

@@ -6,7 +6,7 @@ use lib.Dec.{leb}
 use lib.ListN.{length}
 use Rattle.xm.specs.Got.{_at_}
 use Rattle.xm.specs.Answer.{Answer, gives, refuses}
-use Rattle.xm.specs.Table.{Checked, checkResults, checking}
+use Rattle.xm.specs.Table.{CheckReport, checkResults, checking}
 use Rattle.line.specs.Decimal.{decimal}
 
 abbrev pub space : ℕ
@@ -26,7 +26,7 @@ abbrev pub numbered : List ℕ → List ℕ
 numbered [] = newline ∷ []
 numbered (n ∷ ns) = space ∷ (decimal n ++ numbered ns)
 
-abbrev pub lineOf : Answer Checked → List ℕ
+abbrev pub lineOf : Answer CheckReport → List ℕ
 lineOf (gives c) = okWord ++ numbered (map (λ result. result c) checkResults)
 lineOf (refuses r) = refusedWord ++ numbered (r .number ∷ r .place ∷ [])
 
@@ -34,5 +34,5 @@ lineOf (refuses r) = refusedWord ++ numbered (r .number ∷ r .place ∷ [])
 abbrev pub listedMost : ℕ
 listedMost = 65535
 
-unfoldable pub listing : (input : List ℕ) → Answer Checked
+unfoldable pub listing : (input : List ℕ) → Answer CheckReport
 listing input = cond (leb (length input) listedMost) (checking input) (refuses (2 at 0))

@@ -9,7 +9,7 @@ use Rattle.xm.specs.Number.{Bytes}
 use Rattle.xm.specs.Got.{Refusal}
 use Rattle.xm.specs.Answer.{Answer, gives, refuses, loaderNumber}
 use Rattle.xm.specs.Stored.{Pattern}
-use Rattle.xm.specs.Table.{Checked, checking, checkLoader, checkingInto, checkIntoLoader, Tables, roomOf}
+use Rattle.xm.specs.Table.{CheckReport, checking, checkLoader, checkingInto, checkIntoLoader, Tables, roomOf}
 use Rattle.xm.specs.Packing.{rowsRead, lengthAndRows, unpacking, unpackLoader, packing, packLoader}
 use Rattle.xm.specs.ModuleKind.{ModuleKind}
 use Rattle.xm.specs.Press.{pressedLength, pressing, pressLoader}
@@ -41,7 +41,7 @@ fits : {A : Type 0} (value : A → ℕ) (answer : Answer A) (number : ℕ) → L
 fits value (gives a) number tells most = omega (arith, tells .accepted a refl .1)
 fits value (refuses r) number tells most = omega (arith, most r refl, tells .refused r refl .1)
 
-check-cases : (answer : Answer Checked) → checkNumber (verdictOf answer) ≡ loaderNumber Checked.end answer
+check-cases : (answer : Answer CheckReport) → checkNumber (verdictOf answer) ≡ loaderNumber CheckReport.end answer
 unfolding loaderNumber
 check-cases (gives c) = refl
 check-cases (refuses r) = refl
@@ -82,7 +82,7 @@ module _ (file : List ℕ) {verdict : Verdict} (met : verdict ≡ verdictOf (che
 
   pub check-fits : Bytes file → checkNumber verdict < 2 ^ 64
   check-fits b =
-      rw check-same (fits Checked.end (checking file) (checkLoader file) (loaders-tell .check file b) (λ r e. omega (arith, demand₁ .check file r b e .0 .1)))
+      rw check-same (fits CheckReport.end (checking file) (checkLoader file) (loaders-tell .check file b) (λ r e. omega (arith, demand₁ .check file r b e .0 .1)))
 
 module _ (rows channels : ℕ) (stored : List ℕ) (room : ℕ) {unpacked : Unpacked} (met : unpacked ≡ unpackedOf (unpacking rows channels stored room)) where
   pub unpack-same : unpackNumber unpacked ≡ unpackLoader rows channels stored room
@@ -127,7 +127,7 @@ module _ (file : List ℕ) (lent : Tables) {verdict : Verdict} (met : verdict �
 
   pub tables-fits : Bytes file → checkNumber verdict < 2 ^ 64
   tables-fits b =
-      rw tables-same (fits Checked.end (checkingInto (roomOf lent) file) (checkIntoLoader (roomOf lent) file) (loaders-tell .tables (roomOf lent) file b)
+      rw tables-same (fits CheckReport.end (checkingInto (roomOf lent) file) (checkIntoLoader (roomOf lent) file) (loaders-tell .tables (roomOf lent) file b)
       (λ r e. demand₁ .tables file lent b .numbered r e .1))
 
 module _ (width : ℕ) (bytes : List ℕ) (room : ℕ) {decoded : Decoded} (met : decoded ≡ decodeAnswer (decodingLimited width bytes room)) where

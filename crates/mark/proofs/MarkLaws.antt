@@ -14,7 +14,7 @@ use Rattle.xm.specs.PatternInFile.{PatternFound}
 use Rattle.xm.proofs.Got.{no-true}
 use Rattle.xm.proofs.Format.{cons-path}
 use Rattle.measure.specs.Measure.{sameBytes}
-use Rattle.mark.specs.Mark.{again, copied, nothing, markBy, Marked, twoAt, withTwo, bitsOf, markAt, Put, Marks}
+use Rattle.mark.specs.Mark.{again, copied, nothing, markBy, Marked, twoAt, withTwo, bitsOf, patternMark, Put, Marks}
 use Rattle.mark.proofs.Word.{two-put, two-lower, two-higher}
 
 same-equal : (xs ys : List ℕ) → sameBytes xs ys ≡ true → xs ≡ ys
@@ -78,7 +78,7 @@ module _ (marks : List ℕ) (number mark : ℕ) (small : mark < 4) (inside : num
   there : getD (set marks (number / 32) word) (number / 32) 0 ≡ word
   there = getD-set-same marks (number / 32) word 0 inside
 
-  kept : (other : ℕ) → (other ≡ number → ⊥) → markAt (set marks (number / 32) word) other ≡ markAt marks other
+  kept : (other : ℕ) → (other ≡ number → ⊥) → patternMark (set marks (number / 32) word) other ≡ patternMark marks other
   kept other apart = go (eqb (other / 32) (number / 32)) refl
     where
       stays : (below : Bool) → ltb other number ≡ below → other / 32 ≡ number / 32
@@ -86,7 +86,7 @@ module _ (marks : List ℕ) (number mark : ℕ) (small : mark < 4) (inside : num
       stays true l q = two-lower _ _ _ small (bitsOf other) (omega (arith, ltb-true other number l))
       stays false l q = two-higher _ _ _ small (bitsOf other) (omega (arith, ltb-false other number l, apart))
 
-      go : (same : Bool) → eqb (other / 32) (number / 32) ≡ same → markAt (set marks (number / 32) word) other ≡ markAt marks other
+      go : (same : Bool) → eqb (other / 32) (number / 32) ≡ same → patternMark (set marks (number / 32) word) other ≡ patternMark marks other
       go false e = ap (λ (n : ℕ). twoAt n (bitsOf other)) (getD-set-other marks (number / 32) (other / 32) word 0 (eqb-false _ _ e))
       go true e = let q = eqb-true (other / 32) (number / 32) e in rw (q, there) (stays (ltb other number) refl q)
 
@@ -97,6 +97,6 @@ module _ (marks : List ℕ) (number mark : ℕ) (small : mark < 4) (inside : num
 pub marks-more : (file : List ℕ) (first : ℕ) (done : List PatternFound) {marks after : List ℕ} {i : PatternFound} {number mark : ℕ}
     → number ≡ first + length done → Put marks number mark after
     → Marks file first done marks → Marked file i mark → Marks file first (done ++ (i ∷ [])) after
-marks-more file first [] {after = after} e p m t = (record { is = ap (markAt after) (omega arith) ∙ p .put ∙ t .is }, tt)
+marks-more file first [] {after = after} e p m t = (record { is = ap (patternMark after) (omega arith) ∙ p .put ∙ t .is }, tt)
 marks-more file first (d ∷ done) e p m t =
     (record { is = p .kept first (λ q. omega arith) ∙ m .0 .is }, marks-more file (suc first) done (omega arith) p (m .1) t)

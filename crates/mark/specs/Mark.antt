@@ -39,16 +39,16 @@ withTwo word bits two = word - twoAt word bits * 2 ^ bits + two * 2 ^ bits
 abbrev pub bitsOf : (number : ℕ) → ℕ
 bitsOf number = number % 32 * 2
 
-abbrev pub markAt : (marks : List ℕ) (number : ℕ) → ℕ
-markAt marks number = twoAt (getD marks (number / 32) 0) (bitsOf number)
+abbrev pub patternMark : (marks : List ℕ) (number : ℕ) → ℕ
+patternMark marks number = twoAt (getD marks (number / 32) 0) (bitsOf number)
 
 -- The mark put is the mark found there, and the others stay.
 pub record Put (marks : List ℕ) (number mark : ℕ) (after : List ℕ) : Type 0 where
   pub size : length after ≡ length marks
-  pub put : markAt after number ≡ mark
-  pub kept : (other : ℕ) → (other ≡ number → ⊥) → markAt after other ≡ markAt marks other
+  pub put : patternMark after number ≡ mark
+  pub kept : (other : ℕ) → (other ≡ number → ⊥) → patternMark after other ≡ patternMark marks other
 
 -- The patterns from a number on are marked, in their order.
 abbrev pub Marks : (file : List ℕ) (first : ℕ) → List PatternFound → (marks : List ℕ) → Type 0
 Marks file first [] marks = Unit {0}
-Marks file first (i ∷ is) marks = Marked file i (markAt marks first) × Marks file (suc first) is marks
+Marks file first (i ∷ is) marks = Marked file i (patternMark marks first) × Marks file (suc first) is marks

@@ -2,7 +2,7 @@
 ghost use mathlib.Core.Path.{_≡_};
 ghost use Prim.Native.Nat.{_≤_, _<_};
 ghost use lib.ListN.{length};
-ghost use Rattle.mark.specs.Mark.{markBy, withTwo, bitsOf, markAt, Put};
+ghost use Rattle.mark.specs.Mark.{markBy, withTwo, bitsOf, patternMark, Put};
 
 // A second pass writes the cells again, copies them as they stand, or writes nothing.
 pub const AGAIN: u64 = 0;
@@ -34,7 +34,7 @@ fn bits_of(number: usize) -> u64
 // A pattern's mark.
 pub fn mark_at(marks: &[u64; 8], number: usize) -> u64
     requires { ⌜ number < 256 ⌝ }
-    ensures { λ r. ⌜ r ≡ markAt (now (marks .entry)) number ⌝ }
+    ensures { λ r. ⌜ r ≡ patternMark (now (marks .entry)) number ⌝ }
 {
     (marks[number / 32] >> bits_of(number)) % 4
 }

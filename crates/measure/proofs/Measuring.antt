@@ -21,7 +21,7 @@ use Rattle.xm.proofs.Lay.{head-at}
 use Rattle.xm.proofs.Short.{shortest-by, short-by, short-exact}
 use Rattle.xm.proofs.Row.{row-read}
 use Rattle.refusal.specs.Fault.{faultOf}
-use Rattle.cell.proofs.ReadRows.{onto, row-more, row-stop}
+use Rattle.cell.proofs.ReadRows.{cellOnto, row-more, row-stop}
 use Rattle.measure.specs.declared.StoredStep.{StoredStep}
 use Rattle.measure.specs.declared.StoredStep.the-variants.{Read, Refused}
 use Rattle.measure.specs.Measure.{sameBytes, measuredOn}
@@ -83,7 +83,7 @@ measured-more s left used shortest same some {cell} {k} e =
     r = cell-read used d cell k e
 
     go : (g : Got (List (List ℕ))) → readRow (left - 1) (used + k) (drop (used + k) s) ≡ g
-        → measuredOn used shortest same d (onto cell k g)
+        → measuredOn used shortest same d (cellOnto cell k g)
         ≡ measuredOn (used + k) (shortest + length (writeCell cell)) (same && isShort d) (drop (used + k) s) g
     go (refused r) q = refl
     go (got js m) q =

@@ -162,9 +162,9 @@ module _ {s : List ℕ} {answer : StoredStep} {count : ℕ} (bytes : (i : ℕ) �
             move (weighing-one v (omega arith) (omega arith) first) (e .1) (omega (arith, e .0)) (omega (arith, e .0)) refl
 
 -- A block with some bytes has one cell or more
-pub block-less : (lengths weights : List ℕ) (size left extra odd : ℕ) {walk : Weigh} → 0 < size → 0 < left
+pub weighed-less : (lengths weights : List ℕ) (size left extra odd : ℕ) {walk : Weigh} → 0 < size → 0 < left
     → walk ≡ weighOf (weighed lengths weights size left 0 extra odd) → walk .left < left
-block-less lengths weights size left extra odd h k e = rw e (walked-some (added weights) lengths size left (record { extra = extra; odd = odd }) h k)
+weighed-less lengths weights size left extra odd h k e = rw e (walked-some (added weights) lengths size left (record { extra = extra; odd = odd }) h k)
 
 -- What was skipped, as a weighing, and the other way round
 pub skip-start : (s : List ℕ) (count : ℕ) (r : Skip) → Skipped s count r

@@ -28,7 +28,7 @@ pub form-path : {size size′ rows rows′ : ℕ} → size ≡ size′ → rows 
 form-path p q = cc
 
 -- The tests for 16 and for 15 hold, and the length is known
-pub record Sized (rows channels : ℕ) (cells : List ℕ) (size : ℕ) : Type 0 where
+pub record CellsSized (rows channels : ℕ) (cells : List ℕ) (size : ℕ) : Type 0 where
   pub range : PackRange rows channels cells
   pub small : size ≤ dataMost
   pub long : size ≡ length (writeStored (patternOf rows channels cells))
@@ -42,14 +42,14 @@ size-most count shortest = go (eqb shortest count)
     go false = omega arith
 
 pub sized : (rows channels : ℕ) (cells : List ℕ) → PackRange rows channels cells → {shortest size : ℕ} → shortest ≤ dataMost
-    → shortest ≡ length (joined writeCell (cellsOf (rows * channels) cells)) → size ≡ sizeBy (rows * channels) shortest → Sized rows channels cells size
+    → shortest ≡ length (joined writeCell (cellsOf (rows * channels) cells)) → size ≡ sizeBy (rows * channels) shortest → CellsSized rows channels cells size
 sized rows channels cells range {shortest} h k l = record {
   range = range;
   small = omega (arith, size-most (rows * channels) shortest);
   long = l ∙ ap₂ sizeBy (sym (cells-length (rows * channels) cells)) k ∙ size-by (patternOf rows channels cells) (cells-fives (rows * channels) cells);
 }
 
-pub sized-cells : {rows channels : ℕ} {cells : List ℕ} {size : ℕ} → Sized rows channels cells size → 0 < size
+pub sized-cells : {rows channels : ℕ} {cells : List ℕ} {size : ℕ} → CellsSized rows channels cells size → 0 < size
     → size ≡ length (joined writeCell (cellsOf (rows * channels) cells))
 sized-cells {rows} {channels} {cells} s h = s .long ∙ ap length (stored-cells (patternOf rows channels cells) (omega (arith, s .long)))
 
@@ -79,7 +79,7 @@ module _ (rows channels : ℕ) (cells lent : List ℕ) where
       → dataMost < length (joined writeCell (cellsOf (rows * channels) cells)) → Packs answer lent
   packs-large range a h = packs-refused (pack-size rows channels cells (length lent) range (large rows channels cells range h)) a
 
-  module _ {size : ℕ} (s : Sized rows channels cells size) where
+  module _ {size : ℕ} (s : CellsSized rows channels cells size) where
     pub packs-narrow : {answer : Packed} → answer ≡ packedOf (refuses (14 at 0)) → length lent < size → Packs answer lent
     packs-narrow a h = packs-refused (pack-room rows channels cells (length lent) (s .range) (omega (arith, s .small, s .long)) (omega (arith, s .long))) a
 
@@ -100,5 +100,5 @@ module _ (rows channels : ℕ) (cells lent : List ℕ) where
         packs-stored room out a (o ∙ sym (ap (λ (w : List ℕ). inFront w lent) (stored-cells (patternOf rows channels cells) (omega (arith, s .long)))))
 
   -- Whatever meets the contract is the same
-  pub packs-once : {a b : Packed} {x y : List ℕ} → Packs a x → Packs b y → (a ≡ b) × (x ≡ y)
-  packs-once g h = (g .0 ∙ sym (h .0), g .1 ∙ sym (h .1))
+  pub pack-once : {a b : Packed} {x y : List ℕ} → Packs a x → Packs b y → (a ≡ b) × (x ≡ y)
+  pack-once g h = (g .0 ∙ sym (h .0), g .1 ∙ sym (h .1))

@@ -17,18 +17,18 @@ use Rattle.packing.specs.Packed.{LimitedLength}
 use Rattle.packing.proofs.Lent.{lent-first, lent-none, lent-most}
 
 -- The state of the loop: `left` cells are still to be measured, from `place` on
-pub record Measuring (cells : List ℕ) (count place shortest left : ℕ) : Type 0 where
+pub record LentMeasuring (cells : List ℕ) (count place shortest left : ℕ) : Type 0 where
   pub inside : place + left * 5 ≤ length cells
   pub bytes : shortest + length (joined writeCell (cellsOf left (drop place cells))) ≡ length (joined writeCell (cellsOf count cells))
 
-pub measuring-none : (cells : List ℕ) (count : ℕ) → count * 5 ≤ length cells → Measuring cells count 0 0 count
+pub measuring-none : (cells : List ℕ) (count : ℕ) → count * 5 ≤ length cells → LentMeasuring cells count 0 0 count
 measuring-none cells count h = record { inside = omega arith; bytes = omega arith }
 
 -- A cell keeps five fields at most
-pub kept-five : (s : List ℕ) {kept : ℕ} → kept ≡ length (kepts (five s)) → kept ≤ 5
-kept-five s e = omega (arith, kepts-most (five s))
+pub lent-kept-five : (s : List ℕ) {kept : ℕ} → kept ≡ length (kepts (five s)) → kept ≤ 5
+lent-kept-five s e = omega (arith, kepts-most (five s))
 
-module _ {cells : List ℕ} {count place shortest left : ℕ} (m : Measuring cells count place shortest left) where
+module _ {cells : List ℕ} {count place shortest left : ℕ} (m : LentMeasuring cells count place shortest left) where
   pub measuring-done : (shortest ≤ dataMost → left ≡ 0) → LimitedLength (length (joined writeCell (cellsOf count cells))) shortest
   measuring-done none = record {
     exact = λ h. omega (arith, m .bytes, ap (λ r. length (joined writeCell r)) (lent-none left (drop place cells) (none h)));
@@ -48,5 +48,5 @@ module _ {cells : List ℕ} {count place shortest left : ℕ} (m : Measuring cel
     pub measuring-small : shortest + used ≤ count * cellMost
     measuring-small = omega (arith, more-bytes, lent-most count cells)
 
-    pub measuring-more : Measuring cells count (place + 5) (shortest + used) (left - 1)
+    pub measuring-more : LentMeasuring cells count (place + 5) (shortest + used) (left - 1)
     measuring-more = record { inside = omega (arith, m .inside); bytes = more-bytes }

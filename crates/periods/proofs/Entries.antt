@@ -10,7 +10,7 @@ use lib.Pow.{pow-mono}
 use borrow.Author.Tests.{ltb-true, eqb-true}
 use Rattle.periods.specs.Period.{periodTab, doubled, sumAt, entryE, tableSize}
 use Rattle.periods.specs.Promise.{tabEntry, FollowsRule, FallsStrictly}
-use Rattle.periods.proofs.Tabulate.{all, each}
+use Rattle.periods.proofs.Tabulate.{allFrom, each-from}
 
 -- One after the other: a test that is computed at all of them
 lower : ℕ → Bool
@@ -18,7 +18,7 @@ lower place = ltb (entryE (suc place)) (entryE place)
 
 falls-once : (place : ℕ) → place < 1535 → entryE (suc place) < entryE place
 unfolding lower entryE sumAt doubled periodTab
-falls-once place h = ltb-true (entryE (suc place)) (entryE place) (subst (λ (k : ℕ). lower k ≡ true) (zero-add place) (each lower 0 1535 place refl h))
+falls-once place h = ltb-true (entryE (suc place)) (entryE place) (subst (λ (k : ℕ). lower k ≡ true) (zero-add place) (each-from lower 0 1535 place refl h))
 
 -- And so all those after it
 falls-by : (place more : ℕ) → place + suc more < tableSize → entryE (place + suc more) < entryE place
@@ -49,7 +49,7 @@ whole p = eqb (getD doubled p 0) (2 * tabEntry p)
 
 doubled-whole : (p : ℕ) → p < 96 → getD doubled p 0 ≡ 2 * tabEntry p
 unfolding whole doubled periodTab
-doubled-whole p h = eqb-true (getD doubled p 0) (2 * tabEntry p) (subst (λ (k : ℕ). whole k ≡ true) (zero-add p) (each whole 0 96 p refl h))
+doubled-whole p h = eqb-true (getD doubled p 0) (2 * tabEntry p) (subst (λ (k : ℕ). whole k ≡ true) (zero-add p) (each-from whole 0 96 p refl h))
 
 twice-sum : (a b m n : ℕ) → 2 * a * m + 2 * b * n ≡ 2 * (a * m + b * n)
 twice-sum a b m n = rw (mul-assoc 2 a m, mul-assoc 2 b n, mul-add 2 (a * m) (b * n))

@@ -17,13 +17,13 @@ tabulated rule from (suc count) (suc k) h =
     tabulated rule (suc from) count k (le-of-suc-le-suc h) ∙ ap rule (suc-add from k ∙ sym (add-suc from k))
 
 -- The test passes at `from` and the places after it, as many as are counted
-abbrev pub all : (test : ℕ → Bool) (from count : ℕ) → Bool
-all test from zero = true
-all test from (suc count) = test from && all test (suc from) count
+abbrev pub allFrom : (test : ℕ → Bool) (from count : ℕ) → Bool
+allFrom test from zero = true
+allFrom test from (suc count) = test from && allFrom test (suc from) count
 
-pub each : (test : ℕ → Bool) (from count k : ℕ) → all test from count ≡ true → k < count → test (from + k) ≡ true
-each test from zero k passed h = absurd (not-suc-le-zero h)
-each test from (suc count) zero passed h = ap test (add-zero from) ∙ and-eq-true-iff (test from) (all test (suc from) count) .0 passed .0
-each test from (suc count) (suc k) passed h =
+pub each-from : (test : ℕ → Bool) (from count k : ℕ) → allFrom test from count ≡ true → k < count → test (from + k) ≡ true
+each-from test from zero k passed h = absurd (not-suc-le-zero h)
+each-from test from (suc count) zero passed h = ap test (add-zero from) ∙ and-eq-true-iff (test from) (allFrom test (suc from) count) .0 passed .0
+each-from test from (suc count) (suc k) passed h =
     ap test (add-suc from k ∙ sym (suc-add from k))
-    ∙ each test (suc from) count k (and-eq-true-iff (test from) (all test (suc from) count) .0 passed .1) (le-of-suc-le-suc h)
+    ∙ each-from test (suc from) count k (and-eq-true-iff (test from) (allFrom test (suc from) count) .0 passed .1) (le-of-suc-le-suc h)

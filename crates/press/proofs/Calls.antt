@@ -51,14 +51,14 @@ module _ (fixed : Answer (List ℕ)) (lent : List ℕ) {answer : Pressed} {held 
       subst₂ P (sym (fixed-numbers ∙ ap (numbers (pressedLength ∷ [])) e)) (sym (p .1 ∙ ap (λ (x : Answer (List ℕ)). after (λ (b : List ℕ). b) x lent) e))
 
 -- One answer, one memory
-pub press-one : (file lent : List ℕ) {answer other : Pressed} {held kept : List ℕ} → Presses file lent answer held → Presses file lent other kept
+pub press-once : (file lent : List ℕ) {answer other : Pressed} {held kept : List ℕ} → Presses file lent answer held → Presses file lent other kept
     → (answer ≡ other) × (held ≡ kept)
-press-one file lent p q = (p .0 ∙ sym (q .0), p .1 ∙ sym (q .1))
+press-once file lent p q = (p .0 ∙ sym (q .0), p .1 ∙ sym (q .1))
 
-pub convert-one : (to : ModuleKind) (file lent : List ℕ) {answer other : Pressed} {held kept : List ℕ}
+pub convert-once : (to : ModuleKind) (file lent : List ℕ) {answer other : Pressed} {held kept : List ℕ}
     → Converts to file lent answer held → Converts to file lent other kept
     → (answer ≡ other) × (held ≡ kept)
-convert-one to file lent p q = (p .0 ∙ sym (q .0), p .1 ∙ sym (q .1))
+convert-once to file lent p q = (p .0 ∙ sym (q .0), p .1 ∙ sym (q .1))
 
 -- The numbers are the paper's
 pub press-numbers : (file lent : List ℕ) {answer : Pressed} {held : List ℕ} → Presses file lent answer held

@@ -27,7 +27,7 @@ use Rattle.steps.specs.declared.header.HeaderPart.{HeaderPart}
 use Rattle.writers.specs.Found.{readAt, pressedAt, endOf}
 use Rattle.writers.specs.Header.{trackerBy, headerWith}
 use Rattle.writers.proofs.HeaderLaws.{table-size, tracker-size, header-size}
-use Rattle.press.specs.Module.{reachedOf, instrumentsRead, instrumentsAs, headerKept, contentKept, writtenFile}
+use Rattle.press.specs.Module.{patternsReached, instrumentsRead, instrumentsAs, headerKept, contentKept, writtenFile}
 
 three-long : (a b c : List ℕ) → length (a ++ (b ++ c)) ≡ length a + (length b + length c)
 three-long a b c = simp length-append
@@ -151,7 +151,7 @@ module _ (file marks : List ℕ) where
       rows = pressedAt (each patternFormat) (replicate (head .patterns) (head .channels)) file (head .start)
 
       abbrev last : ℕ
-      last = reachedOf file (head .start) (head .channels) (head .patterns) .place
+      last = patternsReached file (head .start) (head .channels) (head .patterns) .place
 
       pub record ModuleLies : Type 0 where
         pub small : length file ≤ fileMost

@@ -14,7 +14,7 @@ use Rattle.xm.specs.Answer.{inFront}
 use Rattle.xm.specs.Header.{kindAt}
 use Rattle.xm.specs.PatternInFile.{PatternFound, patternFormat}
 use Rattle.xm.specs.Instrument.{Instrument, InstrumentFound, readInstrument, instrumentFormat}
-use Rattle.mark.specs.Mark.{Marked, markAt, Marks}
+use Rattle.mark.specs.Mark.{Marked, patternMark, Marks}
 use Rattle.steps.specs.Step.{instrumentStep, InstrumentIs}
 use Rattle.steps.specs.declared.instrument.InstrumentPart.{InstrumentPart}
 use Rattle.steps.specs.declared.instrument.InstrumentStep.{InstrumentStep}
@@ -63,13 +63,13 @@ module _ (file lent : List ℕ) (at channels count : ℕ) (marks : List ℕ) whe
       some : 0 < w .left
       some = omega (arith, w .sum)
 
-      first-marked : Marked file (each-first patternFormat patternFormat channels file lent goal end (w .writes) some .part) (markAt marks done)
+      first-marked : Marked file (each-first patternFormat patternFormat channels file lent goal end (w .writes) some .part) (patternMark marks done)
           × Marks file (suc done) (each-first patternFormat patternFormat channels file lent goal end (w .writes) some .later) marks
       first-marked = rw (each-first patternFormat patternFormat channels file lent goal end (w .writes) some .first) at (w .marked)
 
-      pub pattern-told : {mark : ℕ} → mark ≡ markAt marks done → Told (λ i. Marked file i mark) (readAt patternFormat channels file place)
+      pub pattern-told : {mark : ℕ} → mark ≡ patternMark marks done → Told (λ i. Marked file i mark) (readAt patternFormat channels file place)
       pattern-told e =
-          rw e (got-told (λ i. Marked file i (markAt marks done)) (each-first patternFormat patternFormat channels file lent goal end (w .writes) some .read)
+          rw e (got-told (λ i. Marked file i (patternMark marks done)) (each-first patternFormat patternFormat channels file lent goal end (w .writes) some .read)
           (first-marked .0))
 
       pub pattern-room : to + length (pressedAt patternFormat channels file place) ≤ length out

@@ -16,8 +16,8 @@ use Rattle.writers.specs.Found.{readAt, writtenAt, pressedAt, endOf}
 use Rattle.press.specs.declared.module.Reached.{Reached}
 
 -- How far `count` patterns from a place on reach, and how much is written of them.
-abbrev pub reachedOf : (file : List ℕ) (place channels count : ℕ) → Reached
-reachedOf file place channels count = record {
+abbrev pub patternsReached : (file : List ℕ) (place channels count : ℕ) → Reached
+patternsReached file place channels count = record {
   place = endOf place (readAt (each patternFormat) (replicate count channels) file place);
   written = length (pressedAt (each patternFormat) (replicate count channels) file place);
 }

@@ -24,7 +24,7 @@ ghost use Rattle.xm.specs.PatternInFile.{patternFormat};
 ghost use Rattle.xm.specs.Module.{fileMost, readFile};
 ghost use Rattle.mark.specs.Mark.{Marks};
 ghost use Rattle.writers.specs.Found.{readAt, pressedAt};
-ghost use Rattle.press.specs.Module.{reachedOf, instrumentsRead, instrumentsAs, writtenFile};
+ghost use Rattle.press.specs.Module.{patternsReached, instrumentsRead, instrumentsAs, writtenFile};
 
 // How far the patterns reach: in the file, and in what is written of them.
 pub struct Reached {
@@ -45,7 +45,7 @@ fn write_patterns(
     requires { ⌜ count ≤ 256 ⌝ }
     requires { ⌜ Told (λ is. Marks (now file) 0 is (now marks)) (readAt (each patternFormat) (replicate count channels) (now file) at) ⌝ }
     requires { ⌜ length (pressedAt (each patternFormat) (replicate count channels) (now file) at) ≤ length (now out) ⌝ }
-    ensures { λ r. ⌜ r ≡ reachedOf (now (file .entry)) at channels count ⌝ }
+    ensures { λ r. ⌜ r ≡ patternsReached (now (file .entry)) at channels count ⌝ }
     ensures { λ _. ⌜ now (out .exit) ≡ inFront (pressedAt (each patternFormat) (replicate count channels) (now (file .entry)) at) (now (out .entry)) ⌝ }
 {
     let mut place = at;

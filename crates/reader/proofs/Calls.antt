@@ -31,7 +31,7 @@ use Rattle.structures.proofs.Calls.{reached-back, call-numbers}
 use Rattle.tables.proofs.IntoLaws.{Counted, rows-counted}
 use Rattle.reader.specs.declared.Reader.{Reader}
 use Rattle.reader.specs.declared.count.Counted as answer
-use Rattle.reader.specs.Count.{countsOf, handsOver, counting, countedOf, countedNumbers, countResults}
+use Rattle.reader.specs.Count.{structureCounts, handsOver, counting, countedOf, countedNumbers, countResults}
 use Rattle.reader.proofs.CountLaws.{kind-count, hand-none}
 
 -- What `next` promises of a reader, of its answer and of the reader after it
@@ -48,8 +48,8 @@ same-reader : {a b : Reader} → a .file ≡ b .file → a .place ≡ b .place �
 same-reader e p = λ i. record { file = e i; place = p i }
 
 -- No second answer fits, nor another reader after it
-pub start-once : (file : RefT (List ℕ)) (r other : Reader) → Started file r → Started file other → r ≡ other
-start-once file r other c d = same-reader (c .0 ∙ sym (d .0)) (c .1 ∙ sym (d .1))
+pub from-start-once : (file : RefT (List ℕ)) (r other : Reader) → Started file r → Started file other → r ≡ other
+from-start-once file r other c d = same-reader (c .0 ∙ sym (d .0)) (c .1 ∙ sym (d .1))
 
 pub next-once : (r r′ r″ : Reader) (answer other : Standing) → Called r answer r′ → Called r other r″ → (answer ≡ other) × (r′ ≡ r″)
 next-once r r′ r″ answer other c d = (c .0 ∙ sym (d .0), same-reader (c .1 ∙ sym (d .1)) (c .2 ∙ sym (d .2)))
@@ -150,7 +150,7 @@ unfolding counting checking
 counted-numbers file plain met = ap countedNumbers met ∙ go (readFile file) refl
   where
     go : (g : Got Found) → readFile file ≡ g
-        → countedNumbers (countedOf (answered (λ found end. countsOf (structures found)) g)) ≡ numbers countResults (answered checkedAs g)
+        → countedNumbers (countedOf (answered (λ found end. structureCounts (structures found)) g)) ≡ numbers countResults (answered checkedAs g)
     go (got found end) e =
         let tell = readers-tell .hands-over file found end plain e in
         let tables = accepted-files file found end plain e .tables in

@@ -27,7 +27,7 @@ use Rattle.structures.specs.declared.Standing.the-variants.{End}
 use Rattle.structures.proofs.FewLaws.{structures-few}
 use Rattle.structures.proofs.Calls.{OfStanding, IsStructure, all-structures, hand-kind, reached-back}
 use Rattle.reader.specs.declared.count.Counts.{Counts}
-use Rattle.reader.specs.Count.{countsOf, total, handsOver, oneMore, endsAs, counting, countedOf}
+use Rattle.reader.specs.Count.{structureCounts, total, handsOver, oneMore, endsAs, counting, countedOf}
 
 -- Lists
 take-next : (rs : List Region) (i : ℕ) → i < length rs → take (suc i) rs ≡ take i rs ++ (regionAt rs i ∷ [])
@@ -54,14 +54,14 @@ same-counts p q r = λ i. record { patterns = p i; instruments = q i; samples = 
 abbrev plus : Counts → Counts → Counts
 plus a b = record { patterns = a .patterns + b .patterns; instruments = a .instruments + b .instruments; samples = a .samples + b .samples }
 
-counts-append : (xs ys : List Region) → countsOf (xs ++ ys) ≡ plus (countsOf xs) (countsOf ys)
+counts-append : (xs ys : List Region) → structureCounts (xs ++ ys) ≡ plus (structureCounts xs) (structureCounts ys)
 counts-append xs ys = same-counts (kind-count patternHeader xs ys) (kind-count instrument xs ys) (kind-count sampleHeader xs ys)
 
 abbrev only : (kind : Kind) (place size : ℕ) → List Region
 only kind place size = record { kind = kind; place = place; size = size } ∷ []
 
 counts-one : (counts : Counts) (kind : Kind) (place size : ℕ) → isStructure kind ≡ true
-    → oneMore counts (standingAt kind place) ≡ plus counts (countsOf (only kind place size))
+    → oneMore counts (standingAt kind place) ≡ plus counts (structureCounts (only kind place size))
 counts-one counts header place size h = absurd (no-true h)
 counts-one counts patternHeader place size h = same-counts (omega arith) (omega arith) (omega arith)
 counts-one counts patternData place size h = absurd (no-true h)
@@ -78,7 +78,7 @@ hands-kind sampleHeader place h = refl
 hands-kind sampleData place h = absurd (no-true h)
 
 -- No more are counted than were handed over
-total-more : (kind : Kind) (place size : ℕ) (xs : List Region) → total (countsOf (only kind place size ++ xs)) ≤ total (countsOf xs) + 1
+total-more : (kind : Kind) (place size : ℕ) (xs : List Region) → total (structureCounts (only kind place size ++ xs)) ≤ total (structureCounts xs) + 1
 total-more header place size xs = omega arith
 total-more patternHeader place size xs = omega arith
 total-more patternData place size xs = omega arith
@@ -86,7 +86,7 @@ total-more instrument place size xs = omega arith
 total-more sampleHeader place size xs = omega arith
 total-more sampleData place size xs = omega arith
 
-counts-few : (rs : List Region) (i : ℕ) → total (countsOf (take i rs)) ≤ i
+counts-few : (rs : List Region) (i : ℕ) → total (structureCounts (take i rs)) ≤ i
 counts-few rs zero = omega arith
 counts-few [] (suc i) = omega arith
 counts-few (r ∷ rs) (suc i) = omega (arith, total-more (r .kind) (r .place) (r .size) (take i rs), counts-few rs i)
@@ -95,10 +95,10 @@ pub counted-few : (file : List ℕ) → Bytes file → result total (counting fi
 unfolding counting
 counted-few file plain = go (readFile file) refl
   where
-    go : (g : Got Found) → readFile file ≡ g → result total (answered (λ found end. countsOf (structures found)) g) ≤ 256 + 17 * 128
+    go : (g : Got Found) → readFile file ≡ g → result total (answered (λ found end. structureCounts (structures found)) g) ≤ 256 + 17 * 128
     go (got found end) e =
         let rs = structures found in
-        omega (arith, ap (λ (xs : List Region). total (countsOf xs)) (take-whole rs), counts-few rs (length rs), structures-few file found end plain e)
+        omega (arith, ap (λ (xs : List Region). total (structureCounts xs)) (take-whole rs), counts-few rs (length rs), structures-few file found end plain e)
     go (refused r) e = omega arith
 
 -- A call that hands over no structure: how far has been read stays
@@ -132,10 +132,10 @@ stand-after file i =
 -- A reader that is run to the end, where these are the structures
 pub record Running (file : List ℕ) (rs : List Region) : Type 0 where
   pub goes-on : (i : ℕ) → i < length rs → handsOver (standAfter file i) ≡ true
-  pub counts-on : (i : ℕ) → i < length rs → oneMore (countsOf (take i rs)) (standAfter file i) ≡ countsOf (take (suc i) rs)
-  pub fits : (i : ℕ) → i < length rs → total (countsOf (take i rs)) + 1 < 2 ^ 64
+  pub counts-on : (i : ℕ) → i < length rs → oneMore (structureCounts (take i rs)) (standAfter file i) ≡ structureCounts (take (suc i) rs)
+  pub fits : (i : ℕ) → i < length rs → total (structureCounts (take i rs)) + 1 < 2 ^ 64
   pub stops : handsOver (standAfter file (length rs)) ≡ false
-  pub counted : endsAs (countsOf (take (length rs) rs)) (standAfter file (length rs)) ≡ countedOf (counting file)
+  pub counted : endsAs (structureCounts (take (length rs) rs)) (standAfter file (length rs)) ≡ countedOf (counting file)
 
 module _ (file : List ℕ) (plain : Bytes file) (found : Found) (end : ℕ) (reads : readFile file ≡ got found end) where
   abbrev rs : List Region
@@ -158,14 +158,14 @@ module _ (file : List ℕ) (plain : Bytes file) (found : Found) (end : ℕ) (rea
   accepted-runs = record {
     goes-on = λ i l. ap handsOver (stands-for i l) ∙ hands-kind (regionAt rs i .kind) (regionAt rs i .place) (is-structure i l);
     counts-on = λ i l.
-        ap (oneMore (countsOf (take i rs))) (stands-for i l)
-        ∙ counts-one (countsOf (take i rs)) (regionAt rs i .kind) (regionAt rs i .place) (regionAt rs i .size) (is-structure i l)
-        ∙ sym (ap countsOf (take-next rs i l) ∙ counts-append (take i rs) (regionAt rs i ∷ []));
+        ap (oneMore (structureCounts (take i rs))) (stands-for i l)
+        ∙ counts-one (structureCounts (take i rs)) (regionAt rs i .kind) (regionAt rs i .place) (regionAt rs i .size) (is-structure i l)
+        ∙ sym (ap structureCounts (take-next rs i l) ∙ counts-append (take i rs) (regionAt rs i ∷ []));
     fits = λ i l. omega (arith, counts-few rs i, structures-few file found end plain reads);
     stops = ap handsOver stands-last;
     counted =
-        ap (endsAs (countsOf (take (length rs) rs))) stands-last
-        ∙ ap (λ (xs : List Region). countedOf (gives (countsOf xs))) (take-whole rs)
+        ap (endsAs (structureCounts (take (length rs) rs))) stands-last
+        ∙ ap (λ (xs : List Region). countedOf (gives (structureCounts xs))) (take-whole rs)
         ∙ sym (ap countedOf (answer-gives _ reads));
   }
 
@@ -182,5 +182,5 @@ running file plain = go (readFile file) refl
           counts-on = λ i l. absurd (omega arith);
           fits = λ i l. absurd (omega arith);
           stops = ap handsOver told;
-          counted = ap (endsAs (countsOf [])) told ∙ sym (ap countedOf (answer-refuses _ e));
+          counted = ap (endsAs (structureCounts [])) told ∙ sym (ap countedOf (answer-refuses _ e));
         }

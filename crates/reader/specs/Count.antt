@@ -6,7 +6,7 @@ use lib.ListN.{length, drop}
 use Rattle.xm.specs.Format.{Region, patternHeader, instrument, sampleHeader}
 use Rattle.xm.specs.Answer.{Answer, gives, refuses, answered}
 use Rattle.xm.specs.Module.{readFile}
-use Rattle.xm.specs.Table.{Checked, checkResults}
+use Rattle.xm.specs.Table.{CheckReport, checkResults}
 use Rattle.xm.specs.Structure.{structures}
 use Rattle.xm.specs.Region.{ofKind}
 use Rattle.refusal.specs.Fault.{faultOf}
@@ -18,8 +18,8 @@ use Rattle.reader.specs.declared.count.Counted.{Counted}
 use Rattle.reader.specs.declared.count.Counted.the-variants as counted
 
 -- Of each kind, how many there are among some structures.
-abbrev pub countsOf : List Region → Counts
-countsOf rs = record {
+abbrev pub structureCounts : List Region → Counts
+structureCounts rs = record {
   patterns = length (ofKind patternHeader rs);
   instruments = length (ofKind instrument rs);
   samples = length (ofKind sampleHeader rs);
@@ -31,7 +31,7 @@ total counts = counts .patterns + counts .instruments + counts .samples
 
 -- Among those of a file; or the check's refusal.
 unfoldable pub counting : (file : List ℕ) → Answer Counts
-counting file = answered (λ found end. countsOf (structures found)) (readFile file)
+counting file = answered (λ found end. structureCounts (structures found)) (readFile file)
 
 abbrev pub countedOf : Answer Counts → Counted
 countedOf (gives counts) = counted.Accepted counts
@@ -43,7 +43,7 @@ countedNumbers (counted.Accepted counts) = 0 ∷ 0 ∷ counts .patterns ∷ coun
 countedNumbers (counted.Refused fault) = fault .number ∷ fault .place ∷ 0 ∷ 0 ∷ 0 ∷ []
 
 -- The results of the check that these are to equal: behind the end and the channels, patterns, instruments and samples.
-abbrev pub countResults : List (Checked → ℕ)
+abbrev pub countResults : List (CheckReport → ℕ)
 countResults = drop 2 checkResults
 
 -- What a reader hands over, counted: whether it is a structure, the counts with it, and what is answered when it is none.

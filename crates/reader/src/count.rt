@@ -10,7 +10,7 @@ ghost use mathlib.Core.List.{[]};
 ghost use Prim.Native.Nat.{_+_, _<_, _^_};
 ghost use Rattle.xm.specs.Structure.{started};
 ghost use Rattle.structures.specs.Handing.{reachedOf};
-ghost use Rattle.reader.specs.Count.{countsOf, handsOver, oneMore, endsAs, counting, countedOf};
+ghost use Rattle.reader.specs.Count.{structureCounts, handsOver, oneMore, endsAs, counting, countedOf};
 
 // How many structures there are of each kind.
 pub struct Counts {
@@ -25,7 +25,7 @@ pub enum Counted {
 }
 
 fn none_counted() -> Counts
-    ensures { λ r. ⌜ r ≡ countsOf [] ⌝ }
+    ensures { λ r. ⌜ r ≡ structureCounts [] ⌝ }
 {
     Counts {
         patterns: 0,

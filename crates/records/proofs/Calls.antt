@@ -15,7 +15,7 @@ use Rattle.xm.specs.Format.{joined}
 use Rattle.xm.specs.Answer.{Answer, gives, refuses, numberOf, inFront}
 use Rattle.xm.specs.Sample.{leastHead, headBytes, lengthOf, kindOf}
 use Rattle.xm.specs.Adpcm.{decodingBy}
-use Rattle.xm.specs.Table.{Checked, sampleRows, sampleStride, tuneStride, checkIntoNumbers, checkingInto, roomWith, rowsAfter, Tables, tablesAfter}
+use Rattle.xm.specs.Table.{CheckReport, sampleRows, sampleStride, tuneStride, checkIntoNumbers, checkingInto, roomWith, rowsAfter, Tables, tablesAfter}
 use Rattle.xm.specs.Table as paper
 use Rattle.xm.specs.Asking.{Lies, asking, stretchOf, askingRows, noRow}
 use Rattle.xm.specs.Demands.{LoopReads, AcceptedFile, liesAt}
@@ -24,16 +24,16 @@ use Rattle.xm.proofs.Table.{joined-map}
 use Rattle.refusal.specs.Fault.{faultOf}
 use Rattle.walk.specs.File.{verdictOf, verdictNumbers}
 use Rattle.walk.specs.declared.Verdict.{Verdict}
-use Rattle.tables.specs.Into.{lent, checkedInto, roomFor, patternsAfter, instrumentsAfter}
-use Rattle.tables.specs.Place.{sampleRow, numbersOf, tunesOf}
+use Rattle.tables.specs.Into.{lent, checkedInto, roomBeside, patternsAfter, instrumentsAfter}
+use Rattle.tables.specs.Place.{codeRow, codeRowNumbers, tunesOf}
 use Rattle.tables.specs.declared.sample.SampleRow.{SampleRow}
-use Rattle.tables.proofs.Calls.{into-numbers, headAt, headSizeAt, valuesAt}
+use Rattle.tables.proofs.Calls.{into-numbers, headAt, rowHeadSize, valuesAt}
 use Rattle.tables.proofs.IntoLaws.{into-accepted}
 use Rattle.records.specs.Records.{rowOf, rowsOf, recordsOf, noRecord, checkedRecords, recordsAfter, rowAsking, rowAskingIn, rowAskedOf, rowsGiven}
 use Rattle.records.specs.Records.{rowAskedNumbers, rowAskedTunes, rowNumbers, rowTunes}
 use Rattle.records.specs.declared.row.RowAsked.{RowAsked}
 use Rattle.records.specs.declared.row.RowAsked.the-variants as asked
-use Rattle.records.proofs.Records.{Told, row-lent, row-beyond}
+use Rattle.records.proofs.Records.{RecordsTold, row-lent, row-beyond}
 
 -- The numbers are the paper's
 pub records-numbers : (file patterns instruments : List ℕ) (records : List SampleRow) {answer : Verdict}
@@ -92,8 +92,8 @@ module _ (records : List SampleRow) (number : ℕ) {answer : RowAsked} (met : an
 -- nor another answer of the check, nor other tables or records
 pub records-once : (file patterns instruments : List ℕ)
     (records : List SampleRow) {answer other : Verdict} {patterns₁ patterns₂ instruments₁ instruments₂ : List ℕ} {records₁ records₂ : List SampleRow}
-    → Told file patterns instruments records answer patterns₁ instruments₁ records₁
-    → Told file patterns instruments records other patterns₂ instruments₂ records₂
+    → RecordsTold file patterns instruments records answer patterns₁ instruments₁ records₁
+    → RecordsTold file patterns instruments records other patterns₂ instruments₂ records₂
     → (answer ≡ other) × (patterns₁ ≡ patterns₂) × (instruments₁ ≡ instruments₂) × (records₁ ≡ records₂)
 records-once file patterns instruments records t u = (
   t .answers ∙ sym (u .answers),
@@ -105,12 +105,12 @@ records-once file patterns instruments records t u = (
 -- A refused check changes nothing
 pub records-unchanged : (file patterns instruments : List ℕ)
     (records : List SampleRow) {answer : Verdict} {patterns₁ instruments₁ : List ℕ} {records₁ : List SampleRow} {r : Refusal}
-    → Told file patterns instruments records answer patterns₁ instruments₁ records₁ → checkedRecords file patterns instruments records ≡ refuses r
+    → RecordsTold file patterns instruments records answer patterns₁ instruments₁ records₁ → checkedRecords file patterns instruments records ≡ refuses r
     → (patterns₁ ≡ patterns) × (instruments₁ ≡ instruments) × (records₁ ≡ records)
 records-unchanged file patterns instruments records t e = (
-  t .leaves-patterns ∙ ap (λ (a : Answer Checked). patternsAfter a patterns) e,
-  t .leaves-instruments ∙ ap (λ (a : Answer Checked). instrumentsAfter a instruments) e,
-  t .leaves-records ∙ ap (λ (a : Answer Checked). recordsAfter a records) e,
+  t .leaves-patterns ∙ ap (λ (a : Answer CheckReport). patternsAfter a patterns) e,
+  t .leaves-instruments ∙ ap (λ (a : Answer CheckReport). instrumentsAfter a instruments) e,
+  t .leaves-records ∙ ap (λ (a : Answer CheckReport). recordsAfter a records) e,
 )
 
 -- The same answer as of the check into flat tables that have as many rows
@@ -118,7 +118,7 @@ pub same-answer : (file patterns instruments samples : List ℕ) (tunes : List �
     → min (length samples / sampleStride) (length tunes / tuneStride) ≡ length records
     → checkedInto file (lent patterns instruments samples tunes) ≡ checkedRecords file patterns instruments records
 same-answer file patterns instruments samples tunes records e =
-    ap (λ (rows : ℕ). checkingInto (roomFor (length patterns) (length instruments) rows) file) (e ∙ sym (length-map records rowOf))
+    ap (λ (rows : ℕ). checkingInto (roomBeside (length patterns) (length instruments) rows) file) (e ∙ sym (length-map records rowOf))
 
 -- The records afterwards are the paper's rows afterwards
 map-drop : {A B : Type 0} (f : A → B) (n : ℕ) (xs : List A) → map f (drop n xs) ≡ drop n (map f xs)
@@ -134,35 +134,35 @@ pub rows-in-front : (rows : List paper.SampleRow) (records : List SampleRow) →
 rows-in-front rows records =
     map-append rowOf (recordsOf rows) (drop (length (recordsOf rows)) records)
     ∙ ap₂ (λ (front beyond : List paper.SampleRow). front ++ beyond) (rows-records rows)
-    (map-drop rowOf (length (recordsOf rows)) records ∙ ap (λ (n : ℕ). drop n (rowsOf records)) (length-map rows sampleRow))
+    (map-drop rowOf (length (recordsOf rows)) records ∙ ap (λ (n : ℕ). drop n (rowsOf records)) (length-map rows codeRow))
 
-pub rows-after : (answer : Answer Checked) (records : List SampleRow) → rowsOf (recordsAfter answer records) ≡ rowsAfter answer (rowsOf records)
+pub rows-after : (answer : Answer CheckReport) (records : List SampleRow) → rowsOf (recordsAfter answer records) ≡ rowsAfter answer (rowsOf records)
 rows-after (gives c) records = rows-in-front (sampleRows (c .found)) records
 rows-after (refuses r) records = refl
 
 -- and the same rows as the flat tables': their numbers are those of the records, in the same order
-module _ (c : Checked) (tables : Tables) (records : List SampleRow) where
+module _ (c : CheckReport) (tables : Tables) (records : List SampleRow) where
   abbrev stored : List SampleRow
   stored = take (length (sampleRows (c .found))) (recordsAfter (gives c) records)
 
   stored-all : stored ≡ recordsOf (sampleRows (c .found))
   stored-all =
-      ap (λ (n : ℕ). take n (recordsAfter (gives c) records)) (sym (length-map (sampleRows (c .found)) sampleRow))
+      ap (λ (n : ℕ). take n (recordsAfter (gives c) records)) (sym (length-map (sampleRows (c .found)) codeRow))
       ∙ take-append-seam (recordsOf (sampleRows (c .found))) (drop (length (recordsOf (sampleRows (c .found)))) records)
 
-  pub same-numbers : tablesAfter (gives c) tables .samples ≡ inFront (joined numbersOf stored) (tables .samples)
+  pub same-numbers : tablesAfter (gives c) tables .samples ≡ inFront (joined codeRowNumbers stored) (tables .samples)
   unfolding tablesAfter
   same-numbers =
       ap (λ (written : List ℕ). inFront written (tables .samples))
-      (sym (ap (joined numbersOf) stored-all ∙ joined-map numbersOf sampleRow (sampleRows (c .found))))
+      (sym (ap (joined codeRowNumbers) stored-all ∙ joined-map codeRowNumbers codeRow (sampleRows (c .found))))
 
   pub same-tunes : tablesAfter (gives c) tables .tunes ≡ inFront (joined tunesOf stored) (tables .tunes)
   unfolding tablesAfter
   same-tunes =
-      ap (λ (written : List ℤ). inFront written (tables .tunes)) (sym (ap (joined tunesOf) stored-all ∙ joined-map tunesOf sampleRow (sampleRows (c .found))))
+      ap (λ (written : List ℤ). inFront written (tables .tunes)) (sym (ap (joined tunesOf) stored-all ∙ joined-map tunesOf codeRow (sampleRows (c .found))))
 
 -- Of the records that an accepted check leaves
-module _ (file : List ℕ) (plain : Bytes file) (patterns instruments : List ℕ) (records : List SampleRow) (c : Checked)
+module _ (file : List ℕ) (plain : Bytes file) (patterns instruments : List ℕ) (records : List SampleRow) (c : CheckReport)
     (accepted : checkedRecords file patterns instruments records ≡ gives c)
     (number : ℕ) (low : number < length (sampleRows (c .found))) where
   found : AcceptedFile file (c .found) (c .end)
@@ -172,16 +172,16 @@ module _ (file : List ℕ) (plain : Bytes file) (patterns instruments : List ℕ
   after = recordsAfter (checkedRecords file patterns instruments records) records
 
   -- each is that of its sample,
-  pub stored-record : getD after number noRecord ≡ sampleRow (getD (sampleRows (c .found)) number noRow)
+  pub stored-record : getD after number noRecord ≡ codeRow (getD (sampleRows (c .found)) number noRow)
   stored-record =
-      ap (λ (answer : Answer Checked). getD (recordsAfter answer records) number noRecord) accepted
-      ∙ List·getD-append (recordsOf (sampleRows (c .found))) _ noRecord number (omega (arith, low, length-map (sampleRows (c .found)) sampleRow))
-      ∙ List·getD-map sampleRow (sampleRows (c .found)) number noRow
+      ap (λ (answer : Answer CheckReport). getD (recordsAfter answer records) number noRecord) accepted
+      ∙ List·getD-append (recordsOf (sampleRows (c .found))) _ noRecord number (omega (arith, low, length-map (sampleRows (c .found)) codeRow))
+      ∙ List·getD-map codeRow (sampleRows (c .found)) number noRow
 
   -- is handed back as the content's stretch,
   pub stored-asked : askingRows file (rowsOf after) number ≡ gives (liesAt (sampleRows (c .found)) number)
   stored-asked =
-      ap (λ (answer : Answer Checked). askingRows file (rowsOf (recordsAfter answer records)) number) accepted
+      ap (λ (answer : Answer CheckReport). askingRows file (rowsOf (recordsAfter answer records)) number) accepted
       ∙ ap (λ (rows : List paper.SampleRow). askingRows file rows number) (rows-in-front (sampleRows (c .found)) records)
       ∙ found .asked .records (drop (length (sampleRows (c .found))) (rowsOf records)) number low
 
@@ -191,7 +191,7 @@ module _ (file : List ℕ) (plain : Bytes file) (patterns instruments : List ℕ
   storedRow = getD after number noRecord
 
   abbrev pub headRead : List ℕ
-  headRead = headBytes (headSizeAt c number) (drop (storedRow .«header_place») file)
+  headRead = headBytes (rowHeadSize c number) (drop (storedRow .«header_place») file)
 
   pub stored-decodes : decodingBy (kindOf headRead) (lengthOf headRead) (storedRow .width) (stretchOf file (askingRows file (rowsOf after) number))
       (length (valuesAt c number))

@@ -8,7 +8,7 @@ use lib.Seq.{take-all}
 use Rattle.xm.specs.Got.{Got, _at_, listIn}
 use Rattle.xm.specs.Answer.{Answer, gives, refuses, inFront}
 use Rattle.xm.specs.Module.{Found, readFile}
-use Rattle.xm.specs.Table.{Checked, sampleRows, checkingInto}
+use Rattle.xm.specs.Table.{CheckReport, sampleRows, checkingInto}
 use Rattle.xm.specs.Table as paper
 use Rattle.xm.specs.Asking.{noRow}
 use Rattle.xm.proofs.Got.{pass}
@@ -16,8 +16,8 @@ use Rattle.xm.proofs.Answer.{answer-gives, answer-refuses, tests-fail}
 use Rattle.refusal.specs.Fault.{faultOf}
 use Rattle.walk.specs.File.{verdictOf}
 use Rattle.walk.specs.declared.Verdict.{Verdict}
-use Rattle.tables.specs.Into.{roomFor, patternsAfter, instrumentsAfter}
-use Rattle.tables.specs.Place.{sampleRow}
+use Rattle.tables.specs.Into.{roomBeside, patternsAfter, instrumentsAfter}
+use Rattle.tables.specs.Place.{codeRow}
 use Rattle.tables.specs.declared.sample.SampleRow.{SampleRow}
 use Rattle.tables.proofs.IntoLaws.{into-accepted}
 use Rattle.records.specs.Records.{rowOf, rowsOf, recordsOf, noRecord, recordsIn, checkedRecords, recordsAfter, samplesOf, rowAsking, rowAskingIn}
@@ -39,23 +39,23 @@ module _ {A : Type 0} where
 
 -- The records of a file, by number
 pub records-length : (file : List ℕ) → length (recordsIn file) ≡ length (listIn sampleRows (readFile file))
-records-length file = length-map (listIn sampleRows (readFile file)) sampleRow
+records-length file = length-map (listIn sampleRows (readFile file)) codeRow
 
-pub record-is : (file : List ℕ) (number : ℕ) → sampleRow (getD (listIn sampleRows (readFile file)) number noRow) ≡ getD (recordsIn file) number noRecord
-record-is file number = sym (List·getD-map sampleRow (listIn sampleRows (readFile file)) number noRow)
+pub record-is : (file : List ℕ) (number : ℕ) → codeRow (getD (listIn sampleRows (readFile file)) number noRow) ≡ getD (recordsIn file) number noRecord
+record-is file number = sym (List·getD-map codeRow (listIn sampleRows (readFile file)) number noRow)
 
 -- A check beside the records: what it counts is there and has room, and so many records stored are the records afterwards
 module _ (file patterns instruments : List ℕ) (lent : List SampleRow) where
-  abbrev beside : Answer Checked
-  beside = checkingInto (roomFor (length patterns) (length instruments) (length lent)) file
+  abbrev beside : Answer CheckReport
+  beside = checkingInto (roomBeside (length patterns) (length instruments) (length lent)) file
 
   room-same : beside ≡ checkedRecords file patterns instruments lent
-  room-same = ap (λ (rows : ℕ). checkingInto (roomFor (length patterns) (length instruments) rows) file) (sym (length-map lent rowOf))
+  room-same = ap (λ (rows : ℕ). checkingInto (roomBeside (length patterns) (length instruments) rows) file) (sym (length-map lent rowOf))
 
   pub count-fits : (samplesOf (verdictOf beside) ≤ length (recordsIn file)) × (samplesOf (verdictOf beside) ≤ length lent)
   count-fits = go beside refl
     where
-      go : (a : Answer Checked) → beside ≡ a → (samplesOf (verdictOf a) ≤ length (recordsIn file)) × (samplesOf (verdictOf a) ≤ length lent)
+      go : (a : Answer CheckReport) → beside ≡ a → (samplesOf (verdictOf a) ≤ length (recordsIn file)) × (samplesOf (verdictOf a) ≤ length lent)
       go (gives c) q =
           into-accepted _ file c q λ found room. (omega (arith, records-length file, ap (λ (g : Got Found). length (listIn sampleRows g)) found), room .2)
       go (refuses r) q = (omega arith, omega arith)
@@ -63,16 +63,16 @@ module _ (file patterns instruments : List ℕ) (lent : List SampleRow) where
   stored-all : inFront (take (samplesOf (verdictOf beside)) (recordsIn file)) lent ≡ recordsAfter beside lent
   stored-all = go beside refl
     where
-      go : (a : Answer Checked) → beside ≡ a → inFront (take (samplesOf (verdictOf a)) (recordsIn file)) lent ≡ recordsAfter a lent
+      go : (a : Answer CheckReport) → beside ≡ a → inFront (take (samplesOf (verdictOf a)) (recordsIn file)) lent ≡ recordsAfter a lent
       go (gives c) q = into-accepted _ file c q λ found room.
           let all : take (length (sampleRows (c .found))) (recordsOf (sampleRows (c .found))) ≡ recordsOf (sampleRows (c .found)) =
-          take-all (length (sampleRows (c .found))) (recordsOf (sampleRows (c .found))) (omega (arith, length-map (sampleRows (c .found)) sampleRow)) in
+          take-all (length (sampleRows (c .found))) (recordsOf (sampleRows (c .found))) (omega (arith, length-map (sampleRows (c .found)) codeRow)) in
           ap (λ (g : Got Found). inFront (take (length (sampleRows (c .found))) (recordsOf (listIn sampleRows g))) lent) found
           ∙ ap (λ (rows : List SampleRow). inFront rows lent) all
       go (refuses r) q = refl
 
   -- What the call answers and leaves
-  pub record Told (v : Verdict) (patterns′ instruments′ : List ℕ) (lent′ : List SampleRow) : Type 0 where
+  pub record RecordsTold (v : Verdict) (patterns′ instruments′ : List ℕ) (lent′ : List SampleRow) : Type 0 where
     pub answers : v ≡ verdictOf (checkedRecords file patterns instruments lent)
     pub leaves-patterns : patterns′ ≡ patternsAfter (checkedRecords file patterns instruments lent) patterns
     pub leaves-instruments : instruments′ ≡ instrumentsAfter (checkedRecords file patterns instruments lent) instruments
@@ -80,16 +80,16 @@ module _ (file patterns instruments : List ℕ) (lent : List SampleRow) where
 
   pub told : {v : Verdict} {patterns′ instruments′ : List ℕ} {count : ℕ} {lent′ : List SampleRow}
       → v ≡ verdictOf beside → patterns′ ≡ patternsAfter beside patterns → instruments′ ≡ instrumentsAfter beside instruments
-      → count ≡ samplesOf v → lent′ ≡ inFront (take count (recordsIn file)) lent → Told v patterns′ instruments′ lent′
+      → count ≡ samplesOf v → lent′ ≡ inFront (take count (recordsIn file)) lent → RecordsTold v patterns′ instruments′ lent′
   told e p i n s = record {
     answers = e ∙ ap verdictOf room-same;
-    leaves-patterns = p ∙ ap (λ (a : Answer Checked). patternsAfter a patterns) room-same;
-    leaves-instruments = i ∙ ap (λ (a : Answer Checked). instrumentsAfter a instruments) room-same;
+    leaves-patterns = p ∙ ap (λ (a : Answer CheckReport). patternsAfter a patterns) room-same;
+    leaves-instruments = i ∙ ap (λ (a : Answer CheckReport). instrumentsAfter a instruments) room-same;
     leaves-records =
         s
         ∙ ap (λ (count : ℕ). inFront (take count (recordsIn file)) lent) (n ∙ ap samplesOf e)
         ∙ stored-all
-        ∙ ap (λ (a : Answer Checked). recordsAfter a lent) room-same;
+        ∙ ap (λ (a : Answer CheckReport). recordsAfter a lent) room-same;
   }
 
 -- A row asked for, by the test that is made
@@ -99,7 +99,7 @@ module _ (records : List SampleRow) (number : ℕ) where
   row-lent h =
       sym (
       ap rowAskedOf (answer-gives _ (pass _ (omega (arith, length-map records rowOf), tt) refl))
-      ∙ ap (λ (row : paper.SampleRow). asked.Row (sampleRow row)) (List·getD-map rowOf records number noRecord))
+      ∙ ap (λ (row : paper.SampleRow). asked.Row (codeRow row)) (List·getD-map rowOf records number noRecord))
 
   pub row-beyond : length records ≤ number → asked.Refused (faultOf (16 at 0)) ≡ rowAskedOf (rowAskingIn (rowsOf records) number)
   unfolding rowAsking

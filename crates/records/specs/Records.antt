@@ -6,13 +6,13 @@ use lib.ListN.{length, getD, replicate}
 use Rattle.xm.specs.Got.{got, _>>_, checked, present, _at_, listIn}
 use Rattle.xm.specs.Answer.{Answer, gives, refuses, answered, numbers, after}
 use Rattle.xm.specs.Module.{readFile}
-use Rattle.xm.specs.Table.{Checked, sampleRows, sampleStride, sampleTunes, roomWith, checkingInto}
+use Rattle.xm.specs.Table.{CheckReport, sampleRows, sampleStride, sampleTunes, roomWith, checkingInto}
 use Rattle.xm.specs.Table as paper
 use Rattle.xm.specs.Asking.{noRow}
 use Rattle.refusal.specs.Fault.{faultOf}
 use Rattle.walk.specs.declared.Verdict.{Verdict}
 use Rattle.walk.specs.declared.Verdict.the-variants as verdict
-use Rattle.tables.specs.Place.{sampleRow, numbersOf, tunesOf}
+use Rattle.tables.specs.Place.{codeRow, codeRowNumbers, tunesOf}
 use Rattle.tables.specs.declared.sample.SampleRow.{SampleRow}
 use Rattle.records.specs.declared.row.RowAsked.{RowAsked}
 use Rattle.records.specs.declared.row.RowAsked.the-variants as asked
@@ -35,10 +35,10 @@ abbrev pub rowsOf : List SampleRow → List paper.SampleRow
 rowsOf = map rowOf
 
 abbrev pub recordsOf : List paper.SampleRow → List SampleRow
-recordsOf = map sampleRow
+recordsOf = map codeRow
 
 abbrev pub noRecord : SampleRow
-noRecord = sampleRow noRow
+noRecord = codeRow noRow
 
 -- The records of a file's samples: of a refused file none.
 abbrev pub recordsIn : (file : List ℕ) → List SampleRow
@@ -46,11 +46,11 @@ recordsIn file = recordsOf (listIn sampleRows (readFile file))
 
 -- What the check answers where these records are lent, and what they hold afterwards: each row the record of that sample, "rows beyond
 -- the count stay", and on a refusal every row.
-abbrev pub checkedRecords : (file patterns instruments : List ℕ) (records : List SampleRow) → Answer Checked
+abbrev pub checkedRecords : (file patterns instruments : List ℕ) (records : List SampleRow) → Answer CheckReport
 checkedRecords file patterns instruments records = checkingInto (roomWith patterns instruments (rowsOf records)) file
 
-abbrev pub recordsAfter : Answer Checked → (lent : List SampleRow) → List SampleRow
-recordsAfter = after (λ (c : Checked). recordsOf (sampleRows (c .found)))
+abbrev pub recordsAfter : Answer CheckReport → (lent : List SampleRow) → List SampleRow
+recordsAfter = after (λ (c : CheckReport). recordsOf (sampleRows (c .found)))
 
 -- How many rows an answer gives.
 abbrev pub samplesOf : Verdict → ℕ
@@ -67,7 +67,7 @@ abbrev pub rowAskingIn : (rows : List paper.SampleRow) (number : ℕ) → Answer
 rowAskingIn rows number = rowAsking (length rows) number (getD rows number noRow)
 
 abbrev pub rowAskedOf : Answer paper.SampleRow → RowAsked
-rowAskedOf (gives row) = asked.Row (sampleRow row)
+rowAskedOf (gives row) = asked.Row (codeRow row)
 rowAskedOf (refuses r) = asked.Refused (faultOf r)
 
 -- What was given back, as a table of its own: of this one row, or of none.
@@ -78,7 +78,7 @@ rowsGiven (asked.Refused fault) = []
 -- The paper's numbers for each case: number and place of the refusal, header place, data place, length, width, loop kind, loop start, loop
 -- length; and the two tunes.
 abbrev pub rowAskedNumbers : RowAsked → List ℕ
-rowAskedNumbers (asked.Row row) = 0 ∷ 0 ∷ numbersOf row
+rowAskedNumbers (asked.Row row) = 0 ∷ 0 ∷ codeRowNumbers row
 rowAskedNumbers (asked.Refused fault) = fault .number ∷ fault .place ∷ replicate sampleStride 0
 
 abbrev pub rowAskedTunes : RowAsked → List ℤ

@@ -6,7 +6,7 @@ use native.Mathlib.Omega.{arith}
 use lib.ListN.{length, drop, getD}
 use Rattle.xm.specs.Got.{Refusal, Got, got, refused}
 use Rattle.xm.specs.Format.{Format, eachRead}
-use Rattle.xm.proofs.Walk.{Left, left-start, left-on, left-out, left-end}
+use Rattle.xm.proofs.Walk.{PartsLeft, left-start, left-on, left-out, left-end}
 use Rattle.refusal.specs.Fault.{stepFault, placeStep}
 use Rattle.refusal.specs.declared.Fault.{Fault}
 use Rattle.refusal.specs.declared.Step.{Step}
@@ -21,7 +21,7 @@ refused-on place from g whole e told k = told ∙ sym (ap (placeStep from) (k _ 
 -- Where a loop over `each` has come to: j parts are read, and what is told of them holds
 pub record Reached {H I A : Type 0} (F : Format H I A) (hs : List H) (file : List ℕ) (from : ℕ) (Told : List I → Type 0) (j place : ℕ) : Type 0 where
   pub done : List I
-  pub left : Left F hs file from j place done
+  pub left : PartsLeft F hs file from j place done
   pub told : Told done
 
 module _ {H I A : Type 0} (F : Format H I A) (hs : List H) (file : List ℕ) (from : ℕ) where

@@ -18,7 +18,7 @@ use Rattle.cell.specs.declared.read.Field.{Field}
 use Rattle.cell.specs.Read.{FirstField, NextField}
 use Rattle.cell.specs.Over.{overMost, Over}
 use Rattle.cell.proofs.Bits.{odd₃₂, odd₁₆, odd₈, odd₄, ones-most, ones-all, all-ones}
-use Rattle.cell.proofs.ReadLaws.{plain-fields, cell-first, Inside}
+use Rattle.cell.proofs.ReadLaws.{plain-fields, cell-first, FieldInside}
 use Rattle.cell.proofs.WriteLaws.{count-plain, count-marked, plain-kept}
 use Rattle.cell.proofs.Over.{PutOver, over-done}
 
@@ -45,7 +45,7 @@ all-stored bits s h =
 below : {n : ℕ} → n ≤ 5 → (n ≡ 5 → ⊥) → n < 5
 below h k = omega arith
 
-pub five-inside : {field : Field} {n : ℕ} → Inside 5 field n → field .bits % 32 ≡ 31 → field .place + 5 ≤ n
+pub five-inside : {field : Field} {n : ℕ} → FieldInside 5 field n → field .bits % 32 ≡ 31 → field .place + 5 ≤ n
 five-inside {field} i h = omega (arith, i .ends, all-ones (field .bits) h)
 
 -- The stored cell at a place: if all five fields are stored they are the five bytes from the first one on; else fewer than five are kept

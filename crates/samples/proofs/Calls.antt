@@ -18,13 +18,13 @@ use Rattle.samples.specs.declared.Coded.{Coded}
 use Rattle.samples.proofs.Exits.{Decodes, Codes}
 
 -- One answer, one memory
-pub decode-one : (width : ℕ) (bytes : List ℕ) (lent : List ℤ) {answer other : Decoded} {held kept : List ℤ} → Decodes width bytes lent answer held
+pub decode-once : (width : ℕ) (bytes : List ℕ) (lent : List ℤ) {answer other : Decoded} {held kept : List ℤ} → Decodes width bytes lent answer held
     → Decodes width bytes lent other kept → (answer ≡ other) × (held ≡ kept)
-decode-one width bytes lent d e = (d .0 ∙ sym (e .0), d .1 ∙ sym (e .1))
+decode-once width bytes lent d e = (d .0 ∙ sym (e .0), d .1 ∙ sym (e .1))
 
-pub code-one : (width : ℕ) (values : List ℤ) (lent : List ℕ) {answer other : Coded} {held kept : List ℕ} → Codes width values lent answer held
+pub code-once : (width : ℕ) (values : List ℤ) (lent : List ℕ) {answer other : Coded} {held kept : List ℕ} → Codes width values lent answer held
     → Codes width values lent other kept → (answer ≡ other) × (held ≡ kept)
-code-one width values lent d e = (d .0 ∙ sym (e .0), d .1 ∙ sym (e .1))
+code-once width values lent d e = (d .0 ∙ sym (e .0), d .1 ∙ sym (e .1))
 
 -- The paper's numbers
 pub decode-cases : (answer : Answer (List ℤ)) → decodedNumbers (decodeAnswer answer) ≡ numbers (countWritten ∷ []) answer

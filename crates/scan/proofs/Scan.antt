@@ -19,20 +19,20 @@ use Rattle.refusal.specs.declared.Step.the-variants.{Next, Refused}
 use Rattle.refusal.specs.Fault.{stepFault, placeStep}
 use Rattle.refusal.proofs.Steps.{next-got, place-refused}
 use Rattle.cell.proofs.ReadLaws.{read-got-at}
-use Rattle.cell.proofs.ReadRows.{onto, row-more, row-stop, stored-refused, stored-left, stored-whole}
+use Rattle.cell.proofs.ReadRows.{cellOnto, row-more, row-stop, stored-refused, stored-left, stored-whole}
 use Rattle.ahead.specs.declared.Ahead.{Ahead}
 use Rattle.ahead.specs.Ahead.{AheadOf, Follows, lengthsFrom}
 use Rattle.ahead.proofs.Run.{read-empty, read-six, run-over}
 use Rattle.ahead.proofs.Walk.{walked-some, walked-over}
 use Rattle.scan.specs.declared.Walk.{Walk}
-use Rattle.scan.specs.Block.{walkOf, passed}
+use Rattle.scan.specs.Block.{walkOf, blockPassed}
 
 -- `left` cells are still to come, from `used` on, and the loop's answer is to be `answer`
 pub record Scanning (s : List ℕ) (answer : Step) (used left : ℕ) : Type 0 where
   pub inside : used ≤ length s
   pub rest : answer ≡ placeStep used (readRow left used (drop used s))
 
-onto-step : (used k : ℕ) (cell : List ℕ) (g : Got (List (List ℕ))) → placeStep used (onto cell k g) ≡ placeStep (used + k) g
+onto-step : (used k : ℕ) (cell : List ℕ) (g : Got (List (List ℕ))) → placeStep used (cellOnto cell k g) ≡ placeStep (used + k) g
 onto-step used k cell (got cells n) = ap Next (sym (add-assoc used k n))
 onto-step used k cell (refused r) = refl
 
@@ -86,7 +86,7 @@ module _ {s : List ℕ} {answer : Step} where
   -- The cells of a block, as far as they stand inside what there is
   pub scanning-block : (place size : ℕ) (lengths : List ℕ) → Follows (lengthsFrom s place) size lengths → place + size ≤ length s → {left : ℕ} {walk : Walk}
       → Scanning s answer place left
-      → walk ≡ walkOf (passed lengths size left 0) → place + walk .at ≤ length s → Scanning s answer (place + walk .at) (walk .left)
+      → walk ≡ walkOf (blockPassed lengths size left 0) → place + walk .at ≤ length s → Scanning s answer (place + walk .at) (walk .left)
   scanning-block place size lengths full inside {left} {walk} v e h =
       rw e (walked-over (λ at u. u) lengths size (λ (at left : ℕ) (u : Unit {0}). Scanning s answer (place + at) left) (length s - place)
       (λ at left u below far w.
@@ -95,7 +95,7 @@ module _ {s : List ℕ} {answer : Step} where
       (omega (arith, ap Walk.at e)))
 
 -- A block with some bytes has one cell or more
-pub block-less : (lengths : List ℕ) (size : ℕ) {left : ℕ} {walk : Walk} → 0 < size → 0 < left → walk ≡ walkOf (passed lengths size left 0) → walk .left < left
+pub block-less : (lengths : List ℕ) (size : ℕ) {left : ℕ} {walk : Walk} → 0 < size → 0 < left → walk ≡ walkOf (blockPassed lengths size left 0) → walk .left < left
 block-less lengths size {left} h k e = rw e (walked-some (λ at u. u) lengths size left tt h k)
 
 -- A stored pattern with some data, by what its cells came to

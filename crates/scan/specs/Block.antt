@@ -8,5 +8,5 @@ abbrev pub walkOf : Walked (Unit {0}) → Walk
 walkOf w = record { at = w .at; left = w .left }
 
 -- They are only passed.
-abbrev pub passed : (lengths : List ℕ) (size left at : ℕ) → Walked (Unit {0})
-passed lengths size left at = walked (λ at u. u) lengths size left at tt
+abbrev pub blockPassed : (lengths : List ℕ) (size left at : ℕ) → Walked (Unit {0})
+blockPassed lengths size left at = walked (λ at u. u) lengths size left at tt

@@ -9,7 +9,7 @@ ghost use Rattle.xm.specs.Got.{AllHold};
 ghost use Rattle.xm.specs.Stored.{readRow, readStored};
 ghost use Rattle.xm.specs.Packing.{argumentTests};
 ghost use Rattle.refusal.specs.Fault.{placeStep};
-ghost use Rattle.scan.specs.Block.{walkOf, passed};
+ghost use Rattle.scan.specs.Block.{walkOf, blockPassed};
 
 // How far into a block the cells go that begin in it, and how many cells are left.
 struct Walk {
@@ -54,7 +54,7 @@ fn scan_sparse(stored: &[u8], count: usize) -> Step
 // From one cell to the next in a block of lengths.
 fn walk_block(lengths: &[u8], size: usize, count: usize) -> Walk
     requires { ⌜ size ≤ length (now lengths) ⌝ }
-    ensures { λ r. ⌜ r ≡ walkOf (passed (now (lengths .entry)) size count 0) ⌝ }
+    ensures { λ r. ⌜ r ≡ walkOf (blockPassed (now (lengths .entry)) size count 0) ⌝ }
 {
     let mut at: usize = 0;
     let mut left = count;

@@ -11,7 +11,7 @@ use Rattle.xm.specs.ModuleKind.{ModuleKind, normal, stripped}
 use Rattle.xm.specs.Got.{Got, got, refused, AllHold, _at_}
 use Rattle.xm.specs.Format.{each}
 use Rattle.xm.specs.Sample.{Stretch, headFormat, dataFormat, SamplesFound, samplesFormat, sizeOfFirst}
-use Rattle.xm.specs.Instrument.{samplesMost, instrumentSizeAt, countAt, headerSizeAt, fieldsOf, instrumentTests, InstrumentFound, voiceOf, readInstrument}
+use Rattle.xm.specs.Instrument.{samplesMost, instrumentSizeAt, countAt, sampleHeadSizeAt, fieldsOf, instrumentTests, InstrumentFound, voiceOf, readInstrument}
 use Rattle.xm.proofs.Number.{bytes-drop}
 use Rattle.xm.proofs.Got.{no-true, pass, step, step-refused, passed, bind-got, got-carry}
 use Rattle.xm.proofs.Cut.{word-padded, long-padded}
@@ -63,11 +63,11 @@ samples-viewed count size place s v n e =
     got-carry (λ (r : SamplesFound) (u : ℕ). each headFormat .view (r .0) ≡ headsFrom count size s) e₂ (heads-viewed count size place s hs m eh)
 
 -- H where there are samples, and 0 where there are none
-pub size-some : (k : ℕ) (s : List ℕ) → 1 ≤ k → headSizeOf k s ≡ headerSizeAt s
+pub size-some : (k : ℕ) (s : List ℕ) → 1 ≤ k → headSizeOf k s ≡ sampleHeadSizeAt s
 size-some zero s h = absurd (omega arith)
 size-some (suc k) s h = refl
 
-same-sizes : (k : ℕ) (s : List ℕ) → replicate k (headSizeOf k s) ≡ replicate k (headerSizeAt s)
+same-sizes : (k : ℕ) (s : List ℕ) → replicate k (headSizeOf k s) ≡ replicate k (sampleHeadSizeAt s)
 same-sizes zero s = refl
 same-sizes (suc k) s = refl
 
@@ -86,7 +86,7 @@ pub record FieldsPass (kind : ModuleKind) (s : List ℕ) : Type 0 where
   pub some : 4 ≤ length s
   pub there : instrumentSizeAt s ≤ length s
   pub few : countAt (fieldsOf kind s) ≤ samplesMost
-  pub heads : 1 ≤ countAt (fieldsOf kind s) → instrumentSizeAt s + countAt (fieldsOf kind s) * headerSizeAt (fieldsOf kind s) ≤ length s
+  pub heads : 1 ≤ countAt (fieldsOf kind s) → instrumentSizeAt s + countAt (fieldsOf kind s) * sampleHeadSizeAt (fieldsOf kind s) ≤ length s
 
 pub fields-pass : (kind : ModuleKind) (place : ℕ) (s : List ℕ) → AllHold (instrumentTests kind place s) → FieldsPass kind s
 fields-pass normal place s h =
@@ -98,7 +98,7 @@ fields-pass stripped place s h =
 pub count-cut : {size k : ℕ} (s : List ℕ) → size ≡ instrumentSizeAt s → Word 27 (take size s) k → k ≡ countAt (fieldsOf stripped s)
 count-cut s e w = w .value ∙ ap (λ (n : ℕ). wordAt 27 (take n s)) e ∙ sym (word-padded 241 27 (take (instrumentSizeAt s) s) (omega arith))
 
-pub size-cut : {size H : ℕ} (s : List ℕ) → size ≡ instrumentSizeAt s → Long 29 (take size s) H → H ≡ headerSizeAt (fieldsOf stripped s)
+pub size-cut : {size H : ℕ} (s : List ℕ) → size ≡ instrumentSizeAt s → Long 29 (take size s) H → H ≡ sampleHeadSizeAt (fieldsOf stripped s)
 size-cut s e w = w .value ∙ ap (λ (n : ℕ). longAt 29 (take n s)) e ∙ sym (long-padded 241 29 (take (instrumentSizeAt s) s) (omega arith))
 
 pub times-some : (k H : ℕ) → 0 < k * H → 0 < k
@@ -153,13 +153,13 @@ module _ (file : List ℕ) (kind : ModuleKind) (place : ℕ) where
 
         go : (k : ℕ) → countAt fields ≡ k → place + instrumentSizeAt from + k * headSizeOf k fields ≤ length file
         go zero e = omega (arith, w .some, w .there, length-drop place file)
-        go (suc k) e = omega (arith, ap (λ (n : ℕ). n * headerSizeAt fields) e, w .some, w .heads (omega arith), length-drop place file)
+        go (suc k) e = omega (arith, ap (λ (n : ℕ). n * sampleHeadSizeAt fields) e, w .some, w .heads (omega arith), length-drop place file)
 
     -- and then the samples decide
     abbrev samples : Got SamplesFound
     samples = samplesFormat .read (replicate (head .samples) (head .«head_size»)) (head .heads) (drop (head .heads) file)
 
-    same-samples : samplesFormat .read (replicate (countAt fields) (headerSizeAt fields)) (place + instrumentSizeAt from) (drop (instrumentSizeAt from) from)
+    same-samples : samplesFormat .read (replicate (countAt fields) (sampleHeadSizeAt fields)) (place + instrumentSizeAt from) (drop (instrumentSizeAt from) from)
         ≡ samples
     same-samples = cc (eh, same-sizes (countAt fields) fields, drop-drop (instrumentSizeAt from) place file)
 
@@ -186,7 +186,7 @@ module _ (file : List ℕ) (kind : ModuleKind) (place : ℕ) where
     pub samples : SamplesFound
     pub used : ℕ
     pub tests : AllHold (instrumentTests kind place from)
-    pub reads : samplesFormat .read (replicate (countAt fields) (headerSizeAt fields)) (place + instrumentSizeAt from) (drop (instrumentSizeAt from) from)
+    pub reads : samplesFormat .read (replicate (countAt fields) (sampleHeadSizeAt fields)) (place + instrumentSizeAt from) (drop (instrumentSizeAt from) from)
         ≡ got samples used
     pub is : readInstrument kind place from ≡ got (found samples) (instrumentSizeAt from + used)
     pub same : piece ≡ record {
@@ -222,18 +222,18 @@ module _ (file : List ℕ) (kind : ModuleKind) (place : ℕ) where
       pub few : piece .samples ≤ samplesMost
       pub size : piece .size ≡ instrumentSizeAt from
       pub there : place + piece .size ≤ length file
-      pub head : 1 ≤ piece .samples → piece .«head_size» ≡ headerSizeAt fields
+      pub head : 1 ≤ piece .samples → piece .«head_size» ≡ sampleHeadSizeAt fields
       pub ends : place + piece .size + piece .samples * piece .«head_size» + length dataBytes ≡ piece .next
       pub views : each headFormat .view (r .samples .0) ≡ headsFrom (piece .samples) (piece .«head_size») (drop (place + piece .size) file)
 
     pub part-lies : PartLies
     part-lies =
         let w = fields-pass kind place from (r .tests) in
-        let s = samples-size (countAt fields) (headerSizeAt fields) (place + instrumentSizeAt from) (drop (instrumentSizeAt from) from) (r .samples) (r .used)
+        let s = samples-size (countAt fields) (sampleHeadSizeAt fields) (place + instrumentSizeAt from) (drop (instrumentSizeAt from) from) (r .samples) (r .used)
         (r .reads) in
         let count = ap InstrumentPart.samples (r .same) ∙ s .counted in
         let size = ap InstrumentPart.size (r .same) in
-        let head : 1 ≤ piece .samples → piece .«head_size» ≡ headerSizeAt fields = λ h. ap InstrumentPart.«head_size» (r .same)
+        let head : 1 ≤ piece .samples → piece .«head_size» ≡ sampleHeadSizeAt fields = λ h. ap InstrumentPart.«head_size» (r .same)
         ∙ s .first (omega (arith, count)) in
         record {
           count = count;
@@ -246,14 +246,14 @@ module _ (file : List ℕ) (kind : ModuleKind) (place : ℕ) where
             size,
             ap InstrumentPart.next (r .same),
             s .behind,
-            times (piece .samples) (countAt fields) (piece .«head_size») (headerSizeAt fields) count head,
+            times (piece .samples) (countAt fields) (piece .«head_size») (sampleHeadSizeAt fields) count head,
           );
           views =
-              samples-viewed (countAt fields) (headerSizeAt fields) (place + instrumentSizeAt from) (drop (instrumentSizeAt from) from) (r .samples) (r .used)
+              samples-viewed (countAt fields) (sampleHeadSizeAt fields) (place + instrumentSizeAt from) (drop (instrumentSizeAt from) from) (r .samples) (r .used)
               (r .reads)
-              ∙ ap (headsFrom (countAt fields) (headerSizeAt fields))
+              ∙ ap (headsFrom (countAt fields) (sampleHeadSizeAt fields))
               (drop-drop (instrumentSizeAt from) place file ∙ ap (λ (n : ℕ). drop (place + n) file) (sym size))
-              ∙ heads-by (piece .samples) (countAt fields) (piece .«head_size») (headerSizeAt fields) (drop (place + piece .size) file) count head;
+              ∙ heads-by (piece .samples) (countAt fields) (piece .«head_size») (sampleHeadSizeAt fields) (drop (place + piece .size) file) count head;
         }
 
     -- inside the file

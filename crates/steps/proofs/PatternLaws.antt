@@ -9,7 +9,7 @@ use lib.Seq.{drop-drop}
 use Rattle.xm.specs.Number.{Bytes, part}
 use Rattle.xm.specs.Got.{Got, got, refused, AllHold, _at_}
 use Rattle.xm.specs.Stored.{Pattern, readStored}
-use Rattle.xm.specs.PatternInFile.{headSizeAt, rowsAt, dataSizeAt, patternTests, PatternFound, readPattern, dataMost}
+use Rattle.xm.specs.PatternInFile.{patternHeadSizeAt, rowsAt, dataSizeAt, patternTests, PatternFound, readPattern, dataMost}
 use Rattle.xm.proofs.Number.{bytes-drop, bytes-take, word-small, long-small}
 use Rattle.xm.proofs.Got.{pass, step, step-refused}
 use Rattle.xm.proofs.Fault.{stored-faults}
@@ -35,10 +35,10 @@ head-path p q r = cc
 
 -- one by one, and the bytes from its place on
 pub record HeadOf (from : ℕ) (file : List ℕ) (head : PatternHead) : Type 0 where
-  pub place : head .place ≡ from + headSizeAt (drop from file)
+  pub place : head .place ≡ from + patternHeadSizeAt (drop from file)
   pub size : head .size ≡ dataSizeAt (drop from file)
   pub rows : head .rows ≡ rowsAt (drop from file)
-  pub near : headSizeAt (drop from file) < 4294967296
+  pub near : patternHeadSizeAt (drop from file) < 4294967296
   pub small : dataSizeAt (drop from file) < 65536
   pub left : length (drop from file) ≡ length file - from
 
@@ -89,13 +89,13 @@ module _ (file : List ℕ) (place channels : ℕ) where
     cells = readStored channels (head .rows) 0 cut
 
     abbrev d : List ℕ
-    d = part (headSizeAt from) (dataSizeAt from) from
+    d = part (patternHeadSizeAt from) (dataSizeAt from) from
 
-    same-cut : cut ≡ part (place + headSizeAt from) (dataSizeAt from) file
+    same-cut : cut ≡ part (place + patternHeadSizeAt from) (dataSizeAt from) file
     same-cut = rw (eh, add-sub-cancel-left)
 
-    same-cells : readStored channels (rowsAt from) (place + headSizeAt from) d ≡ shifted (head .place) cells
-    same-cells = stored-shifted _ channels (rowsAt from) d ∙ cc (eh, same-cut, ap (take (dataSizeAt from)) (drop-drop (headSizeAt from) place file))
+    same-cells : readStored channels (rowsAt from) (place + patternHeadSizeAt from) d ≡ shifted (head .place) cells
+    same-cells = stored-shifted _ channels (rowsAt from) d ∙ cc (eh, same-cut, ap (take (dataSizeAt from)) (drop-drop (patternHeadSizeAt from) place file))
 
     -- A fault lies in the cells, or at their end
     pub fault-place : Bytes file → {r : Fault} → cells ≡ refused (refusalIn r) → r .place ≤ dataMost
@@ -113,13 +113,13 @@ module _ (file : List ℕ) (place channels : ℕ) where
     pattern-out q = pass (patternTests place from) h (step-refused _ (same-cells ∙ ap (shifted (head .place)) q))
 
     abbrev found : Pattern → PatternFound
-    found p = record { place = place; headSize = headSizeAt from; dataPlace = place + headSizeAt from; dataSize = dataSizeAt from; content = p }
+    found p = record { place = place; headSize = patternHeadSizeAt from; dataPlace = place + patternHeadSizeAt from; dataSize = dataSizeAt from; content = p }
 
-    pub pattern-in : {p : Pattern} {n : ℕ} → cells ≡ got p n → readPattern channels place from ≡ got (found p) (headSizeAt from + dataSizeAt from)
+    pub pattern-in : {p : Pattern} {n : ℕ} → cells ≡ got p n → readPattern channels place from ≡ got (found p) (patternHeadSizeAt from + dataSizeAt from)
     unfolding readPattern shifted
     pattern-in q = pass (patternTests place from) h (step _ (same-cells ∙ ap (shifted (head .place)) q) refl)
 
-    next-place : head .place + head .size ≡ place + (headSizeAt from + dataSizeAt from)
+    next-place : head .place + head .size ≡ place + (patternHeadSizeAt from + dataSizeAt from)
     next-place = omega (arith, ap PatternHead.place eh, ap PatternHead.size eh)
 
     pub read-in : (g : Got Pattern) {size : StoredSize} → cells ≡ g → stored.Read size ≡ storedOf cut g

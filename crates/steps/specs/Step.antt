@@ -9,9 +9,9 @@ use Rattle.xm.specs.ModuleKind.{ModuleKind}
 use Rattle.xm.specs.Got.{Got, got, refused}
 use Rattle.xm.specs.Stored.{writeStored}
 use Rattle.xm.specs.Header.{channelsAt, patternsAt, instrumentsAt, headerEnd, kindAt, HeaderFound}
-use Rattle.xm.specs.PatternInFile.{headSizeAt, rowsAt, dataSizeAt, PatternFound}
+use Rattle.xm.specs.PatternInFile.{patternHeadSizeAt, rowsAt, dataSizeAt, PatternFound}
 use Rattle.xm.specs.Sample.{sizeOfFirst}
-use Rattle.xm.specs.Instrument.{instrumentSizeAt, countAt, headerSizeAt, fieldsOf, InstrumentFound, readInstrument}
+use Rattle.xm.specs.Instrument.{instrumentSizeAt, countAt, sampleHeadSizeAt, fieldsOf, InstrumentFound, readInstrument}
 use Rattle.xm.specs.Table.{sampleCount}
 use Rattle.refusal.specs.Fault.{faultOf, noFault}
 use Rattle.refusal.specs.declared.Fault.{Fault}
@@ -48,7 +48,7 @@ headerFault (header.Refused fault) = fault
 
 -- A pattern at a place of the file, by the bytes from there on.
 abbrev pub patternHead : (place : ℕ) → List ℕ → PatternHead
-patternHead place s = record { place = place + headSizeAt s; size = dataSizeAt s; rows = rowsAt s }
+patternHead place s = record { place = place + patternHeadSizeAt s; size = dataSizeAt s; rows = rowsAt s }
 
 abbrev pub patternStep : (file : List ℕ) (place : ℕ) → Got PatternFound → PatternStep
 patternStep file place (got i used) = pattern.Read (record {
@@ -73,7 +73,7 @@ faultFrom base fault = record { number = fault .number; place = base + fault .pl
 -- An instrument; without samples it has no H.
 abbrev pub headSizeOf : (k : ℕ) → List ℕ → ℕ
 headSizeOf zero s = 0
-headSizeOf (suc k) s = headerSizeAt s
+headSizeOf (suc k) s = sampleHeadSizeAt s
 
 abbrev pub instrumentHead : ModuleKind → (place : ℕ) → List ℕ → InstrumentHead
 instrumentHead kind place s =

@@ -50,18 +50,18 @@ all-structures (r ∷ rs) = go (isStructure (r .kind)) refl (all-structures rs)
     go false e w = w
 
 module _ (file : List ℕ) (a : structure.Ahead) where
-  abbrev Told : structure.Handed → Type 0
-  Told h = OfStanding IsStructure (h .standing)
+  abbrev StructureTold : structure.Handed → Type 0
+  StructureTold h = OfStanding IsStructure (h .standing)
 
-  either : (t : Bool) (x y : structure.Handed) → Told x → Told y → Told (cond t x y)
+  either : (t : Bool) (x y : structure.Handed) → StructureTold x → StructureTold y → StructureTold (cond t x y)
   either true x y p q = p
   either false x y p q = q
 
-  of-instrument : (g : Got InstrumentFound) → Told (handInstrument g a)
+  of-instrument : (g : Got InstrumentFound) → StructureTold (handInstrument g a)
   of-instrument (got i n) = refl
   of-instrument (refused r) = tt
 
-  pub hand-kind : Told (handOver file a)
+  pub hand-kind : StructureTold (handOver file a)
   unfolding handOver
   hand-kind =
       either (leb (length file) fileMost) _ (endsAt a)

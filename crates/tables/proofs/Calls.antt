@@ -15,7 +15,7 @@ use Rattle.xm.specs.Adpcm.{decodingBy, valuesOf}
 use Rattle.xm.specs.Sample.{leastHead, headBytes, lengthOf, kindOf}
 use Rattle.xm.specs.Module.{regionsOf}
 use Rattle.xm.specs.Press.{contentOf}
-use Rattle.xm.specs.Table.{PatternRow, patternRows, sampleRows, Checked, checkIntoNumbers, checkingInto, patternStride, sampleStride, patternNumbers}
+use Rattle.xm.specs.Table.{PatternRow, patternRows, sampleRows, CheckReport, checkIntoNumbers, checkingInto, patternStride, sampleStride, patternNumbers}
 use Rattle.xm.specs.Table.{sampleNumbers, Tables, Room, roomOf, tablesAfter}
 use Rattle.xm.specs.Asking.{stretchOf, askingFlat, noRow}
 use Rattle.xm.specs.Region.{ofKind}
@@ -43,7 +43,7 @@ pub tables-once : (room : Room) (file : List ℕ) (lent : Tables) {after other :
 tables-once room file lent met e = met ∙ sym e
 
 -- A refused check leaves the tables as they were
-refused-tables : (answer : Answer Checked) (lent : Tables) {fault : Fault} → Refused fault ≡ verdictOf answer → tablesAfter answer lent ≡ lent
+refused-tables : (answer : Answer CheckReport) (lent : Tables) {fault : Fault} → Refused fault ≡ verdictOf answer → tablesAfter answer lent ≡ lent
 unfolding tablesAfter
 refused-tables (gives c) lent e = absurd (let z : _≡_ {A = ℕ} 0 1 = cc in omega arith)
 refused-tables (refuses r) lent e = refl
@@ -61,17 +61,17 @@ unpacks-at file channels (r ∷ rs) (q ∷ qs) row p zero low u = u .0
 unpacks-at file channels (r ∷ rs) (q ∷ qs) row p (suc number) low u = unpacks-at file channels rs qs row p number (omega arith) (u .1)
 
 -- The content's header of a sample, H, and its values
-abbrev pub headAt : Checked → (number : ℕ) → List ℕ
+abbrev pub headAt : CheckReport → (number : ℕ) → List ℕ
 headAt c number = getD (headsIn (contentOf (c .found))) number []
 
-abbrev pub headSizeAt : Checked → (number : ℕ) → ℕ
-headSizeAt c number = getD (ofKind sampleHeader (regionsOf (c .found))) number nowhere .size
+abbrev pub rowHeadSize : CheckReport → (number : ℕ) → ℕ
+rowHeadSize c number = getD (ofKind sampleHeader (regionsOf (c .found))) number nowhere .size
 
-abbrev pub valuesAt : Checked → (number : ℕ) → List ℤ
+abbrev pub valuesAt : CheckReport → (number : ℕ) → List ℤ
 valuesAt c number = valuesOf (headAt c number) (getD (bytesIn (contentOf (c .found))) number [])
 
 -- Of the tables that an accepted check leaves
-module _ (file : List ℕ) (plain : Bytes file) (lent : Tables) (c : Checked) (accepted : checkingInto (roomOf lent) file ≡ gives c) where
+module _ (file : List ℕ) (plain : Bytes file) (lent : Tables) (c : CheckReport) (accepted : checkingInto (roomOf lent) file ≡ gives c) where
   found : AcceptedFile file (c .found) (c .end)
   found = accepted-files file (c .found) (c .end) plain (into-accepted (roomOf lent) file c accepted λ q room. q)
 
@@ -97,7 +97,7 @@ module _ (file : List ℕ) (plain : Bytes file) (lent : Tables) (c : Checked) (a
       rw accepted (number-at sampleStride sampleNumbers (λ row. refl) rows noRow (drop (length (joined sampleNumbers rows)) (lent .samples)) number k low l)
 
   abbrev pub headRead : (number : ℕ) → List ℕ
-  headRead number = headBytes (headSizeAt c number) (drop (sampleNumber number 0) file)
+  headRead number = headBytes (rowHeadSize c number) (drop (sampleNumber number 0) file)
 
   pub filled-decodes : (number : ℕ) → number < length (sampleRows (c .found))
       → decodingBy (kindOf (headRead number)) (lengthOf (headRead number)) (sampleNumber number 3)

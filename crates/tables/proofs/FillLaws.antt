@@ -23,7 +23,7 @@ use Rattle.xm.specs.Asking.{noRow}
 use Rattle.xm.proofs.Lay.{Laid, laid-none, laid-more, laid-done}
 use Rattle.tables.specs.Accepted.{ReadsFrom, InstrumentsFrom}
 use Rattle.steps.specs.Step.{patternHead}
-use Rattle.tables.specs.Place.{dataEnd, Stands}
+use Rattle.tables.specs.Place.{dataEnd, InstrumentHeadStands}
 use Rattle.steps.specs.declared.pattern.PatternHead.{PatternHead}
 use Rattle.steps.specs.declared.instrument.InstrumentHead.{InstrumentHead}
 use Rattle.tables.proofs.Reading.{accepted-small, accepted-header, reads-none}
@@ -129,7 +129,7 @@ module _ (file lent : List ℕ) where
       instruments-place = instruments-next file (w .small) bytes (w .reads) l λ i n more ei s ep rest. omega (arith, s .inside)
 
       module _ {x : InstrumentHead} (e : x ≡ instrumentAt file place) where
-        pub instruments-stands : Stands file x
+        pub instruments-stands : InstrumentHeadStands file x
         instruments-stands = instruments-next file (w .small) bytes (w .reads) l λ i n more ei s ep rest. rw e (s .stands)
 
         instrument-first : {i : InstrumentFound} {n : ℕ} {more : List InstrumentFound} → InstrumentStands file place i n → w .parts ≡ i ∷ more

@@ -12,7 +12,7 @@ use Rattle.xm.specs.Got.{got, AllHold}
 use Rattle.xm.specs.Format.{each}
 use Rattle.xm.specs.Header.{kindAt}
 use Rattle.xm.specs.Sample.{headBytes, dataSize, Stretch, readHead, readData, headFormat, dataFormat, SamplesFound}
-use Rattle.xm.specs.Instrument.{instrumentSizeAt, countAt, headerSizeAt, fieldsOf, instrumentTests, InstrumentFound, readInstrument, instrumentFormat}
+use Rattle.xm.specs.Instrument.{instrumentSizeAt, countAt, sampleHeadSizeAt, fieldsOf, instrumentTests, InstrumentFound, readInstrument, instrumentFormat}
 use Rattle.xm.specs.Module.{fileMost}
 use Rattle.xm.specs.Table.{sampleCount, sampleRowAt, sampleRow, sampleRowsOf, sampleRowsIn}
 use Rattle.xm.proofs.Number.{bytes-drop}
@@ -25,7 +25,7 @@ use Rattle.tables.specs.Accepted.{ReadsFrom}
 use Rattle.steps.specs.Step.{headSizeOf, instrumentHead}
 use Rattle.steps.specs.declared.instrument.InstrumentHead.{InstrumentHead}
 use Rattle.steps.proofs.InstrumentLaws.{fields-pass, found}
-use Rattle.tables.specs.Place.{dataBefore, dataStart, dataEnd, Stands, rowsFrom}
+use Rattle.tables.specs.Place.{dataBefore, dataStart, dataEnd, InstrumentHeadStands, rowsFrom}
 use Rattle.tables.proofs.Reading.{reads-next}
 
 -- One header, and the data that it says
@@ -81,17 +81,17 @@ samples-read (suc k) H place bytesPlace s t heads bytes n m eh ed =
     (samples-more k H place bytesPlace s t h d hs ds a c f ea ec (samples-read k H (place + a) (bytesPlace + c) (drop a s) (drop c t) hs ds b f eb ef))) ed
 
 -- Of an instrument without samples no H matters
-size-times : (k : ℕ) (s : List ℕ) → k * headSizeOf k s ≡ k * headerSizeAt s
-size-times zero s = zero-mul 0 ∙ sym (zero-mul (headerSizeAt s))
+size-times : (k : ℕ) (s : List ℕ) → k * headSizeOf k s ≡ k * sampleHeadSizeAt s
+size-times zero s = zero-mul 0 ∙ sym (zero-mul (sampleHeadSizeAt s))
 size-times (suc k) s = refl
 
-size-before : (k : ℕ) (s t : List ℕ) → dataBefore k (headSizeOf k s) t ≡ dataBefore k (headerSizeAt s) t
+size-before : (k : ℕ) (s t : List ℕ) → dataBefore k (headSizeOf k s) t ≡ dataBefore k (sampleHeadSizeAt s) t
 unfolding dataBefore
 size-before zero s t = refl
 size-before (suc k) s t = refl
 
 size-rows : (k : ℕ) (s : List ℕ) (place bytesPlace : ℕ) (t : List ℕ)
-    → rowsFrom k (headSizeOf k s) place bytesPlace t ≡ rowsFrom k (headerSizeAt s) place bytesPlace t
+    → rowsFrom k (headSizeOf k s) place bytesPlace t ≡ rowsFrom k (sampleHeadSizeAt s) place bytesPlace t
 unfolding rowsFrom
 size-rows zero s place bytesPlace t = refl
 size-rows (suc k) s place bytesPlace t = refl
@@ -103,7 +103,7 @@ instrumentAt file place = instrumentHead (kindAt file) place (drop place file)
 -- An instrument's fields stand in the file, its rows are those of its sample headers, and the next structure starts behind their data
 pub record InstrumentStands (file : List ℕ) (place : ℕ) (i : InstrumentFound) (n : ℕ) : Type 0 where
   pub tests : AllHold (instrumentTests (kindAt file) place (drop place file))
-  pub stands : Stands file (instrumentAt file place)
+  pub stands : InstrumentHeadStands file (instrumentAt file place)
   pub starts : i .place ≡ place
   pub counted : sampleCount i ≡ instrumentAt file place .samples
   pub rows : let x = instrumentAt file place in sampleRowsIn i ≡ rowsFrom (x .samples) (x .«head_size») (x .heads) (dataStart x) (drop (x .heads) file)
@@ -128,7 +128,7 @@ module _ (file : List ℕ) (place : ℕ) where
   k = countAt fields
 
   abbrev H : ℕ
-  H = headerSizeAt fields
+  H = sampleHeadSizeAt fields
 
   stands-rows : {hs ds : List Stretch} {b : ℕ} → SamplesRead k H (place + I) (place + I + k * H) (drop I from) hs ds b
       → sampleRowsOf hs ds ≡ rowsFrom k (headSizeOf k fields) (place + I) (place + I + k * headSizeOf k fields) (drop (place + I) file)

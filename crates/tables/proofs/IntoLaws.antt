@@ -14,10 +14,10 @@ use Rattle.xm.specs.Header.{Header, channelsAt, patternsAt, instrumentsAt, head
 use Rattle.xm.specs.PatternInFile.{patternFormat}
 use Rattle.xm.specs.Instrument.{InstrumentFound, instrumentFormat}
 use Rattle.xm.specs.Module.{Found, readFile}
-use Rattle.xm.specs.Table.{patternRow, patternRows, sampleCount, instrumentRowsFrom, instrumentRows, sampleRows, Checked, checkedAs, checking, checkingInto}
+use Rattle.xm.specs.Table.{patternRow, patternRows, sampleCount, instrumentRowsFrom, instrumentRows, sampleRows, CheckReport, checkedAs, checking, checkingInto}
 use Rattle.xm.specs.Table.{Tables, Room, roomOf, roomTests, tablesAfter, patternStride, instrumentStride, sampleStride, tuneStride, patternNumbers}
 use Rattle.xm.specs.Table.{instrumentNumbers, sampleNumbers, sampleTunes}
-use Rattle.xm.specs.Demands.{RoomFor}
+use Rattle.xm.specs.Demands.{HasRoom}
 use Rattle.xm.proofs.Answer.{gives-bound, gives-passed, gives-same}
 use Rattle.xm.proofs.Format.{joined-length, read-length}
 use Rattle.xm.proofs.Demands.{tables-tell}
@@ -30,7 +30,7 @@ use Rattle.walk.specs.declared.Verdict.{Verdict}
 use Rattle.walk.specs.declared.Verdict.the-variants as verdict
 use Rattle.xm.proofs.Got.{all-hold}
 use Rattle.refusal.proofs.Tests.{not-all-hold}
-use Rattle.tables.specs.Into.{lent, roomFor, roomTestsOf, patternsAfter, instrumentsAfter}
+use Rattle.tables.specs.Into.{lent, roomBeside, roomTestsOf, patternsAfter, instrumentsAfter}
 use Rattle.tables.proofs.Reading.{file-reads}
 use Rattle.tables.proofs.VerdictLaws.{never, verdict-got, verdict-refused}
 
@@ -70,35 +70,35 @@ rows-counted file found end e {x} v =
 
 -- Accepted, a check into some room says what is found, and that there is room for it
 module _ (room : Room) (file : List ℕ) where
-  pub into-accepted : {R : Type 0} (c : Checked) → checkingInto room file ≡ gives c
-      → (readFile file ≡ got (c .found) (c .end) → RoomFor room (c .found) → R) → R
+  pub into-accepted : {R : Type 0} (c : CheckReport) → checkingInto room file ≡ gives c
+      → (readFile file ≡ got (c .found) (c .end) → HasRoom room (c .found) → R) → R
   unfolding checkingInto
   into-accepted c e k =
       gives-bound _ (readFile file) _ e λ found end q d.
       gives-passed _ (roomTests room found) _ d λ h d.
       let same : checkedAs found end ≡ c = gives-same d in
-      let there : RoomFor room (c .found) = rw (← ap Checked.found same) (h .0, h .1 .0, h .1 .1 .0) in
-      k (q ∙ ap₂ got (ap Checked.found same) (ap Checked.end same)) there
+      let there : HasRoom room (c .found) = rw (← ap CheckReport.found same) (h .0, h .1 .0, h .1 .1 .0) in
+      k (q ∙ ap₂ got (ap CheckReport.found same) (ap CheckReport.end same)) there
 
 -- Beside so many rows
 module _ (file patterns instruments : List ℕ) (rows : ℕ) where
-  abbrev into : Answer Checked
-  into = checkingInto (roomFor (length patterns) (length instruments) rows) file
+  abbrev into : Answer CheckReport
+  into = checkingInto (roomBeside (length patterns) (length instruments) rows) file
 
   -- what a call answers, and what it leaves in the two tables
-  pub record Told (answer : Verdict) (patterns′ instruments′ : List ℕ) : Type 0 where
+  pub record IntoTold (answer : Verdict) (patterns′ instruments′ : List ℕ) : Type 0 where
     pub answers : answer ≡ verdictOf into
     pub leaves-patterns : patterns′ ≡ patternsAfter into patterns
     pub leaves-instruments : instruments′ ≡ instrumentsAfter into instruments
 
-  told-refused : {r : Refusal} → into ≡ refuses r → Told (verdict.Refused (faultOf r)) patterns instruments
+  told-refused : {r : Refusal} → into ≡ refuses r → IntoTold (verdict.Refused (faultOf r)) patterns instruments
   told-refused e = record {
     answers = sym (ap verdictOf e);
-    leaves-patterns = sym (ap (λ (a : Answer Checked). patternsAfter a patterns) e);
-    leaves-instruments = sym (ap (λ (a : Answer Checked). instrumentsAfter a instruments) e);
+    leaves-patterns = sym (ap (λ (a : Answer CheckReport). patternsAfter a patterns) e);
+    leaves-instruments = sym (ap (λ (a : Answer CheckReport). instrumentsAfter a instruments) e);
   }
 
-  pub beside-refused : {v : Verdict} {f : Fault} → v ≡ verdictOf (checking file) → v ≡ verdict.Refused f → Told v patterns instruments
+  pub beside-refused : {v : Verdict} {f : Fault} → v ≡ verdictOf (checking file) → v ≡ verdict.Refused f → IntoTold v patterns instruments
   beside-refused e told = verdict-refused file e told λ r q same. rw same (told-refused (tables-tell file _ .own-first r q))
 
   module _ {x : Module} (e : verdict.Accepted x ≡ verdictOf (checking file)) where
@@ -107,14 +107,14 @@ module _ (file patterns instruments : List ℕ) (rows : ℕ) where
     told-found k = verdict-got file e λ found end q v. k found end q v (rows-counted file found end q v)
 
     abbrev fits : Bool
-    fits = allPass (roomTestsOf (roomFor (length patterns) (length instruments) rows) x)
+    fits = allPass (roomTestsOf (roomBeside (length patterns) (length instruments) rows) x)
 
-    pub beside-cramped : fits ≡ false → Told (verdict.Refused (faultOf (14 at 0))) patterns instruments
+    pub beside-cramped : fits ≡ false → IntoTold (verdict.Refused (faultOf (14 at 0))) patterns instruments
     beside-cramped f = told-found λ found end q v c.
         told-refused (tables-tell file _ .no-room-exactly found end q .1
         (λ h. not-all-hold _ f (omega (arith, h .0, c .patterns), (omega (arith, h .1, c .instruments), (omega (arith, h .2, c .samples), tt)))))
 
-    room-for : fits ≡ true → (found : Found) → Counted found x → RoomFor (roomFor (length patterns) (length instruments) rows) found
+    room-for : fits ≡ true → (found : Found) → Counted found x → HasRoom (roomBeside (length patterns) (length instruments) rows) found
     room-for f found c =
         let h = all-hold _ f in (omega (arith, h .0, c .patterns), omega (arith, h .1 .0, c .instruments), omega (arith, h .1 .1 .0, c .samples))
 
@@ -136,13 +136,13 @@ module _ (file patterns instruments : List ℕ) (rows : ℕ) where
     pub beside-filled : fits ≡ true → {patterns′ instruments′ : List ℕ}
         → patterns′ ≡ inFront (joined patternNumbers (listIn patternRows (readFile file))) patterns
         → instruments′ ≡ inFront (joined instrumentNumbers (listIn instrumentRows (readFile file))) instruments
-        → Told (verdict.Accepted x) patterns′ instruments′
+        → IntoTold (verdict.Accepted x) patterns′ instruments′
     beside-filled f p i = told-found λ found end q v c.
         let a : into ≡ gives (checkedAs found end) = tables-tell file _ .filled-else found end q (room-for f found c) in
         record {
           answers = v ∙ sym (ap verdictOf a);
-          leaves-patterns = p ∙ rw q refl ∙ sym (ap (λ (a : Answer Checked). patternsAfter a patterns) a);
-          leaves-instruments = i ∙ rw q refl ∙ sym (ap (λ (a : Answer Checked). instrumentsAfter a instruments) a);
+          leaves-patterns = p ∙ rw q refl ∙ sym (ap (λ (a : Answer CheckReport). patternsAfter a patterns) a);
+          leaves-instruments = i ∙ rw q refl ∙ sym (ap (λ (a : Answer CheckReport). instrumentsAfter a instruments) a);
         }
 
 -- Into the tables: beside the rows for samples that are lent as flat numbers, which stay to be filled
@@ -150,7 +150,7 @@ module _ (file patterns instruments samples : List ℕ) (tunes : List ℤ) where
   abbrev tables : Tables
   tables = lent patterns instruments samples tunes
 
-  abbrev answer : Answer Checked
+  abbrev answer : Answer CheckReport
   answer = checkingInto (roomOf tables) file
 
   abbrev rowsLent : ℕ
@@ -165,24 +165,24 @@ module _ (file patterns instruments samples : List ℕ) (tunes : List ℤ) where
   lent-path p q r s = cc
 
   module _ {rows : ℕ} {v : Verdict} {patterns′ instruments′ : List ℕ} (n : rows ≡ rowsLent)
-      (told : Told file patterns instruments rows v patterns′ instruments′) where
-    here : Told file patterns instruments rowsLent v patterns′ instruments′
-    here = subst (λ (rows : ℕ). Told file patterns instruments rows v patterns′ instruments′) n told
+      (told : IntoTold file patterns instruments rows v patterns′ instruments′) where
+    here : IntoTold file patterns instruments rowsLent v patterns′ instruments′
+    here = subst (λ (rows : ℕ). IntoTold file patterns instruments rows v patterns′ instruments′) n told
 
     pub into-refused : {f : Fault} → v ≡ verdict.Refused f → ToldInto v (lent patterns′ instruments′ samples tunes)
     unfolding tablesAfter
     into-refused refused = record { answers = here .answers; leaves = go answer refl }
       where
-        go : (a : Answer Checked) → answer ≡ a → lent patterns′ instruments′ samples tunes ≡ tablesAfter answer tables
+        go : (a : Answer CheckReport) → answer ≡ a → lent patterns′ instruments′ samples tunes ≡ tablesAfter answer tables
         go (gives c) q = never (sym (here .answers ∙ ap verdictOf q) ∙ refused)
         go (refuses r) q = rw q (lent-path (here .leaves-patterns ∙ rw q refl) (here .leaves-instruments ∙ rw q refl) refl refl)
 
     module _ {x : Module} (is : v ≡ verdict.Accepted x) where
-      accepts : {R : Type 0} → ((c : Checked) → answer ≡ gives c → readFile file ≡ got (c .found) (c .end) → RoomFor (roomOf tables) (c .found)
+      accepts : {R : Type 0} → ((c : CheckReport) → answer ≡ gives c → readFile file ≡ got (c .found) (c .end) → HasRoom (roomOf tables) (c .found)
           → x .samples ≡ length (sampleRows (c .found)) → R) → R
       accepts {R} k = go answer refl
         where
-          go : (a : Answer Checked) → answer ≡ a → R
+          go : (a : Answer CheckReport) → answer ≡ a → R
           go (gives c) q =
               into-accepted (roomOf tables) file c q λ found h. k c q found h (ap Module.samples (same-module (sym is ∙ here .answers ∙ ap verdictOf q)))
           go (refuses r) q = never (sym is ∙ here .answers ∙ ap verdictOf q)

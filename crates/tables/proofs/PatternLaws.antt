@@ -6,7 +6,7 @@ use native.Mathlib.Omega.{arith}
 use lib.ListN.{length, drop, length-drop}
 use Rattle.xm.specs.Got.{got}
 use Rattle.xm.specs.Stored.{rowsMost}
-use Rattle.xm.specs.PatternInFile.{leastPattern, headSizeAt, rowsAt, dataSizeAt, PatternFound, readPattern}
+use Rattle.xm.specs.PatternInFile.{leastPattern, patternHeadSizeAt, rowsAt, dataSizeAt, PatternFound, readPattern}
 use Rattle.xm.specs.Table.{patternRow, patternNumbers}
 use Rattle.xm.proofs.Got.{passed, bind-got, got-carry}
 use Rattle.xm.proofs.Stored.{stored-rows}
@@ -18,8 +18,8 @@ pub record PatternStands (file : List ℕ) (place : ℕ) (i : PatternFound) (n :
   pub numbers : patternNumbers (patternRow i)
       ≡ patternHead place (drop place file) .place ∷ patternHead place (drop place file) .size
       ∷ patternHead place (drop place file) .rows ∷ []
-  pub used : n ≡ headSizeAt (drop place file) + dataSizeAt (drop place file)
-  pub least : leastPattern ≤ headSizeAt (drop place file)
+  pub used : n ≡ patternHeadSizeAt (drop place file) + dataSizeAt (drop place file)
+  pub least : leastPattern ≤ patternHeadSizeAt (drop place file)
   pub inside : place + n ≤ length file
   pub few : patternHead place (drop place file) .rows ≤ rowsMost
 
@@ -32,7 +32,7 @@ pattern-stands channels file place i n e =
     got-carry (λ (r : PatternFound) (t : ℕ). PatternStands file place r t) e
     (record {
       starts = refl;
-      numbers = ap (λ (r : ℕ). (place + headSizeAt s) ∷ dataSizeAt s ∷ r ∷ []) (stored-rows channels (rowsAt s) _ _ p m ep);
+      numbers = ap (λ (r : ℕ). (place + patternHeadSizeAt s) ∷ dataSizeAt s ∷ r ∷ []) (stored-rows channels (rowsAt s) _ _ p m ep);
       used = refl;
       least = h .1 .0;
       inside = omega (arith, h .1 .0, h .1 .1 .1 .0, length-drop place file);

@@ -16,8 +16,8 @@ use Rattle.xm.specs.Module.{Found, fileMost, readFile}
 use Rattle.xm.specs.Table.{patternRow, patternNumbers}
 use Rattle.steps.specs.Step.{patternHead}
 use Rattle.tables.specs.Accepted.{ReadsFrom, InstrumentsFrom}
-use Rattle.tables.specs.Place.{dataBefore, dataStart, dataEnd, Stands}
-use Rattle.tables.specs.Sought.{Left}
+use Rattle.tables.specs.Place.{dataBefore, dataStart, dataEnd, InstrumentHeadStands}
+use Rattle.tables.specs.Sought.{SamplesLeft}
 use Rattle.steps.specs.declared.pattern.PatternHead.{PatternHead}
 use Rattle.steps.specs.declared.instrument.InstrumentHead.{InstrumentHead}
 use Rattle.xm.proofs.Got.{accepted-got}
@@ -76,10 +76,10 @@ times-step zero size l = absurd (omega arith)
 times-step (suc left) size l = let z : suc left - 1 ≡ left = omega arith in rw z (omega (arith, suc-mul left size))
 
 -- The samples that are left of an instrument: all of them, and those behind the next one
-pub left-start : (file : List ℕ) (x : InstrumentHead) → Stands file x → Left file (x .«head_size») (dataEnd file x) (x .samples) (x .heads) (dataStart x)
+pub left-start : (file : List ℕ) (x : InstrumentHead) → InstrumentHeadStands file x → SamplesLeft file (x .«head_size») (dataEnd file x) (x .samples) (x .heads) (dataStart x)
 left-start file x w = record { same = refl; fits = omega (arith, w .inside); inside = w .inside }
 
-module _ (file : List ℕ) (size end : ℕ) {left head place : ℕ} (w : Left file size end left head place) where
+module _ (file : List ℕ) (size end : ℕ) {left head place : ℕ} (w : SamplesLeft file size end left head place) where
   pub left-end : left ≡ 0 → place ≡ end
   unfolding dataBefore
   left-end z = let e : place + 0 ≡ end = rw z at (w .same) in omega arith
@@ -88,7 +88,7 @@ module _ (file : List ℕ) (size end : ℕ) {left head place : ℕ} (w : Left fi
     pub left-room : head + size ≤ length file
     left-room = omega (arith, w .fits, times-step left size l)
 
-    pub left-on : {size′ : ℕ} → size′ ≡ dataSize (headBytes size (drop head file)) → Left file size end (left - 1) (head + size) (place + size′)
+    pub left-on : {size′ : ℕ} → size′ ≡ dataSize (headBytes size (drop head file)) → SamplesLeft file size end (left - 1) (head + size) (place + size′)
     left-on e = record {
       same = omega (arith, w .same, e, before-step left size (drop head file) l, ap (dataBefore (left - 1) size) (drop-drop size head file));
       fits = omega (arith, w .fits, times-step left size l);

@@ -19,7 +19,7 @@ use Rattle.xm.specs.Table as row
 use Rattle.xm.specs.Table.{sampleRowAt, sampleRowsIn, sampleRows}
 use Rattle.xm.specs.Asking.{noRow}
 use Rattle.tables.specs.Accepted.{ReadsFrom, InstrumentsFrom}
-use Rattle.tables.specs.Place.{dataBefore, dataStart, Stands, rowsFrom}
+use Rattle.tables.specs.Place.{dataBefore, dataStart, InstrumentHeadStands, rowsFrom}
 use Rattle.tables.specs.Sought.{Seeks, soughtFrom}
 use Rattle.steps.specs.declared.instrument.InstrumentHead.{InstrumentHead}
 use Rattle.tables.specs.declared.sample.SampleRow.{SampleRow}
@@ -171,7 +171,7 @@ module _ (file : List ℕ) (number : ℕ) (some : number < length (listIn sample
       seeks-tests = seeks-next λ i n more s ep rest. s .tests
 
       module _ {x : InstrumentHead} (e : x ≡ instrumentAt file place) where
-        pub seeks-stands : Stands file x
+        pub seeks-stands : InstrumentHeadStands file x
         seeks-stands = seeks-next λ i n more s ep rest. rw e (s .stands)
 
         pub seeks-on : Seeks file (record { number = number; left = x .samples; head = x .heads; «head_size» = x .«head_size»; «data_place» = dataStart x })

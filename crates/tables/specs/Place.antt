@@ -23,7 +23,7 @@ abbrev pub dataEnd : (file : List ℕ) → InstrumentHead → ℕ
 dataEnd file x = dataStart x + dataBefore (x .samples) (x .«head_size») (drop (x .heads) file)
 
 -- An instrument whose headers and data lie in the file.
-pub record Stands (file : List ℕ) (x : InstrumentHead) : Type 0 where
+pub record InstrumentHeadStands (file : List ℕ) (x : InstrumentHead) : Type 0 where
   pub small : length file ≤ fileMost
   pub few : x .samples ≤ samplesMost
   pub inside : dataEnd file x ≤ length file
@@ -35,8 +35,8 @@ rowsFrom (suc number) size head bytesPlace s =
     row.sampleRowAt head bytesPlace (headBytes size s) ∷ rowsFrom number size (head + size) (bytesPlace + dataSize (headBytes size s)) (drop size s)
 
 -- The row as the code has it.
-abbrev pub sampleRow : row.SampleRow → SampleRow
-sampleRow r = record {
+abbrev pub codeRow : row.SampleRow → SampleRow
+codeRow r = record {
   «header_place» = r .headerPlace;
   «data_place» = r .dataPlace;
   length = r .size;
@@ -49,8 +49,8 @@ sampleRow r = record {
 }
 
 -- and its numbers in the tables.
-abbrev pub numbersOf : SampleRow → List ℕ
-numbersOf r = r .«header_place» ∷ r .«data_place» ∷ r .length ∷ r .width ∷ r .«loop_kind» ∷ r .«loop_start» ∷ r .«loop_length» ∷ []
+abbrev pub codeRowNumbers : SampleRow → List ℕ
+codeRowNumbers r = r .«header_place» ∷ r .«data_place» ∷ r .length ∷ r .width ∷ r .«loop_kind» ∷ r .«loop_start» ∷ r .«loop_length» ∷ []
 
 abbrev pub tunesOf : SampleRow → List ℤ
 tunesOf r = r .finetune ∷ r .«relative_note» ∷ []

@@ -14,7 +14,7 @@ use Rattle.tables.specs.Place.{dataBefore, rowsFrom}
 use Rattle.tables.specs.declared.sample.Sought.{Sought}
 
 -- So many samples are left of an instrument: `head` is the next one's header, its data begin at `place`, and the data of all end at `end`.
-pub record Left (file : List ℕ) (size end left head place : ℕ) : Type 0 where
+pub record SamplesLeft (file : List ℕ) (size end left head place : ℕ) : Type 0 where
   pub same : place + dataBefore left size (drop head file) ≡ end
   pub fits : head + left * size ≤ length file
   pub inside : end ≤ length file
@@ -22,7 +22,7 @@ pub record Left (file : List ℕ) (size end left head place : ℕ) : Type 0 wher
 -- The rows from its number on are those of the samples that are left of its instrument, and then those of the instruments behind it.
 pub record Seeks (file : List ℕ) (x : Sought) : Type 0 where
   pub behind : ℕ
-  pub here : Left file (x .«head_size») behind (x .left) (x .head) (x .«data_place»)
+  pub here : SamplesLeft file (x .«head_size») behind (x .left) (x .head) (x .«data_place»)
   pub count : ℕ
   pub parts : List InstrumentFound
   pub end : ℕ

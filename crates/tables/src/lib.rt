@@ -20,7 +20,7 @@ ghost use lib.ListN.{length};
 ghost use Rattle.xm.specs.Table.{sampleStride, tuneStride, checkingInto};
 ghost use Rattle.xm.specs.Got.{allPass};
 ghost use Rattle.walk.specs.File.{verdictOf};
-ghost use Rattle.tables.specs.Into.{lent, checkedInto, tablesThen, roomFor, roomTestsOf, patternsAfter, instrumentsAfter};
+ghost use Rattle.tables.specs.Into.{lent, checkedInto, tablesThen, roomBeside, roomTestsOf, patternsAfter, instrumentsAfter};
 
 // How many rows are lent for samples: seven numbers to a row, and apart its two tunes. What is left of a last row that is not whole
 // counts for none.
@@ -34,7 +34,7 @@ fn rows_lent(samples: usize, tunes: usize) -> usize
 
 // Whether there is a row for each structure: the pattern and instrument tables by their numbers, the samples' by its rows.
 fn has_room(found: Module, patterns: usize, instruments: usize, rows: usize) -> bool
-    ensures { λ r. ⌜ r ≡ allPass (roomTestsOf (roomFor patterns instruments rows) found) ⌝ }
+    ensures { λ r. ⌜ r ≡ allPass (roomTestsOf (roomBeside patterns instruments rows) found) ⌝ }
 {
     if patterns / PATTERN_STRIDE < found.patterns {
         return false;
@@ -56,11 +56,11 @@ pub fn check_beside(
     instruments: &mut [u32],
     rows: usize,
 ) -> Verdict
-    ensures answer { λ r. ⌜ r ≡ verdictOf (checkingInto (roomFor (length (now (patterns .entry))) (length (now (instruments .entry))) rows) (now (file .entry))) ⌝ }
+    ensures answer { λ r. ⌜ r ≡ verdictOf (checkingInto (roomBeside (length (now (patterns .entry))) (length (now (instruments .entry))) rows) (now (file .entry))) ⌝ }
     ensures patterns { λ _. ⌜ now (patterns .exit)
-        ≡ patternsAfter (checkingInto (roomFor (length (now (patterns .entry))) (length (now (instruments .entry))) rows) (now (file .entry))) (now (patterns .entry)) ⌝ }
+        ≡ patternsAfter (checkingInto (roomBeside (length (now (patterns .entry))) (length (now (instruments .entry))) rows) (now (file .entry))) (now (patterns .entry)) ⌝ }
     ensures instruments { λ _. ⌜ now (instruments .exit)
-        ≡ instrumentsAfter (checkingInto (roomFor (length (now (patterns .entry))) (length (now (instruments .entry))) rows) (now (file .entry))) (now (instruments .entry)) ⌝ }
+        ≡ instrumentsAfter (checkingInto (roomBeside (length (now (patterns .entry))) (length (now (instruments .entry))) rows) (now (file .entry))) (now (instruments .entry)) ⌝ }
 {
     let verdict = check(file);
     let Verdict::Accepted(found) = verdict else {

@@ -9,7 +9,7 @@ ghost use mathlib.Core.Path.{_≡_};
 ghost use Rattle.xm.specs.Got.{accepted};
 ghost use Rattle.xm.specs.Module.{readFile};
 ghost use Rattle.tables.specs.Accepted.{InstrumentsFrom};
-ghost use Rattle.tables.specs.Place.{dataEnd, Stands};
+ghost use Rattle.tables.specs.Place.{dataEnd, InstrumentHeadStands};
 
 // Where the first instrument stands: patterns are stepped over by L + S.
 pub fn first_instrument(file: &[u8]) -> usize
@@ -29,7 +29,7 @@ pub fn first_instrument(file: &[u8]) -> usize
 
 // Where the data of an instrument's samples end.
 pub fn data_end(file: &[u8], instrument: InstrumentHead) -> usize
-    requires { ⌜ Stands (now file) instrument ⌝ }
+    requires { ⌜ InstrumentHeadStands (now file) instrument ⌝ }
     ensures { λ r. ⌜ r ≡ dataEnd (now (file .entry)) instrument ⌝ }
 {
     let size = instrument.head_size;

@@ -15,7 +15,7 @@ ghost use Rattle.xm.specs.Module.{fileMost, readFile};
 ghost use Rattle.xm.specs.Lay.{lay};
 ghost use Rattle.xm.specs.Table.{sampleRowAt, sampleRows, sampleStride, tuneStride};
 ghost use Rattle.xm.specs.Asking.{noRow};
-ghost use Rattle.tables.specs.Place.{sampleRow, numbersOf, tunesOf};
+ghost use Rattle.tables.specs.Place.{codeRow, codeRowNumbers, tunesOf};
 ghost use Rattle.tables.specs.Sought.{soughtFrom, Seeks};
 
 // Tunes to a row.
@@ -61,7 +61,7 @@ fn sample_row(file: &[u8], head: usize, size: usize, data_place: usize) -> Sampl
     requires { ⌜ length (now file) ≤ fileMost ⌝ }
     requires { ⌜ head + size ≤ length (now file) ⌝ }
     requires { ⌜ «data_place» ≤ length (now file) ⌝ }
-    ensures { λ r. ⌜ r ≡ sampleRow (sampleRowAt head «data_place» (headBytes size (drop head (now (file .entry))))) ⌝ }
+    ensures { λ r. ⌜ r ≡ codeRow (sampleRowAt head «data_place» (headBytes size (drop head (now (file .entry))))) ⌝ }
 {
     let sample = sample_head(file, head, size);
     let looping = loops(sample.form, sample.loop_length);
@@ -122,7 +122,7 @@ pub fn first_sought(file: &[u8], count: usize) -> Sought
 // The row of a sample of an accepted file: behind an instrument's last one, only the instruments without any are stepped over.
 pub fn row_step(file: &[u8], from: Sought) -> RowStep
     requires { ⌜ (from .number < length (listIn sampleRows (readFile (now file)))) × (from .number + 1 < 2 ^ 64) × Seeks (now file) from ⌝ }
-    ensures { λ r. ⌜ (r .row ≡ sampleRow (getD (listIn sampleRows (readFile (now (file .entry)))) (from .number) noRow))
+    ensures { λ r. ⌜ (r .row ≡ codeRow (getD (listIn sampleRows (readFile (now (file .entry)))) (from .number) noRow))
         × (r .next .number ≡ from .number + 1)
         × Seeks (now (file .entry)) (r .next) ⌝ }
 {
@@ -156,7 +156,7 @@ pub fn row_step(file: &[u8], from: Sought) -> RowStep
 pub fn put_sample(samples: &mut [u32], tunes: &mut [i8], number: usize, row: SampleRow)
     requires { ⌜ sampleStride * number + sampleStride ≤ length (now samples) ⌝ }
     requires { ⌜ tuneStride * number + tuneStride ≤ length (now tunes) ⌝ }
-    ensures { λ _. ⌜ now (samples .exit) ≡ lay (now (samples .entry)) (sampleStride * number) (numbersOf row) ⌝ }
+    ensures { λ _. ⌜ now (samples .exit) ≡ lay (now (samples .entry)) (sampleStride * number) (codeRowNumbers row) ⌝ }
     ensures { λ _. ⌜ now (tunes .exit) ≡ lay (now (tunes .entry)) (tuneStride * number) (tunesOf row) ⌝ }
 {
     let to = SAMPLE_STRIDE * number;

@@ -7,14 +7,14 @@ use Rattle.xm.specs.ModuleKind.{ModuleKind}
 use Rattle.xm.specs.Got.{Refusal, refused}
 use Rattle.xm.specs.Answer.{Answer, gives, refuses, numbers}
 use Rattle.xm.specs.Module.{Content, moduleFormat, readFile}
-use Rattle.xm.specs.Table.{Checked, checking, checkResults, checkNumbers}
+use Rattle.xm.specs.Table.{CheckReport, checking, checkResults, checkNumbers}
 use Rattle.xm.specs.Demands.{FileOf, countsOf, accepts}
 use Rattle.xm.proofs.Demands.{demand₂}
 use Rattle.walk.specs.declared.Verdict.{Verdict}
 use Rattle.walk.specs.File.{verdictOf, verdictNumbers}
 
 -- The numbers are the paper's
-pub verdict-numbers : (answer : Answer Checked) → verdictNumbers (verdictOf answer) ≡ numbers checkResults answer
+pub verdict-numbers : (answer : Answer CheckReport) → verdictNumbers (verdictOf answer) ≡ numbers checkResults answer
 verdict-numbers (gives c) = refl
 verdict-numbers (refuses r) = refl
 

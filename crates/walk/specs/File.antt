@@ -9,7 +9,7 @@ use Rattle.xm.specs.Answer.{Answer, gives, refuses}
 use Rattle.xm.specs.PatternInFile.{PatternFound, patternFormat}
 use Rattle.xm.specs.Instrument.{InstrumentFound, instrumentFormat}
 use Rattle.xm.specs.Module.{Found}
-use Rattle.xm.specs.Table.{sampleRowsIn, sampleRows, Checked}
+use Rattle.xm.specs.Table.{sampleRowsIn, sampleRows, CheckReport}
 use Rattle.xm.specs.Press.{contentOf, pressed}
 use Rattle.refusal.specs.Fault.{faultOf, noFault}
 use Rattle.refusal.specs.declared.Fault.{Fault}
@@ -60,7 +60,7 @@ walkFault (walked.Accepted pressed) = noFault
 walkFault (walked.Refused fault) = fault
 
 -- "An accepted check reports the end of the last structure and the numbers of channels, patterns, instruments and samples".
-abbrev pub verdictOf : Answer Checked → Verdict
+abbrev pub verdictOf : Answer CheckReport → Verdict
 verdictOf (gives c) = verdict.Accepted (record {
   end = c .end;
   channels = c .found .0 .content .channels;

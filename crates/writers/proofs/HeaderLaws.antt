@@ -9,7 +9,7 @@ use Rattle.xm.specs.Number.{Bytes, wordAt, part, byte, word, long}
 use Rattle.xm.specs.ModuleKind.{ModuleKind, normal, stripped}
 use Rattle.xm.specs.Header.{sizeFrom, idText, mark, version, leastHeader, padding, ordersMost, channelsAt, instrumentsAt, restartOf, writeHeader}
 use Rattle.xm.proofs.Format.{flat-append}
-use Rattle.writers.specs.Header.{trackerBy, headerWith, namesOf, numbersOf, ordersOf}
+use Rattle.writers.specs.Header.{trackerBy, headerWith, namesOf, headerNumbers, ordersOf}
 use Rattle.writers.proofs.Kept.{part-length, part-split, word-kept}
 
 -- What differs between the two kinds fits where it is written
@@ -51,7 +51,7 @@ orders-size kind orders = simp (length-append, length-replicate) (omega arith)
 module _ (kind : ModuleKind) (tracker : List ℕ) where
   pub header-parts : (patterns : ℕ) (orders file : List ℕ)
       → writeHeader kind (headerWith tracker patterns orders file)
-      ≡ namesOf kind tracker file ++ (numbersOf kind (length orders) patterns file ++ ordersOf kind orders)
+      ≡ namesOf kind tracker file ++ (headerNumbers kind (length orders) patterns file ++ ordersOf kind orders)
   unfolding writeHeader
   header-parts patterns orders file =
       let numbers : List (List ℕ) =

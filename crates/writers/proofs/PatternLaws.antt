@@ -23,7 +23,7 @@ use Rattle.shortest.specs.Found.{storedPressed, Known}
 use Rattle.mark.specs.Mark.{copied, nothing, Marked}
 use Rattle.mark.proofs.MarkLaws.{marked-nothing, marked-copied}
 use Rattle.writers.specs.Found.{readAt, pressedAt}
-use Rattle.writers.specs.Pattern.{patternHead}
+use Rattle.writers.specs.Pattern.{writtenHead}
 use Rattle.writers.proofs.Writing.{first-last}
 
 module _ (file : List ℕ) (place channels mark : ℕ) where
@@ -90,7 +90,7 @@ module _ (file : List ℕ) (place channels mark : ℕ) where
       pub long : length (pressedAt patternFormat channels file place) ≡ 9 + length (storedPressed row channels cut)
       pub written : {shortest : ℕ} → shortest ≡ length (storedPressed row channels cut)
           → (lent : List ℕ) {left : List ℕ} → 9 ≤ length lent → left ≡ inFront (storedPressed row channels cut) (take (length lent - 9) (drop 9 lent))
-          → inFront (patternHead row shortest) (putMid 9 (length lent - 9) lent left) ≡ inFront (pressedAt patternFormat channels file place) lent
+          → inFront (writtenHead row shortest) (putMid 9 (length lent - 9) lent left) ≡ inFront (pressedAt patternFormat channels file place) lent
 
     module _ (told : Told (λ i. Marked file i mark) (readAt patternFormat channels file place)) where
       abbrev w : AsRead
@@ -113,11 +113,11 @@ module _ (file : List ℕ) (place channels mark : ℕ) where
           ap₂ (λ (n : ℕ) (s : List ℕ). storedPressed n channels s) q same-cut
           ∙ ap (listIn writeStored) (stored-anywhere channels (wordAt 5 from) (place + L) 0 d (w .pattern) (w .used) (w .reads))
 
-      is-written : pressedAt patternFormat channels file place ≡ patternHead row (length (storedPressed row channels cut)) ++ storedPressed row channels cut
+      is-written : pressedAt patternFormat channels file place ≡ writtenHead row (length (storedPressed row channels cut)) ++ storedPressed row channels cut
       unfolding writePattern
       is-written =
-          w .written ∙ ap₂ (λ (n : ℕ) (l : List ℕ). patternHead n (length l) ++ (l ++ [])) (sym is-rows) (sym is-pressed)
-          ∙ ap (λ (l : List ℕ). patternHead row (length (storedPressed row channels cut)) ++ l) (append-nil (storedPressed row channels cut))
+          w .written ∙ ap₂ (λ (n : ℕ) (l : List ℕ). writtenHead n (length l) ++ (l ++ [])) (sym is-rows) (sym is-pressed)
+          ∙ ap (λ (l : List ℕ). writtenHead row (length (storedPressed row channels cut)) ++ l) (append-nil (storedPressed row channels cut))
 
       pub pattern-lies : Bytes file → 1 ≤ channels → channels ≤ channelsMost → PatternLies
       pattern-lies b some high =
@@ -138,7 +138,7 @@ module _ (file : List ℕ) (place channels mark : ℕ) where
             };
             long = ap length is-written ∙ omega arith;
             written = λ {shortest} e lent h l.
-                first-last lent (patternHead row shortest) (storedPressed row channels cut) 9 refl h l
-                ∙ ap (λ (shortest : ℕ). inFront (patternHead row shortest ++ storedPressed row channels cut) lent) e
+                first-last lent (writtenHead row shortest) (storedPressed row channels cut) 9 refl h l
+                ∙ ap (λ (shortest : ℕ). inFront (writtenHead row shortest ++ storedPressed row channels cut) lent) e
                 ∙ ap (λ (whole : List ℕ). inFront whole lent) (sym is-written);
           }

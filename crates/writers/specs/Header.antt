@@ -33,8 +33,8 @@ headerWith tracker patterns orders file = record {
 abbrev pub namesOf : ModuleKind → (tracker file : List ℕ) → List ℕ
 namesOf kind tracker file = flat (idText kind ∷ part 17 20 file ∷ byte (mark kind) ∷ tracker ∷ word (version kind) ∷ [])
 
-abbrev pub numbersOf : ModuleKind → (songLength patterns : ℕ) (file : List ℕ) → List ℕ
-numbersOf kind songLength patterns file = flat (
+abbrev pub headerNumbers : ModuleKind → (songLength patterns : ℕ) (file : List ℕ) → List ℕ
+headerNumbers kind songLength patterns file = flat (
     long (leastHeader kind songLength)
     ∷ word songLength
     ∷ word (restartOf songLength (wordAt 66 file))

@@ -5,5 +5,5 @@ use Rattle.xm.specs.Number.{byte, word, long}
 use Rattle.xm.specs.Format.{flat}
 use Rattle.xm.specs.PatternInFile.{leastPattern}
 
-abbrev pub patternHead : (rows size : ℕ) → List ℕ
-patternHead rows size = flat (long leastPattern ∷ byte 0 ∷ word rows ∷ word size ∷ [])
+abbrev pub writtenHead : (rows size : ℕ) → List ℕ
+writtenHead rows size = flat (long leastPattern ∷ byte 0 ∷ word rows ∷ word size ∷ [])

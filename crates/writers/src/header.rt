@@ -14,7 +14,7 @@ ghost use lib.ListN.{length};
 ghost use Rattle.xm.specs.ModuleKind.{kindBy};
 ghost use Rattle.xm.specs.Answer.{inFront};
 ghost use Rattle.xm.specs.Header.{sizeFrom, ordersFrom, ordersMost, leastHeader, padding, idText, restartOf, writeHeader};
-ghost use Rattle.writers.specs.Header.{trackerBy, namesOf, numbersOf, ordersOf, headerWith};
+ghost use Rattle.writers.specs.Header.{trackerBy, namesOf, headerNumbers, ordersOf, headerWith};
 
 const ID_TEXT: [u8; 17] = *b"Extended module: ";
 
@@ -73,7 +73,7 @@ fn write_numbers(file: &[u8], to: bool, song_length: usize, patterns: usize, out
     requires { ⌜ «song_length» < 65536 ⌝ }
     requires { ⌜ patterns < 65536 ⌝ }
     requires { ⌜ 20 ≤ length (now out) ⌝ }
-    ensures { λ _. ⌜ now (out .exit) ≡ inFront (numbersOf (kindBy to) «song_length» patterns (now (file .entry))) (now (out .entry)) ⌝ }
+    ensures { λ _. ⌜ now (out .exit) ≡ inFront (headerNumbers (kindBy to) «song_length» patterns (now (file .entry))) (now (out .entry)) ⌝ }
 {
     put_long(least_header(to, song_length), out);
     put_word(song_length, &mut out[4..]);

@@ -16,14 +16,14 @@ ghost use Rattle.xm.specs.Stored.{channelsMost, rowsMost};
 ghost use Rattle.xm.specs.PatternInFile.{dataMost, patternFormat};
 ghost use Rattle.mark.specs.Mark.{Marked};
 ghost use Rattle.writers.specs.Found.{readAt, pressedAt};
-ghost use Rattle.writers.specs.Pattern.{patternHead};
+ghost use Rattle.writers.specs.Pattern.{writtenHead};
 
 // L, packing type, rows and S: 9 bytes.
 fn write_head(rows: usize, size: usize, out: &mut [u8])
     requires { ⌜ rows ≤ rowsMost ⌝ }
     requires { ⌜ size ≤ dataMost ⌝ }
     requires { ⌜ 9 ≤ length (now out) ⌝ }
-    ensures { λ _. ⌜ now (out .exit) ≡ inFront (patternHead rows size) (now (out .entry)) ⌝ }
+    ensures { λ _. ⌜ now (out .exit) ≡ inFront (writtenHead rows size) (now (out .entry)) ⌝ }
 {
     put_long(9, out);
     put_byte(0, &mut out[4..]);

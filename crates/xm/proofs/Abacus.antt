@@ -27,8 +27,8 @@ use Rattle.xm.specs.Asking.{asking, askNumbers, askingFlat}
 use Rattle.xm.specs.Structure.{kindNumber, structuresOf, Standing, stands, ended, handHead, handOver}
 use Rattle.xm.specs.Press.{pressed}
 use Rattle.xm.specs.Convert.{convertTests, converting}
-use Rattle.xm.specs.Bench.{listIn}
-use Rattle.xm.specs.Worked.{headed, small, nothing, counted, five, sampled, noted}
+use Rattle.xm.specs.Bench.{answerList}
+use Rattle.xm.specs.Worked.{headed, small, noBytes, counted, fiveBytes, sampled, noted}
 use Rattle.xm.specs.Wrong.{song}
 
 -- A note of 200 is read whole; a full cell with a note of 128 is written marked, in six bytes, and with one of 127 plain
@@ -199,7 +199,7 @@ cut-off = (refl, refl)
 -- Stripped instruments: 1 of three bytes, 10 of I = 3, 1 of I = 5 in four bytes, 1 of I = 40 in 28 bytes before the 10 of 17 samples; 16 samples with
 -- no H are read, and so is I = 4; an H of 41 that is not there gets 1
 pub stripped-refused : map (λ (s : List ℕ). numberOf (readInstrument stripped 0 s))
-    ((4 ∷ 0 ∷ 0 ∷ []) ∷ long 3 ∷ long 5 ∷ counted 40 17 ∷ counted 28 17 ∷ counted 28 16 ∷ nothing ∷ sampled 41 [] [] ∷ [])
+    ((4 ∷ 0 ∷ 0 ∷ []) ∷ long 3 ∷ long 5 ∷ counted 40 17 ∷ counted 28 17 ∷ counted 28 16 ∷ noBytes ∷ sampled 41 [] [] ∷ [])
     ≡ 1 ∷ 10 ∷ 1 ∷ 1 ∷ 10 ∷ 0 ∷ 0 ∷ 1 ∷ []
 unfolding readInstrument readHead readData dataSize padded _>>=_ _>>_ ensure checked wordAt longAt
 stripped-refused = refl
@@ -209,9 +209,9 @@ stripped-refused = refl
 pub smallest : (map smallestHead
     ((replicate 40 0 ∷ []) ∷ (replicate 40 0 ∷ sampleHead 5 0 0 0 0 ∷ []) ∷ (adpcmHead 1 0 ∷ sampleHead 5 0 0 0 0 ∷ []) ∷ [])
     ≡ 0 ∷ 1 ∷ 18 ∷ [])
-    × (writeInstrument stripped (record { name = replicate 22 0; type = 0; voice = []; samples = ([], []) }) ≡ nothing)
+    × (writeInstrument stripped (record { name = replicate 22 0; type = 0; voice = []; samples = ([], []) }) ≡ noBytes)
     × (let samples : Samples = (sampleHead 5 0 0 0 0 ∷ [], (1 ∷ 2 ∷ 3 ∷ 4 ∷ 5 ∷ []) ∷ []) in
-    writeInstrument stripped (record { name = replicate 22 0; type = 0; voice = replicate 208 0; samples = samples }) ≡ five)
+    writeInstrument stripped (record { name = replicate 22 0; type = 0; voice = replicate 208 0; samples = samples }) ≡ fiveBytes)
 unfolding smallestHead writeInstrument writeFields trimmed before
 smallest = (refl, refl, refl)
 
@@ -227,7 +227,7 @@ unfolding handOver kindAt readInstrument readHead readData dataSize padded _>>=_
 handed-over = (refl, refl)
 
 -- A conversion takes the tracker name away and writes the 81 bytes of a header and nine of a pattern; 2 is tried before 14, and 14 within the limit
-pub converted-small : (listIn (λ (x : List ℕ). length x ∷ byteAt 38 x ∷ [])
+pub converted-small : (answerList (λ (x : List ℕ). length x ∷ byteAt 38 x ∷ [])
     (converting stripped (headed 0x1A 0x0104 276 0 (replicate 17 1) (replicate 20 1) (replicate 256 0)) 1000)
     ≡ 90 ∷ 0 ∷ [])
     × (map (λ (size : ℕ). numberOf (checked (convertTests size 16777215))) (16777217 ∷ 16777216 ∷ 16777215 ∷ []) ≡ 2 ∷ 14 ∷ 0 ∷ [])

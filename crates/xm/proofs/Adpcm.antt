@@ -52,9 +52,9 @@ map-at f (x ∷ xs) zero none other h = refl
 map-at f (x ∷ xs) (suc i) none other h = map-at f xs i none other (omega arith)
 
 -- The bytes of some values: what two halves of an odd count leave over is one byte more
-pub size-some : (count : ℕ) → 0 < count → adpcmSize count ≡ deltaTable + count / 2 + count % 2
-size-some zero h = absurd (omega arith)
-size-some (suc n) h = omega arith
+pub adpcm-some : (count : ℕ) → 0 < count → adpcmSize count ≡ deltaTable + count / 2 + count % 2
+adpcm-some zero h = absurd (omega arith)
+adpcm-some (suc n) h = omega arith
 
 pub size-half : (count : ℕ) → count ≤ 2 * adpcmSize count
 size-half zero = omega arith

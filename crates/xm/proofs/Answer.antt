@@ -10,7 +10,7 @@ use lib.Seq.{take-append-seam}
 use Rattle.xm.specs.Got.{Refusal, Got, got, refused, _at_, _>>=_, _>>_, Test, passes, refusalOf, Holds, AllHold, ensure, checked}
 use Rattle.xm.specs.Format.{All}
 use Rattle.xm.specs.Answer.{Answer, gives, refuses, answered, behind, numberOf, result, numbers, after, loaderNumber}
-use Rattle.xm.specs.Demands.{refusalMost, Numbered, KeepsItsWord, LoaderTells}
+use Rattle.xm.specs.Demands.{refusalMost, Numbered, KeepsPromise, LoaderTells}
 use Rattle.xm.proofs.Got.{holds-passes, passes-holds, test-holds, passed, bind-got, refused-tests}
 
 -- An answer from its reading, and a reading from its answer
@@ -104,9 +104,9 @@ pub record SoundRefusal (r : Refusal) : Type 0 where
 pub read-sound : {r : Refusal} → Numbered 13 (r .number) → SoundRefusal r
 read-sound n = record { numbered = (n .0, omega (arith, n .1), n .2); placed = λ h. absurd (omega (arith, n .1)) }
 
-pub word-kept : {A B : Type 0} (written : A → List B) (answer : ℕ → Answer A) → ((room : ℕ) (r : Refusal) → answer room ≡ refuses r → SoundRefusal r)
-    → ((room : ℕ) (a : A) → answer room ≡ gives a → length (written a) ≤ room) → KeepsItsWord written answer
-word-kept written answer sound fits = record {
+pub promise-kept : {A B : Type 0} (written : A → List B) (answer : ℕ → Answer A) → ((room : ℕ) (r : Refusal) → answer room ≡ refuses r → SoundRefusal r)
+    → ((room : ℕ) (a : A) → answer room ≡ gives a → length (written a) ≤ room) → KeepsPromise written answer
+promise-kept written answer sound fits = record {
   numbered = λ room r e. sound room r e .numbered;
   placed = λ room r e. sound room r e .placed;
   unchanged = λ lent r e. rw e;

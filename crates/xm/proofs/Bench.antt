@@ -9,9 +9,9 @@ use Rattle.xm.specs.Stored.{readCells, readStored, allZero, needsNoData,
 use Rattle.xm.specs.Packing.{unpacking, packing}
 use Rattle.xm.specs.Delta.{pairs, storedNumbers, sums, decoded, decoding}
 use Rattle.xm.specs.Adpcm.{halves, chosen, adpcmDecoded, adpcmDecoding}
-use Rattle.xm.specs.Bench.{worked, pieces}
+use Rattle.xm.specs.Bench.{pieceWorked, pieces}
 
-pub bench : map worked pieces ≡ pieces
+pub bench : map pieceWorked pieces ≡ pieces
 unfolding unpacking packing decoding adpcmDecoding adpcmDecoded chosen halves _>>=_ _>>_ ensure checked readStored readCells readCell cellAt fieldsBy lengthBy
     ones onesIn writeStored needsNoData allZero writeCell goesPlain plainBy standsPlain plainShorter marked kepts marks kept cellsOf decoded storedNumbers
     pairs sums signed

@@ -279,38 +279,38 @@ write-least cell h =
     (λ p. omega (arith, plain-many (getD cell 0 0) (length (kepts cell)) p)) (λ p. omega (arith, marked-length cell))
 
 -- Marks with a number t above their bits: their ones are the fields kept, and these read back
-on : ℕ → List ℕ → ℕ
-on t [] = t
-on t (x ∷ xs) = bit x + 2 * on t xs
+marksUnder : ℕ → List ℕ → ℕ
+marksUnder t [] = t
+marksUnder t (x ∷ xs) = bit x + 2 * marksUnder t xs
 
-on-low : (t x : ℕ) (xs : List ℕ) → on t (x ∷ xs) % 2 ≡ bit x
-unfolding on
-on-low t x xs = omega (arith, bit-most x)
+marks-low : (t x : ℕ) (xs : List ℕ) → marksUnder t (x ∷ xs) % 2 ≡ bit x
+unfolding marksUnder
+marks-low t x xs = omega (arith, bit-most x)
 
-on-half : (t x : ℕ) (xs : List ℕ) → on t (x ∷ xs) / 2 ≡ on t xs
-unfolding on
-on-half t x xs = omega (arith, bit-most x)
+marks-half : (t x : ℕ) (xs : List ℕ) → marksUnder t (x ∷ xs) / 2 ≡ marksUnder t xs
+unfolding marksUnder
+marks-half t x xs = omega (arith, bit-most x)
 
-on-ones : (t : ℕ) (cell : List ℕ) → onesIn (length cell) (on t cell) ≡ length (kepts cell)
+marks-ones : (t : ℕ) (cell : List ℕ) → onesIn (length cell) (marksUnder t cell) ≡ length (kepts cell)
 unfolding onesIn kepts
-on-ones t [] = refl
-on-ones t (x ∷ xs) = rw (on-low, on-half, on-ones t xs, length-append, kept-length)
+marks-ones t [] = refl
+marks-ones t (x ∷ xs) = rw (marks-low, marks-half, marks-ones t xs, length-append, kept-length)
 
 field-kept : (bits x : ℕ) (s : List ℕ) → bits % 2 ≡ bit x → (fieldBy bits (kept x ++ s) ≡ x) × (drop (bits % 2) (kept x ++ s) ≡ s)
 unfolding kept
 field-kept bits zero s e = (rw e, rw e)
 field-kept bits (suc x) s e = (rw e, rw e)
 
-on-fields : (t : ℕ) (cell rest : List ℕ) → fieldsBy (length cell) (on t cell) (kepts cell ++ rest) ≡ cell
+on-fields : (t : ℕ) (cell rest : List ℕ) → fieldsBy (length cell) (marksUnder t cell) (kepts cell ++ rest) ≡ cell
 unfolding fieldsBy kepts
 on-fields t [] rest = refl
 on-fields t (x ∷ xs) rest =
-    let h = field-kept (on t (x ∷ xs)) x (kepts xs ++ rest) (on-low t x xs) in
-    rw (append-assoc, h .0, h .1, on-half, on-fields t xs rest)
+    let h = field-kept (marksUnder t (x ∷ xs)) x (kepts xs ++ rest) (marks-low t x xs) in
+    rw (append-assoc, h .0, h .1, marks-half, on-fields t xs rest)
 
 -- Four above the five bits is 128
-on-five : (s : List ℕ) → 128 + marks (five s) ≡ on 4 (five s)
-unfolding on marks
+on-five : (s : List ℕ) → 128 + marks (five s) ≡ marksUnder 4 (five s)
+unfolding marksUnder marks
 on-five s = omega arith
 
 -- A written cell reads back, with its length, whatever follows
@@ -333,7 +333,7 @@ marked-back s rest e =
     let big : 128 ≤ lead = omega arith in
     record {
       long =
-          let ones = ones-in lead ∙ ap (onesIn 5) (on-five s) ∙ on-ones 4 (five s) in
+          let ones = ones-in lead ∙ ap (onesIn 5) (on-five s) ∙ marks-ones 4 (five s) in
           rw (write-marked (five s) e) (length-marked lead big ∙ ap (λ (n : ℕ). 1 + n) ones ∙ omega arith);
       same =
           let behind = kepts (five s) ++ rest in

@@ -17,20 +17,20 @@ use Rattle.xm.specs.Instrument.{Instrument, InstrumentFound, instrumentV
 use Rattle.xm.specs.Module.{Found, Content, moduleFormat, fileMost, readFile, plays}
 use Rattle.xm.specs.Delta.{sums, storedNumbers, decoded, decoding, coding, countWritten, deltaMost, limitTest}
 use Rattle.xm.specs.Adpcm.{chosen, adpcmDecoded, adpcmDecoding, adpcmMost}
-use Rattle.xm.specs.Table.{Checked, checkedAs, checkResults, checking, checkNumbers, checkLoader, checkingInto, checkIntoLoader, Tables}
+use Rattle.xm.specs.Table.{CheckReport, checkedAs, checkResults, checking, checkNumbers, checkLoader, checkingInto, checkIntoLoader, Tables}
 use Rattle.xm.specs.Table.{Room, roomOf, roomTests, tablesAfter, patternRows, instrumentRows, sampleRowsIn, sampleRows, patternStride}
 use Rattle.xm.specs.Table.{instrumentStride, sampleStride, tuneStride, patternNumbers, instrumentNumbers, sampleNumbers, sampleTunes}
 use Rattle.xm.specs.Press.{pressed, pressingAs, pressing, pressLoader, contentOf, pressedLength}
-use Rattle.xm.specs.Demands.{KeepsItsWord, TablesKept, Demand₁, Demand₂, Demand₃, CheckTells, countsOf, RunningSums, AdpcmTells, PressesWhole}
-use Rattle.xm.specs.Demands.{SameBytes, RoomFor, TablesTell, RestIgnored, RestartsRead, PlaysOrders, LoaderTells, Limited, LoadersTell, FileOf}
+use Rattle.xm.specs.Demands.{KeepsPromise, TablesKept, Demand₁, Demand₂, Demand₃, CheckTells, countsOf, RunningSums, AdpcmTells, PressesWhole}
+use Rattle.xm.specs.Demands.{SameBytes, HasRoom, TablesTell, RestIgnored, RestartsRead, PlaysOrders, LoaderTells, Limited, LoadersTell, FileOf}
 use Rattle.xm.proofs.Got.{refused-tests, refused-bind, got-never, pass, passed, step, step-refused, bind-got}
 use Rattle.xm.proofs.Answer.{answer-gives, answer-refuses, gives-got, gives-passed, gives-bound, gives-same, gives-refuses}
 use Rattle.xm.proofs.Answer.{refuses-refused, tests-fail, behind-holds, behind-fails, behind-gave, behind-refused}
-use Rattle.xm.proofs.Answer.{SoundRefusal, read-sound, word-kept, loader-tells, accepted-gives, reported-written}
+use Rattle.xm.proofs.Answer.{SoundRefusal, read-sound, promise-kept, loader-tells, accepted-gives, reported-written}
 use Rattle.xm.proofs.Format.{joined-length}
 use Rattle.xm.specs.Convert.{converted, converting, convertLoader}
 use Rattle.xm.proofs.Number.{Agree}
-use Rattle.xm.proofs.Packing.{unpack-word, pack-word, unpacks-to-cells, pack-shortest, unpack-tells, pack-tells, pack-apart}
+use Rattle.xm.proofs.Packing.{unpack-promise, pack-promise, unpacks-to-cells, pack-shortest, unpack-tells, pack-tells, pack-apart}
 use Rattle.xm.proofs.Delta.{valuesFrom, values-none, values-step, decoded-most, coded-most}
 use Rattle.xm.proofs.Delta.{decoding-gave, coding-gave, coding-decoding, decoding-coding}
 use Rattle.xm.proofs.Adpcm.{chosen-at, adpcm-length, adpcm-unfit, adpcm-room, adpcm-given, adpcm-gave}
@@ -79,11 +79,11 @@ check-tells = record {
       gives-got _ (readFile file) e λ found end q d. (kindAt file, contentOf found, record { plain = b; found = found; end = end; reads = q; same = refl });
 }
 
-check-loads : (file : List ℕ) → Bytes file → LoaderTells Checked.end (checking file) (checkLoader file)
+check-loads : (file : List ℕ) → Bytes file → LoaderTells CheckReport.end (checking file) (checkLoader file)
 unfolding checking
 check-loads file b =
-    loader-tells Checked.end (checking file) (checkLoader file) refl
-    (λ c e. gives-got _ (readFile file) e λ found end q d. let h = end-inside file found end b q in omega (arith, ap Checked.end (gives-same d)))
+    loader-tells CheckReport.end (checking file) (checkLoader file) refl
+    (λ c e. gives-got _ (readFile file) e λ found end q d. let h = end-inside file found end b q in omega (arith, ap CheckReport.end (gives-same d)))
     (λ r e. let f = file-fault file r b e in (f .numbered .0, omega (arith, f .small)))
 
 -- A refusal with a place that a loader's number has room for: a file's own, and with it those of the calls
@@ -105,13 +105,13 @@ rows-front : {R B : Type 0} (stride : ℕ) (numbers : R → List B) → ((row : 
     → length (inFront (joined numbers rows) lent) ≡ length lent
 rows-front stride numbers wide rows lent h = front-length (joined numbers rows) lent (omega (arith, joined-length stride numbers wide rows))
 
-record Lengths (answer : Answer Checked) (lent : Tables) : Type 0 where
+record Lengths (answer : Answer CheckReport) (lent : Tables) : Type 0 where
   patterns : length (tablesAfter answer lent .patterns) ≡ length (lent .patterns)
   instruments : length (tablesAfter answer lent .instruments) ≡ length (lent .instruments)
   samples : length (tablesAfter answer lent .samples) ≡ length (lent .samples)
   tunes : length (tablesAfter answer lent .tunes) ≡ length (lent .tunes)
 
-lengths : (answer : Answer Checked) (lent : Tables) → ((c : Checked) → answer ≡ gives c → AllHold (roomTests (roomOf lent) (c .found))) → Lengths answer lent
+lengths : (answer : Answer CheckReport) (lent : Tables) → ((c : CheckReport) → answer ≡ gives c → AllHold (roomTests (roomOf lent) (c .found))) → Lengths answer lent
 unfolding tablesAfter
 lengths (gives c) lent h =
     let r = h c refl in
@@ -123,11 +123,11 @@ lengths (gives c) lent h =
     }
 lengths (refuses r) lent h = record { patterns = refl; instruments = refl; samples = refl; tunes = refl }
 
-room-held : (room : Room) (file : List ℕ) (c : Checked) → checkingInto room file ≡ gives c → AllHold (roomTests room (c .found))
+room-held : (room : Room) (file : List ℕ) (c : CheckReport) → checkingInto room file ≡ gives c → AllHold (roomTests room (c .found))
 unfolding checkingInto
 room-held room file c e =
     gives-bound _ (readFile file) _ e λ found end er e. gives-passed _ _ _ e λ hs e.
-    subst (λ (c : Checked). AllHold (roomTests room (c .found))) (gives-same e) hs
+    subst (λ (c : CheckReport). AllHold (roomTests room (c .found))) (gives-same e) hs
 
 into-fault : (room : Room) (file : List ℕ) (r : Refusal) → Bytes file → checkingInto room file ≡ refuses r → OwnFault r
 unfolding checkingInto
@@ -135,15 +135,15 @@ into-fault room file r b e =
     refused-bind (readFile file) _ (refuses-refused _ _ e) (own-sound file r b)
     λ found end er e. refused-tests OwnFault _ _ e (omega arith) λ hs e. absurd (got-never e)
 
-into-end : (room : Room) (file : List ℕ) (c : Checked) → Bytes file → checkingInto room file ≡ gives c → c .end ≤ fileMost
+into-end : (room : Room) (file : List ℕ) (c : CheckReport) → Bytes file → checkingInto room file ≡ gives c → c .end ≤ fileMost
 unfolding checkingInto
 into-end room file c b e =
     gives-bound _ (readFile file) _ e λ found end q e. gives-passed _ _ _ e λ hs e.
-    let h = end-inside file found end b q in omega (arith, ap Checked.end (gives-same e))
+    let h = end-inside file found end b q in omega (arith, ap CheckReport.end (gives-same e))
 
-into-loads : (room : Room) (file : List ℕ) → Bytes file → LoaderTells Checked.end (checkingInto room file) (checkIntoLoader room file)
+into-loads : (room : Room) (file : List ℕ) → Bytes file → LoaderTells CheckReport.end (checkingInto room file) (checkIntoLoader room file)
 into-loads room file b =
-    loader-tells Checked.end (checkingInto room file) (checkIntoLoader room file) refl (λ c e. omega (arith, into-end room file c b e))
+    loader-tells CheckReport.end (checkingInto room file) (checkIntoLoader room file) refl (λ c e. omega (arith, into-end room file c b e))
     (λ r e. let f = into-fault room file r b e in (f .sound .numbered .0, omega (arith, f .small)))
 
 tables-kept : (file : List ℕ) (lent : Tables) → Bytes file → TablesKept file lent
@@ -153,7 +153,7 @@ tables-kept file lent b =
     record {
       numbered = λ r e. into-fault (roomOf lent) file r b e .sound .numbered;
       placed = λ r e. into-fault (roomOf lent) file r b e .sound .placed;
-      unchanged = λ r e. ap (λ (a : Answer Checked). tablesAfter a lent) e;
+      unchanged = λ r e. ap (λ (a : Answer CheckReport). tablesAfter a lent) e;
       patterns = l .patterns;
       instruments = l .instruments;
       samples = l .samples;
@@ -169,8 +169,8 @@ module _ (width : ℕ) (bytes : List ℕ) where
   decode-fits : (room : ℕ) (values : List ℤ) → decoding width bytes room ≡ gives values → (length values ≤ room) × (length values ≤ 2 * length bytes)
   decode-fits room values e = decoding-gave width bytes room e λ h p l q. (omega (arith, ap length q), omega (arith, ap length q, decoded-most width h bytes))
 
-  decode-word : KeepsItsWord (λ (values : List ℤ). values) (decoding width bytes)
-  decode-word = word-kept _ (decoding width bytes) (λ room r e. decode-fault room r e .sound) (λ room values e. decode-fits room values e .0)
+  decode-promise : KeepsPromise (λ (values : List ℤ). values) (decoding width bytes)
+  decode-promise = promise-kept _ (decoding width bytes) (λ room r e. decode-fault room r e .sound) (λ room values e. decode-fits room values e .0)
 
 module _ (width : ℕ) (values : List ℤ) where
   code-fault : (room : ℕ) (r : Refusal) → coding width values room ≡ refuses r → OwnFault r
@@ -180,8 +180,8 @@ module _ (width : ℕ) (values : List ℤ) where
   code-fits : (room : ℕ) (bytes : List ℕ) → coding width values room ≡ gives bytes → (length bytes ≤ room) × (length bytes ≤ 2 * length values)
   code-fits room bytes e = coding-gave width values room e λ h p l q. (omega (arith, ap length q), omega (arith, ap length q, coded-most width h values))
 
-  code-word : KeepsItsWord (λ (bytes : List ℕ). bytes) (coding width values)
-  code-word = word-kept _ (coding width values) (λ room r e. code-fault room r e .sound) (λ room bytes e. code-fits room bytes e .0)
+  code-promise : KeepsPromise (λ (bytes : List ℕ). bytes) (coding width values)
+  code-promise = promise-kept _ (coding width values) (λ room r e. code-fault room r e .sound) (λ room bytes e. code-fits room bytes e .0)
 
 module _ (count : ℕ) (bytes : List ℕ) where
   adpcm-fault : (room : ℕ) (r : Refusal) → adpcmDecoding count bytes room ≡ refuses r → OwnFault r
@@ -191,8 +191,8 @@ module _ (count : ℕ) (bytes : List ℕ) where
   adpcm-fits : (room : ℕ) (values : List ℤ) → adpcmDecoding count bytes room ≡ gives values → (length values ≤ room) × (length values ≤ 2 * count)
   adpcm-fits room values e = adpcm-gave count bytes room e λ fit l q. (omega (arith, ap length q), omega (arith, ap length q, adpcm-length count bytes fit))
 
-  adpcm-word : KeepsItsWord (λ (values : List ℤ). values) (adpcmDecoding count bytes)
-  adpcm-word = word-kept _ (adpcmDecoding count bytes) (λ room r e. adpcm-fault room r e .sound) (λ room values e. adpcm-fits room values e .0)
+  adpcm-promise : KeepsPromise (λ (values : List ℤ). values) (adpcmDecoding count bytes)
+  adpcm-promise = promise-kept _ (adpcmDecoding count bytes) (λ room r e. adpcm-fault room r e .sound) (λ room values e. adpcm-fits room values e .0)
 
 -- and with the loader's limit, of any call that writes at most two for each that is counted
 limited : {A : Type 0} (most count : ℕ) (own : Answer A) → Limited most count own (behind (limitTest most count) own)
@@ -207,9 +207,9 @@ module _ {B : Type 0} (most : ℕ) (small : 2 * most < 2 ^ 32) (count : ℕ) (ow
   limited-fault : (room : ℕ) (r : Refusal) → behind (limitTest most count) (own room) ≡ refuses r → OwnFault r
   limited-fault room r e = behind-refused (limitTest most count) (own room) e (λ same. subst OwnFault same (omega arith)) (fault room r)
 
-  limited-word : KeepsItsWord (λ (xs : List B). xs) (λ room. behind (limitTest most count) (own room))
-  limited-word =
-      word-kept _ (λ room. behind (limitTest most count) (own room)) (λ room r e. limited-fault room r e .sound)
+  limited-promise : KeepsPromise (λ (xs : List B). xs) (λ room. behind (limitTest most count) (own room))
+  limited-promise =
+      promise-kept _ (λ room. behind (limitTest most count) (own room)) (λ room r e. limited-fault room r e .sound)
       (λ room xs e. behind-gave (limitTest most count) (own room) e λ l e. fits room xs e .0)
 
   limited-loads : (room : ℕ)
@@ -263,8 +263,8 @@ press-file file room bytes b e =
     let q = ap length (gives-same e) in
     (omega (arith, hs .0), omega arith)
 
-press-word : (file : List ℕ) → Bytes file → KeepsItsWord (λ (bytes : List ℕ). bytes) (pressing file)
-press-word file b = word-kept _ (pressing file) (λ room r e. press-fault file room r b e .sound) (λ room bytes e. press-file file room bytes b e .0)
+press-promise : (file : List ℕ) → Bytes file → KeepsPromise (λ (bytes : List ℕ). bytes) (pressing file)
+press-promise file b = promise-kept _ (pressing file) (λ room r e. press-fault file room r b e .sound) (λ room bytes e. press-file file room bytes b e .0)
 
 press-loads : (file : List ℕ) (room : ℕ) → Bytes file → LoaderTells length (pressing file room) (pressLoader file room)
 press-loads file room b =
@@ -284,9 +284,9 @@ convert-file to file room bytes e =
     gives-bound _ (readFile file) _ e λ found end er e. gives-passed _ _ _ e λ hs e.
     let q = ap length (gives-same e) in (omega (arith, hs .1 .0), omega (arith, hs .0))
 
-convert-word : (to : ModuleKind) (file : List ℕ) → Bytes file → KeepsItsWord (λ (bytes : List ℕ). bytes) (converting to file)
-convert-word to file b =
-    word-kept _ (converting to file) (λ room r e. convert-fault to file room r b e .sound)
+convert-promise : (to : ModuleKind) (file : List ℕ) → Bytes file → KeepsPromise (λ (bytes : List ℕ). bytes) (converting to file)
+convert-promise to file b =
+    promise-kept _ (converting to file) (λ room r e. convert-fault to file room r b e .sound)
     (λ room bytes e. convert-file to file room bytes e .0)
 
 convert-loads : (to : ModuleKind) (file : List ℕ) (room : ℕ) → Bytes file → LoaderTells length (converting to file room) (convertLoader to file room)
@@ -299,17 +299,17 @@ pub demand₁ : Demand₁
 demand₁ = record {
   check = λ file r b e. let f = file-fault file r b e in (f .numbered, f .place);
   tables = tables-kept;
-  unpack = unpack-word;
-  pack = pack-word;
-  decode = decode-word;
-  code = code-word;
+  unpack = unpack-promise;
+  pack = pack-promise;
+  decode = decode-promise;
+  code = code-promise;
   decode-limited = λ width bytes.
-      limited-word deltaMost (omega arith) (length bytes) (decoding width bytes) (decode-fault width bytes) (decode-fits width bytes);
-  code-limited = λ width values. limited-word deltaMost (omega arith) (length values) (coding width values) (code-fault width values) (code-fits width values);
-  adpcm = adpcm-word;
-  adpcm-limited = λ count bytes. limited-word adpcmMost (omega arith) count (adpcmDecoding count bytes) (adpcm-fault count bytes) (adpcm-fits count bytes);
-  press = press-word;
-  convert = convert-word;
+      limited-promise deltaMost (omega arith) (length bytes) (decoding width bytes) (decode-fault width bytes) (decode-fits width bytes);
+  code-limited = λ width values. limited-promise deltaMost (omega arith) (length values) (coding width values) (code-fault width values) (code-fits width values);
+  adpcm = adpcm-promise;
+  adpcm-limited = λ count bytes. limited-promise adpcmMost (omega arith) count (adpcmDecoding count bytes) (adpcm-fault count bytes) (adpcm-fits count bytes);
+  press = press-promise;
+  convert = convert-promise;
 }
 
 pub demand₃ : Demand₃
@@ -332,11 +332,11 @@ demand₂ = record {
       subst (FileOf (moduleFormat to) (converted content)) (same ∙ sym stands) (d .written (λ q. gives-refuses e q));
   unpack = unpacks-to-cells;
   decode = λ width values out room f n l.
-      accepted-gives (coding width values (length out)) (λ r e. code-word width values .numbered (length out) r e .0) n λ bytes e.
+      accepted-gives (coding width values (length out)) (λ r e. code-promise width values .numbered (length out) r e .0) n λ bytes e.
       let stands = reported-written countWritten (λ bytes. bytes) (coding width values (length out)) out bytes e (omega arith) in
       ap (λ (s : List ℕ). decoding width s room) stands ∙ coding-decoding width values bytes (length out) room f e l;
   code = λ width bytes out room b n l.
-      accepted-gives (decoding width bytes (length out)) (λ r e. decode-word width bytes .numbered (length out) r e .0) n λ values e.
+      accepted-gives (decoding width bytes (length out)) (λ r e. decode-promise width bytes .numbered (length out) r e .0) n λ values e.
       let stands = reported-written countWritten (λ values. values) (decoding width bytes (length out)) out values e (omega arith) in
       ap (λ (s : List ℤ). coding width s room) stands ∙ decoding-coding width bytes values (length out) room b e l;
   sums = decoded-sums;
@@ -371,7 +371,7 @@ tables-tell file room = record {
   filled-else = filled;
 }
   where
-    filled : (found : Found) (end : ℕ) → readFile file ≡ got found end → RoomFor room found → checkingInto room file ≡ gives (checkedAs found end)
+    filled : (found : Found) (end : ℕ) → readFile file ≡ got found end → HasRoom room found → checkingInto room file ≡ gives (checkedAs found end)
     filled found end e h = answer-gives _ (step _ e (pass (roomTests room found) (h .0, (h .1, (h .2, tt))) refl))
 
 pub rest-ignored : RestIgnored

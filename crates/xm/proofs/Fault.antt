@@ -27,20 +27,20 @@ use Rattle.xm.proofs.Sample.{cut-keeps, data-keeps, samples-alike}
 use Rattle.xm.proofs.Stripped.{instrument-keeps}
 
 -- What a refusal may be, of bytes that begin at a place
-pub record Fault (place : ℕ) (s : List ℕ) (r : Refusal) : Type 0 where
+pub record RefusalWithin (place : ℕ) (s : List ℕ) (r : Refusal) : Type 0 where
   pub low : 1 ≤ r .number
   pub high : r .number ≤ 13
   pub not-nine : r .number ≡ 9 → ⊥
   pub from : place ≤ r .place
   pub to : r .place ≤ place + length s
 
-pub fault-numbered : {place : ℕ} {s : List ℕ} {r : Refusal} → Fault place s r → Numbered 13 (r .number)
+pub fault-numbered : {place : ℕ} {s : List ℕ} {r : Refusal} → RefusalWithin place s r → Numbered 13 (r .number)
 fault-numbered f = (f .low, f .high, f .not-nine)
 
 pub record Faults {H I A : Type 0} (F : Format H I A) (h : H) : Type 0 where
-  pub faults : (place : ℕ) (s : List ℕ) (r : Refusal) → Bytes s → F .read h place s ≡ refused r → Fault place s r
+  pub faults : (place : ℕ) (s : List ℕ) (r : Refusal) → Bytes s → F .read h place s ≡ refused r → RefusalWithin place s r
 
-fault-later : (place n : ℕ) (s : List ℕ) (r : Refusal) → n ≤ length s → Fault (place + n) (drop n s) r → Fault place s r
+fault-later : (place n : ℕ) (s : List ℕ) (r : Refusal) → n ≤ length s → RefusalWithin (place + n) (drop n s) r → RefusalWithin place s r
 fault-later place n s r l f = record {
   low = f .low;
   high = f .high;
@@ -66,7 +66,7 @@ module _ {H I A K J B : Type 0} (next : H → A → K) {F : Format H I A} {G : F
 
 module _ {H I A : Type 0} (F : Format H I A) where
   each-fault : (hs : List H) → All (λ (h : H). Keeps F h × Faults F h) hs → (place : ℕ) (s : List ℕ) (r : Refusal) → Bytes s
-      → eachRead F hs place s ≡ refused r → Fault place s r
+      → eachRead F hs place s ≡ refused r → RefusalWithin place s r
   each-fault [] b place s r p e = absurd (got-never e)
   each-fault (h ∷ hs) b place s r p e =
       refused-bind (F .read h place s) _ e (b .0 .1 .faults place s r p) λ i n ei e₁.
@@ -83,25 +83,25 @@ module _ {H I A : Type 0} (F : Format H I A) where
 -- Each structure
 cell-faults : Faults cellFormat tt
 unfolding readCell
-cell-faults = record { faults = λ place s r p e. refused-tests (Fault place s) _ _ e (omega arith) λ hs e₁. absurd (got-never e₁) }
+cell-faults = record { faults = λ place s r p e. refused-tests (RefusalWithin place s) _ _ e (omega arith) λ hs e₁. absurd (got-never e₁) }
 
-pub stored-faults : (channels rows place : ℕ) (d : List ℕ) (r : Refusal) → Bytes d → readStored channels rows place d ≡ refused r → Fault place d r
+pub stored-faults : (channels rows place : ℕ) (d : List ℕ) (r : Refusal) → Bytes d → readStored channels rows place d ≡ refused r → RefusalWithin place d r
 unfolding readStored readCells
 stored-faults channels rows place [] r p e = absurd (got-never e)
 stored-faults channels rows place (b ∷ d) r p e =
     refused-bind _ _ e (many-faults cellFormat (rows * channels) cell-keeps cell-faults .faults place (b ∷ d) r p) λ xs n ex e₁.
     let w = many-keeps cellFormat (rows * channels) cell-keeps .keeps place (b ∷ d) xs n p ex in
-    refused-tests (Fault place (b ∷ d)) _ _ e₁ (omega (arith, w .inside)) λ hs e₂. absurd (got-never e₂)
+    refused-tests (RefusalWithin place (b ∷ d)) _ _ e₁ (omega (arith, w .inside)) λ hs e₂. absurd (got-never e₂)
 
 header-faults : (kind : ModuleKind) → Faults (headerFormat kind) tt
 unfolding readHeader
-header-faults kind = record { faults = λ place s r p e. refused-tests (Fault place s) _ _ e (omega arith) λ hs e₁. absurd (got-never e₁) }
+header-faults kind = record { faults = λ place s r p e. refused-tests (RefusalWithin place s) _ _ e (omega arith) λ hs e₁. absurd (got-never e₁) }
 
 pattern-faults : (channels : ℕ) → Faults patternFormat channels
 unfolding readPattern
 pattern-faults channels = record {
   faults = λ place s r p e.
-      refused-tests (Fault place s) _ _ e (omega arith) λ hs e₁.
+      refused-tests (RefusalWithin place s) _ _ e (omega arith) λ hs e₁.
       refused-bind _ _ e₁
       (λ ep.
       let L = longAt 0 s in
@@ -114,11 +114,11 @@ pattern-faults channels = record {
 
 head-faults : (size : ℕ) → Faults (cutHeadFormat size) size
 unfolding readHead
-head-faults size = record { faults = λ place s r p e. refused-tests (Fault place s) _ _ e (omega arith) λ hs e₁. absurd (got-never e₁) }
+head-faults size = record { faults = λ place s r p e. refused-tests (RefusalWithin place s) _ _ e (omega arith) λ hs e₁. absurd (got-never e₁) }
 
 data-faults : (head : List ℕ) → Faults dataFormat head
 unfolding readData
-data-faults head = record { faults = λ place s r p e. refused-tests (Fault place s) _ _ e (omega arith) λ hs e₁. absurd (got-never e₁) }
+data-faults head = record { faults = λ place s r p e. refused-tests (RefusalWithin place s) _ _ e (omega arith) λ hs e₁. absurd (got-never e₁) }
 
 cut-faults : (k size : ℕ) → Faults (cutSamplesFormat size) (replicate k size)
 cut-faults k size =
@@ -133,7 +133,7 @@ instrument-faults : (kind : ModuleKind) → Faults (instrumentFormat kind) tt
 unfolding readInstrument
 instrument-faults normal = record {
   faults = λ place s r p e.
-      refused-tests (Fault place s) _ _ e (omega arith) λ hs e₁.
+      refused-tests (RefusalWithin place s) _ _ e (omega arith) λ hs e₁.
       refused-bind _ _ e₁
       (λ ev.
       fault-later place (longAt 0 s) s r (hs .1 .1 .1 .1 .0)
@@ -142,7 +142,7 @@ instrument-faults normal = record {
 }
 instrument-faults stripped = record {
   faults = λ place s r p e.
-      refused-tests (Fault place s) _ _ e (omega arith) λ hs e₁.
+      refused-tests (RefusalWithin place s) _ _ e (omega arith) λ hs e₁.
       refused-bind _ _ e₁
       (λ ev.
       let I = longAt 0 s in

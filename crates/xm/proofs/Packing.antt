@@ -16,7 +16,7 @@ use Rattle.xm.specs.Stored.{Pattern, emptyRows, readStored, allZero, nee
 use Rattle.xm.specs.PatternInFile.{dataMost, writePattern}
 use Rattle.xm.specs.Packing.{argumentTests, cellBytes, rowsRead, unpacking, unpackLoader}
 use Rattle.xm.specs.Packing.{patternOf, packing, storedLength, packNumbers, packAfter, packLoader}
-use Rattle.xm.specs.Demands.{KeepsItsWord, accepts, StoredFormOf, WellFormed, UnpacksToCells, PackedShortest, Fifteen, EmptyPatterns, LoaderTells}
+use Rattle.xm.specs.Demands.{KeepsPromise, accepts, StoredFormOf, WellFormed, UnpacksToCells, PackedShortest, Fifteen, EmptyPatterns, LoaderTells}
 use Rattle.xm.proofs.Number.{bytes-nil, bytes-append, bytes-drop, bytes-by}
 use Rattle.xm.proofs.Got.{not-both, test-holds, test-fails, pass, step, step-refused, refused-bind, refused-tests}
 use Rattle.xm.proofs.Format.{cons-path}
@@ -27,7 +27,7 @@ use Rattle.xm.proofs.Stored.{stored-none, stored-plain, stored-back, St
 use Rattle.xm.proofs.Row.{cells-least}
 use Rattle.xm.proofs.Fault.{fault-numbered, stored-faults}
 use Rattle.xm.proofs.Answer.{answer-gives, answer-refuses, gives-passed, gives-bound, gives-same, refuses-refused, gives-refuses, tests-fail}
-use Rattle.xm.proofs.Answer.{refused-passed, SoundRefusal, read-sound, word-kept, loader-tells, accepted-gives, reported-written}
+use Rattle.xm.proofs.Answer.{refused-passed, SoundRefusal, read-sound, promise-kept, loader-tells, accepted-gives, reported-written}
 
 -- The arguments are in range, as the tests for 16 say
 abbrev pub UnpackRange : (rows channels : ℕ) (stored : List ℕ) → Type 0
@@ -410,15 +410,15 @@ pack-faults rows channels cells room r e =
     refused-tests CallFault _ _ e (omega arith) λ h e. absurd (not-both (sym e))
 
 -- Demand 1 for both calls, and their loader's numbers
-pub unpack-word : (rows channels : ℕ) (stored : List ℕ) → Bytes stored → KeepsItsWord cellBytes (unpacking rows channels stored)
-unpack-word rows channels stored b =
-    word-kept cellBytes (unpacking rows channels stored)
+pub unpack-promise : (rows channels : ℕ) (stored : List ℕ) → Bytes stored → KeepsPromise cellBytes (unpacking rows channels stored)
+unpack-promise rows channels stored b =
+    promise-kept cellBytes (unpacking rows channels stored)
     (λ room r e. unpack-faults rows channels stored room r b e .sound)
     (λ room p e. unpack-given rows channels stored room p e .fits)
 
-pub pack-word : (rows channels : ℕ) (cells : List ℕ) → KeepsItsWord writeStored (packing rows channels cells)
-pack-word rows channels cells =
-    word-kept writeStored (packing rows channels cells)
+pub pack-promise : (rows channels : ℕ) (cells : List ℕ) → KeepsPromise writeStored (packing rows channels cells)
+pack-promise rows channels cells =
+    promise-kept writeStored (packing rows channels cells)
     (λ room r e. pack-faults rows channels cells room r e .sound)
     (λ room p e. pack-given rows channels cells room p e .fits)
 

@@ -16,9 +16,9 @@ use Rattle.xm.specs.Got.{Refusal, Got, got, refused, AllHold}
 use Rattle.xm.specs.Format.{Kind, header, patternHeader, patternData, instrument, sampleHeader, sampleData, Region, Format, joined, each, eachRead}
 use Rattle.xm.specs.Answer.{gives, refuses, answered}
 use Rattle.xm.specs.Header.{HeaderFound, channelsAt, headerEnd, kindAt, readHeader}
-use Rattle.xm.specs.PatternInFile.{leastPattern, headSizeAt, dataSizeAt, PatternFound, readPattern, patternFormat}
+use Rattle.xm.specs.PatternInFile.{leastPattern, patternHeadSizeAt, dataSizeAt, PatternFound, readPattern, patternFormat}
 use Rattle.xm.specs.Sample.{Stretch, sizeOfFirst, stretchRegion, readHead, headFormat}
-use Rattle.xm.specs.Instrument.{instrumentSizeAt, countAt, headerSizeAt, fieldsOf, instrumentTests}
+use Rattle.xm.specs.Instrument.{instrumentSizeAt, countAt, sampleHeadSizeAt, fieldsOf, instrumentTests}
 use Rattle.xm.specs.Instrument.{InstrumentFound, voiceOf, readInstrument, instrumentFormat}
 use Rattle.xm.specs.Module.{Found, patternsFor, instrumentsFor, moduleFormat, regionsOf, fileMost, readFile}
 use Rattle.xm.specs.Structure.{isStructure, kindNumber, structuresOf, structures, Standing, stands, ended, handed, reading, Ahead, Handed}
@@ -70,8 +70,8 @@ none-left-out kind (r ∷ rs) h = go (isStructure (r .kind)) refl (eqb (kindNumb
     go false p false q w = w
 
 -- The structures among regions, by kind and place
-abbrev pub told : List Region → List Standing
-told rs = map handed (structuresOf rs)
+abbrev pub structuresTold : List Region → List Standing
+structuresTold rs = map handed (structuresOf rs)
 
 structures-append : (xs ys : List Region) → structuresOf (xs ++ ys) ≡ structuresOf xs ++ structuresOf ys
 structures-append [] ys = refl
@@ -82,7 +82,7 @@ structures-append (r ∷ xs) ys = go (isStructure (r .kind)) (structures-append 
     go true e = cons-path refl e
     go false e = e
 
-told-append : (xs ys : List Region) → told (xs ++ ys) ≡ told xs ++ told ys
+told-append : (xs ys : List Region) → structuresTold (xs ++ ys) ≡ structuresTold xs ++ structuresTold ys
 told-append xs ys = ap (map handed) (structures-append xs ys) ∙ map-append handed (structuresOf xs) (structuresOf ys)
 
 -- Parts that are read one after the other: none, and the first of them
@@ -98,7 +98,7 @@ module _ {H I A : Type 0} (F : Format H I A) (h : H) where
 -- A pattern
 record PatternTold (place : ℕ) (s : List ℕ) (i : PatternFound) (n : ℕ) : Type 0 where
   starts : i .place ≡ place
-  used : n ≡ headSizeAt s + dataSizeAt s
+  used : n ≡ patternHeadSizeAt s + dataSizeAt s
   least : leastPattern ≤ length s
 
 pattern-told : (channels place : ℕ) (s : List ℕ) (i : PatternFound) (n : ℕ) → readPattern channels place s ≡ got i n → PatternTold place s i n
@@ -108,16 +108,16 @@ pattern-told channels place s i n e =
     got-carry (λ (r : PatternFound) (t : ℕ). PatternTold place s r t) e₂ (record { starts = refl; used = refl; least = h .0 })
 
 -- An instrument, and its sample headers
-abbrev pub headsFrom : (k size head : ℕ) → List Standing
-headsFrom zero size head = []
-headsFrom (suc k) size head = stands sampleHeader head ∷ headsFrom k size (head + size)
+abbrev pub headsStanding : (k size head : ℕ) → List Standing
+headsStanding zero size head = []
+headsStanding (suc k) size head = stands sampleHeader head ∷ headsStanding k size (head + size)
 
 head-found : (size place : ℕ) (s : List ℕ) {i : Stretch} {n : ℕ} → readHead size place s ≡ got i n → (i .place ≡ place) × (i .size ≡ size) × (n ≡ size)
 unfolding readHead
 head-found size place s e = passed _ _ e λ h e. (ap Stretch.place (sym (got-value e)), ap Stretch.size (sym (got-value e)), sym (got-used e))
 
 record HeadsTold (k size head : ℕ) (hs : List Stretch) : Type 0 where
-  all : told (joined (stretchRegion sampleHeader) hs) ≡ headsFrom k size head
+  all : structuresTold (joined (stretchRegion sampleHeader) hs) ≡ headsStanding k size head
   count : length hs ≡ k
   first : 0 < k → sizeOfFirst hs ≡ size
 
@@ -129,29 +129,29 @@ heads-told (suc k) size head s hs n e =
     let u = head-found size head s ea in
     let w = heads-told k size (head + a) (drop a s) hs b eb in
     got-carry (λ (hs : List Stretch) (u : ℕ). HeadsTold (suc k) size head hs) e₂ (record {
-      all = cons-path (ap (stands sampleHeader) (u .0)) (w .all ∙ ap (λ (o : ℕ). headsFrom k size (head + o)) (u .2));
+      all = cons-path (ap (stands sampleHeader) (u .0)) (w .all ∙ ap (λ (o : ℕ). headsStanding k size (head + o)) (u .2));
       count = ap suc (w .count);
       first = λ l. u .1;
     })
 
-data-told : (ds : List Stretch) → told (joined (stretchRegion sampleData) ds) ≡ []
+data-told : (ds : List Stretch) → structuresTold (joined (stretchRegion sampleData) ds) ≡ []
 data-told [] = refl
 data-told (d ∷ ds) = data-told ds
 
 -- The size of a header does not matter where there are none
 heads-by : (k size head : ℕ) (hs : List Stretch) → HeadsTold k size head hs
-    → (told (joined (stretchRegion sampleHeader) hs) ≡ headsFrom (length hs) (sizeOfFirst hs) head) × (length hs * sizeOfFirst hs ≡ k * size)
+    → (structuresTold (joined (stretchRegion sampleHeader) hs) ≡ headsStanding (length hs) (sizeOfFirst hs) head) × (length hs * sizeOfFirst hs ≡ k * size)
 heads-by zero size head hs w =
     let first = sizeOfFirst hs in
     let none : length hs * first ≡ 0 * size = ap (λ (n : ℕ). n * first) (w .count) ∙ zero-mul first ∙ sym (zero-mul size) in
-    (w .all ∙ ap (λ (n : ℕ). headsFrom n first head) (sym (w .count)), none)
+    (w .all ∙ ap (λ (n : ℕ). headsStanding n first head) (sym (w .count)), none)
 heads-by (suc k) size head hs w =
-    (w .all ∙ sym (ap₂ (λ (n m : ℕ). headsFrom n m head) (w .count) (w .first (omega arith))), ap₂ (λ (n m : ℕ). n * m) (w .count) (w .first (omega arith)))
+    (w .all ∙ sym (ap₂ (λ (n m : ℕ). headsStanding n m head) (w .count) (w .first (omega arith))), ap₂ (λ (n m : ℕ). n * m) (w .count) (w .first (omega arith)))
 
 pub record InstrumentTold (kind : ModuleKind) (place : ℕ) (i : InstrumentFound) (n : ℕ) : Type 0 where
   pub all :
       let heads = i .samples .0 in
-      told (instrumentFormat kind .regions i) ≡ stands instrument place ∷ headsFrom (length heads) (sizeOfFirst heads) (place + i .size)
+      structuresTold (instrumentFormat kind .regions i) ≡ stands instrument place ∷ headsStanding (length heads) (sizeOfFirst heads) (place + i .size)
   pub fits : i .size + length (i .samples .0) * sizeOfFirst (i .samples .0) ≤ n
   pub some : 1 ≤ n
 
@@ -166,7 +166,7 @@ unfolding readInstrument
 instrument-told kind place s i n e =
     passed _ _ e λ h e₁. bind-got _ _ e₁ λ v m ev e₂. bind-got _ _ ev λ hs a eh e₃. bind-got _ _ e₃ λ ds b ed e₄.
     let f = fieldsOf kind s in
-    let w = heads-by _ _ _ hs (heads-told (countAt f) (headerSizeAt f) (place + instrumentSizeAt s) (drop (instrumentSizeAt s) s) hs a eh) in
+    let w = heads-by _ _ _ hs (heads-told (countAt f) (sampleHeadSizeAt f) (place + instrumentSizeAt s) (drop (instrumentSizeAt s) s) hs a eh) in
     let found : List Stretch × List Stretch → InstrumentFound = λ v. record {
       place = place;
       size = instrumentSizeAt s;
@@ -181,18 +181,18 @@ instrument-told kind place s i n e =
       all =
           let apart = told-append (joined (stretchRegion sampleHeader) hs) (joined (stretchRegion sampleData) ds) in
           cons-path refl (apart ∙ ap₂ _++_ (w .0) (data-told ds) ∙ append-nil _);
-      fits = omega (arith, w .1, heads-used (countAt f) (headerSizeAt f) (place + instrumentSizeAt s) (drop (instrumentSizeAt s) s) hs a eh);
+      fits = omega (arith, w .1, heads-used (countAt f) (sampleHeadSizeAt f) (place + instrumentSizeAt s) (drop (instrumentSizeAt s) s) hs a eh);
       some = omega (arith, some-size kind place s h);
     }))
 
 -- What a reader has still to hand over
 abbrev toldPatterns : List PatternFound → List Standing
-toldPatterns ps = told (joined (patternFormat .regions) ps)
+toldPatterns ps = structuresTold (joined (patternFormat .regions) ps)
 
 abbrev toldInstruments : ModuleKind → List InstrumentFound → List Standing
-toldInstruments kind is = told (joined (instrumentFormat kind .regions) is)
+toldInstruments kind is = structuresTold (joined (instrumentFormat kind .regions) is)
 
-record Left (file : List ℕ) (a : Ahead) (all : List Standing) : Type 0 where
+record StructuresLeft (file : List ℕ) (a : Ahead) (all : List Standing) : Type 0 where
   small : length file ≤ fileMost
   fits : a .head + a .heads * a .headSize ≤ length file
   channels : ℕ
@@ -204,13 +204,13 @@ record Left (file : List ℕ) (a : Ahead) (all : List Standing) : Type 0 where
   instruments-read :
       let next = a .place + used in
       each (instrumentFormat (kindAt file)) .read (replicate (a .instruments) tt) next (drop next file) ≡ got instruments end
-  same : all ≡ headsFrom (a .heads) (a .headSize) (a .head) ++ (toldPatterns patterns ++ toldInstruments (kindAt file) instruments)
+  same : all ≡ headsStanding (a .heads) (a .headSize) (a .head) ++ (toldPatterns patterns ++ toldInstruments (kindAt file) instruments)
 
 -- One call
 record OneCall (file : List ℕ) (a : Ahead) (all : List Standing) : Type 0 where
   next : Ahead
   gives-it : handOver file a ≡ record { standing = getD all 0 ended; ahead = next }
-  left : Left file next (drop 1 all)
+  left : StructuresLeft file next (drop 1 all)
 
 module _ (file : List ℕ) (bytes : Bytes file) where
   abbrev ahead : (p i place k head size : ℕ) → Ahead
@@ -222,7 +222,7 @@ module _ (file : List ℕ) (bytes : Bytes file) where
   first-is : {all : List Standing} {s : Standing} {rest : List Standing} (next : Ahead) → all ≡ s ∷ rest → gave next s ≡ gave next (getD all 0 ended)
   first-is next e = ap (gave next) (sym (ap (λ (l : List Standing). getD l 0 ended) e))
 
-  one-call : (p i place k head size : ℕ) (all : List Standing) → Left file (ahead p i place k head size) all → OneCall file (ahead p i place k head size) all
+  one-call : (p i place k head size : ℕ) (all : List Standing) → StructuresLeft file (ahead p i place k head size) all → OneCall file (ahead p i place k head size) all
   unfolding handOver
   one-call p i place (suc k) head size all w =
       let z : suc k - 1 ≡ k = omega arith in
@@ -251,9 +251,9 @@ module _ (file : List ℕ) (bytes : Bytes file) where
       let t = pattern-told (w .channels) place (drop place file) x n ex in
       let s = drop place file in
       let z : suc p - 1 ≡ p = omega arith in
-      let there : place + n ≡ place + headSizeAt s + dataSizeAt s = omega (arith, t .used) in
-      let next = ahead p i (place + headSizeAt s + dataSizeAt s) 0 0 0 in
-      let later : place + w .used ≡ place + headSizeAt s + dataSizeAt s + m = omega (arith, there, used) in
+      let there : place + n ≡ place + patternHeadSizeAt s + dataSizeAt s = omega (arith, t .used) in
+      let next = ahead p i (place + patternHeadSizeAt s + dataSizeAt s) 0 0 0 in
+      let later : place + w .used ≡ place + patternHeadSizeAt s + dataSizeAt s + m = omega (arith, there, used) in
       let later-told = toldInstruments (kindAt file) (w .instruments) in
       let is : all ≡ stands patternHeader place ∷ (toldPatterns more ++ later-told) =
       w .same
@@ -287,7 +287,7 @@ module _ (file : List ℕ) (bytes : Bytes file) where
       let k = length (x .samples .0) in
       let next = ahead 0 i (place + n) k (place + x .size) (sizeOfFirst (x .samples .0)) in
       let more-told = toldInstruments (kindAt file) more in
-      let is : all ≡ stands instrument place ∷ (headsFrom k (sizeOfFirst (x .samples .0)) (place + x .size) ++ more-told) =
+      let is : all ≡ stands instrument place ∷ (headsStanding k (sizeOfFirst (x .samples .0)) (place + x .size) ++ more-told) =
       w .same
       ∙ ap₂ (λ (l : List PatternFound) (r : List InstrumentFound). toldPatterns l ++ toldInstruments (kindAt file) r)
       (sym (got-value (w .patterns-read))) parts
@@ -373,7 +373,7 @@ module _ (file : List ℕ) (found : Found) (end : ℕ) (reads : readFile file �
   abbrev all : List Standing
   all = map handed (structures found)
 
-  first-left : Left file (aheadAtFirst file) all
+  first-left : StructuresLeft file (aheadAtFirst file) all
   unfolding readHeader
   first-left =
       whole-read (moduleFormat (kindAt file)) file found end reads λ small e.
@@ -385,8 +385,8 @@ module _ (file : List ℕ) (found : Found) (end : ℕ) (reads : readFile file �
       let F = instrumentFormat (kindAt file) in
       let instruments =
       got-carry (λ (i : HeaderFound) (n : ℕ). each F .read (instrumentsFor (i .content) []) (0 + n + k) (drop k (drop n file)) ≡ got is j) (sym eh) ei in
-      got-carry (λ (r : Found) (u : ℕ). Left file (aheadAtFirst file) (map handed (structures r))) e₂
-      (got-carry (λ (r : List PatternFound × List InstrumentFound) (u : ℕ). Left file (aheadAtFirst file) (map handed (structures (i, r)))) e₄
+      got-carry (λ (r : Found) (u : ℕ). StructuresLeft file (aheadAtFirst file) (map handed (structures r))) e₂
+      (got-carry (λ (r : List PatternFound × List InstrumentFound) (u : ℕ). StructuresLeft file (aheadAtFirst file) (map handed (structures (i, r)))) e₄
       (record {
         small = small;
         fits = omega arith;
@@ -401,14 +401,14 @@ module _ (file : List ℕ) (found : Found) (end : ℕ) (reads : readFile file �
       }))
 
   module _ (bytes : Bytes file) where
-    call : (a : Ahead) (rest : List Standing) → Left file a rest → OneCall file a rest
+    call : (a : Ahead) (rest : List Standing) → StructuresLeft file a rest → OneCall file a rest
     call a rest w = one-call file bytes (a .patterns) (a .instruments) (a .place) (a .heads) (a .head) (a .headSize) rest w
 
     -- after n calls
     record After (n : ℕ) : Type 0 where
       at : Ahead
       reached : readFor file n ≡ gives at
-      left : Left file at (drop n all)
+      left : StructuresLeft file at (drop n all)
 
     after : (n : ℕ) → After n
     unfolding started

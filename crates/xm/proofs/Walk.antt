@@ -28,14 +28,14 @@ onto-more done used i n (got is m) = ap₂ {C = Got (List _)} got (sym (append-a
 onto-more done used i n (refused r) = refl
 
 -- The state of a loop over `each`: j parts are read, `done` in all, and what is left is read from `cur` on
-pub record Left {H I A : Type 0} (F : Format H I A) (hs : List H) (file : List ℕ) (place j cur : ℕ) (done : List I) : Type 0 where
+pub record PartsLeft {H I A : Type 0} (F : Format H I A) (hs : List H) (file : List ℕ) (place j cur : ℕ) (done : List I) : Type 0 where
   pub some : j ≤ length hs
   pub count : length done ≡ j
   pub from : place ≤ cur
   pub same : eachRead F hs place (drop place file) ≡ onto done (cur - place) (eachRead F (drop j hs) cur (drop cur file))
 
 module _ {H I A : Type 0} (F : Format H I A) (hs : List H) (file : List ℕ) (place : ℕ) where
-  pub left-start : Left F hs file place 0 place []
+  pub left-start : PartsLeft F hs file place 0 place []
   left-start = record {
     some = omega arith;
     count = refl;
@@ -46,9 +46,9 @@ module _ {H I A : Type 0} (F : Format H I A) (hs : List H) (file : List ℕ) (pl
       none : (n : ℕ) → n - n ≡ 0
       none n = omega arith
 
-  module _ (h : H) (j cur : ℕ) (done : List I) (in-range : j < length hs) (w : Left F hs file place j cur done) where
+  module _ (h : H) (j cur : ℕ) (done : List I) (in-range : j < length hs) (w : PartsLeft F hs file place j cur done) where
     -- one part more, of n bytes
-    pub left-on : (i : I) (n : ℕ) → F .read (getD hs j h) cur (drop cur file) ≡ got i n → Left F hs file place (j + 1) (cur + n) (done ++ (i ∷ []))
+    pub left-on : (i : I) (n : ℕ) → F .read (getD hs j h) cur (drop cur file) ≡ got i n → PartsLeft F hs file place (j + 1) (cur + n) (done ++ (i ∷ []))
     left-on i n e = record {
       some = omega arith;
       count = length-append done (i ∷ []) ∙ omega (arith, w .count);
@@ -74,7 +74,7 @@ module _ {H I A : Type 0} (F : Format H I A) (hs : List H) (file : List ℕ) (pl
         ∙ ap (onto done (cur - place)) (step-refused _ e)
 
   -- all are read
-  pub left-end : (j cur : ℕ) (done : List I) → length hs ≤ j → Left F hs file place j cur done → eachRead F hs place (drop place file) ≡ got done (cur - place)
+  pub left-end : (j cur : ℕ) (done : List I) → length hs ≤ j → PartsLeft F hs file place j cur done → eachRead F hs place (drop place file) ≡ got done (cur - place)
   unfolding onto
   left-end j cur done h w =
       w .same

@@ -20,26 +20,26 @@ pub data Piece : Type 0 where
   decodesAdpcm : (length : ℕ) (bytes : List ℕ) (values : List ℤ) → Piece
 
 -- What an answer gives, as a list; nothing if it refuses.
-abbrev pub listIn : {A B : Type 0} → (A → List B) → Answer A → List B
-listIn f (gives a) = f a
-listIn f (refuses r) = []
+abbrev pub answerList : {A B : Type 0} → (A → List B) → Answer A → List B
+answerList f (gives a) = f a
+answerList f (refuses r) = []
 
 -- "in one cell": one row and one channel, with room for a cell
 abbrev pub unpacked : List ℕ → List ℕ
-unpacked stored = listIn cellBytes (unpacking 1 1 stored cellSize)
+unpacked stored = answerList cellBytes (unpacking 1 1 stored cellSize)
 
 abbrev pub packedTo : List ℕ → List ℕ
-packedTo cell = listIn writeStored (packing 1 1 cell cellMost)
+packedTo cell = answerList writeStored (packing 1 1 cell cellMost)
 
-abbrev pub refusalIn : {A : Type 0} → Answer A → Refusal
-refusalIn answer = numberOf answer at placeOf answer
+abbrev pub answerRefusal : {A : Type 0} → Answer A → Refusal
+answerRefusal answer = numberOf answer at placeOf answer
 
-abbrev pub worked : Piece → Piece
-worked (reads stored cell packed) = reads stored (unpacked stored) (packedTo (unpacked stored))
-worked (gets stored r) = gets stored (refusalIn (unpacking 1 1 stored cellSize))
-worked (packs cell packed) = packs cell (packedTo cell)
-worked (decodes width bytes values) = decodes width bytes (listIn (λ vs. vs) (decoding width bytes (length bytes)))
-worked (decodesAdpcm count bytes values) = decodesAdpcm count bytes (listIn (λ vs. vs) (adpcmDecoding count bytes count))
+abbrev pub pieceWorked : Piece → Piece
+pieceWorked (reads stored cell packed) = reads stored (unpacked stored) (packedTo (unpacked stored))
+pieceWorked (gets stored r) = gets stored (answerRefusal (unpacking 1 1 stored cellSize))
+pieceWorked (packs cell packed) = packs cell (packedTo cell)
+pieceWorked (decodes width bytes values) = decodes width bytes (answerList (λ vs. vs) (decoding width bytes (length bytes)))
+pieceWorked (decodesAdpcm count bytes values) = decodesAdpcm count bytes (answerList (λ vs. vs) (adpcmDecoding count bytes count))
 
 -- Document 001's ADPCM example: "The contents of the compression table are almost always the same", then the indexes of 14 values.
 abbrev example : List ℕ

@@ -30,7 +30,7 @@ use Rattle.xm.specs.Delta.{storedNumbers, decoding, decodeNumbers, decod
 use Rattle.xm.specs.Delta.{allFit, coding, codeNumbers, codeAfter, codingLimited, codeLoader}
 use Rattle.xm.specs.Adpcm.{chosen, adpcmDecoded, adpcmDecoding, adpcmLimited, adpcmLoader, decodingBy, valuesOf}
 use Rattle.xm.specs.Table.{PatternRow, InstrumentRow, SampleRow, patternRows, instrumentRows, sampleRowsIn, sampleRows, sampleNumbers}
-use Rattle.xm.specs.Table.{Checked, checkedAs, checking, checkNumbers, checkLoader, Room, checkingInto, checkIntoLoader, Tables, roomOf, tablesAfter}
+use Rattle.xm.specs.Table.{CheckReport, checkedAs, checking, checkNumbers, checkLoader, Room, checkingInto, checkIntoLoader, Tables, roomOf, tablesAfter}
 use Rattle.xm.specs.Asking.{Lies, asking, stretchOf, askingFlat, askingRows, noRow, liesOf}
 use Rattle.xm.specs.Structure.{isStructure, structures, ended, handed, reading, called, readFor}
 use Rattle.xm.specs.Region.{Adjoin, regionAt, ofKind}
@@ -47,7 +47,7 @@ Numbered most number = (1 ≤ number) × (number ≤ most) × (number ≡ 9 → 
 
 -- Of a call by what it writes and what it answers for a room:
 
-pub record KeepsItsWord {A B : Type 0} (written : A → List B) (answer : (room : ℕ) → Answer A) : Type 0 where
+pub record KeepsPromise {A B : Type 0} (written : A → List B) (answer : (room : ℕ) → Answer A) : Type 0 where
   pub numbered : (room : ℕ) (r : Refusal) → answer room ≡ refuses r → Numbered refusalMost (r .number)
   pub placed : (room : ℕ) (r : Refusal) → answer room ≡ refuses r → 14 ≤ r .number → r .place ≡ 0
   pub unchanged : (lent : List B) (r : Refusal) → answer (length lent) ≡ refuses r → after written (answer (length lent)) lent ≡ lent
@@ -65,16 +65,16 @@ pub record TablesKept (file : List ℕ) (lent : Tables) : Type 0 where
 pub record Demand₁ : Type 0 where
   pub check : (file : List ℕ) (r : Refusal) → Bytes file → checking file ≡ refuses r → Numbered 13 (r .number) × (r .place ≤ length file)
   pub tables : (file : List ℕ) (lent : Tables) → Bytes file → TablesKept file lent
-  pub unpack : (rows channels : ℕ) (stored : List ℕ) → Bytes stored → KeepsItsWord cellBytes (unpacking rows channels stored)
-  pub pack : (rows channels : ℕ) (cells : List ℕ) → KeepsItsWord writeStored (packing rows channels cells)
-  pub decode : (width : ℕ) (bytes : List ℕ) → KeepsItsWord (λ (values : List ℤ). values) (decoding width bytes)
-  pub code : (width : ℕ) (values : List ℤ) → KeepsItsWord (λ (bytes : List ℕ). bytes) (coding width values)
-  pub decode-limited : (width : ℕ) (bytes : List ℕ) → KeepsItsWord (λ (values : List ℤ). values) (decodingLimited width bytes)
-  pub code-limited : (width : ℕ) (values : List ℤ) → KeepsItsWord (λ (bytes : List ℕ). bytes) (codingLimited width values)
-  pub adpcm : (count : ℕ) (bytes : List ℕ) → KeepsItsWord (λ (values : List ℤ). values) (adpcmDecoding count bytes)
-  pub adpcm-limited : (count : ℕ) (bytes : List ℕ) → KeepsItsWord (λ (values : List ℤ). values) (adpcmLimited count bytes)
-  pub press : (file : List ℕ) → Bytes file → KeepsItsWord (λ (bytes : List ℕ). bytes) (pressing file)
-  pub convert : (to : ModuleKind) (file : List ℕ) → Bytes file → KeepsItsWord (λ (bytes : List ℕ). bytes) (converting to file)
+  pub unpack : (rows channels : ℕ) (stored : List ℕ) → Bytes stored → KeepsPromise cellBytes (unpacking rows channels stored)
+  pub pack : (rows channels : ℕ) (cells : List ℕ) → KeepsPromise writeStored (packing rows channels cells)
+  pub decode : (width : ℕ) (bytes : List ℕ) → KeepsPromise (λ (values : List ℤ). values) (decoding width bytes)
+  pub code : (width : ℕ) (values : List ℤ) → KeepsPromise (λ (bytes : List ℕ). bytes) (coding width values)
+  pub decode-limited : (width : ℕ) (bytes : List ℕ) → KeepsPromise (λ (values : List ℤ). values) (decodingLimited width bytes)
+  pub code-limited : (width : ℕ) (values : List ℤ) → KeepsPromise (λ (bytes : List ℕ). bytes) (codingLimited width values)
+  pub adpcm : (count : ℕ) (bytes : List ℕ) → KeepsPromise (λ (values : List ℤ). values) (adpcmDecoding count bytes)
+  pub adpcm-limited : (count : ℕ) (bytes : List ℕ) → KeepsPromise (λ (values : List ℤ). values) (adpcmLimited count bytes)
+  pub press : (file : List ℕ) → Bytes file → KeepsPromise (λ (bytes : List ℕ). bytes) (pressing file)
+  pub convert : (to : ModuleKind) (file : List ℕ) → Bytes file → KeepsPromise (λ (bytes : List ℕ). bytes) (converting to file)
 
 -- An acceptable file of a content, within a format: bytes that are read as it.
 pub record FileOf {I A : Type 0} (F : Format (Unit {0}) I A) (content : A) (file : List ℕ) : Type 0 where
@@ -320,14 +320,14 @@ ConvertsBack = (content : Content) (file : List ℕ) → FileOf (moduleFormat st
     → length (pressed stripped content) ≤ room′ → converting stripped bytes room′ ≡ gives (pressed stripped content)
 
 -- The check that fills tables: the file's own refusal first, then 14 exactly when a count is above the rows lent.
-abbrev pub RoomFor : Room → Found → Type 0
-RoomFor room found =
+abbrev pub HasRoom : Room → Found → Type 0
+HasRoom room found =
     (length (patternRows found) ≤ room .patterns) × (length (instrumentRows found) ≤ room .instruments) × (length (sampleRows found) ≤ room .samples)
 
 pub record TablesTell (file : List ℕ) (room : Room) : Type 0 where
   pub own-first : (r : Refusal) → readFile file ≡ refused r → checkingInto room file ≡ refuses r
-  pub no-room-exactly : (found : Found) (end : ℕ) → readFile file ≡ got found end → (checkingInto room file ≡ refuses (14 at 0)) ↔ (RoomFor room found → ⊥)
-  pub filled-else : (found : Found) (end : ℕ) → readFile file ≡ got found end → RoomFor room found → checkingInto room file ≡ gives (checkedAs found end)
+  pub no-room-exactly : (found : Found) (end : ℕ) → readFile file ≡ got found end → (checkingInto room file ≡ refuses (14 at 0)) ↔ (HasRoom room found → ⊥)
+  pub filled-else : (found : Found) (end : ℕ) → readFile file ≡ got found end → HasRoom room found → checkingInto room file ≡ gives (checkedAs found end)
 
 -- "The regions of an accepted file (header, patterns, instruments, sample headers, sample data) lie inside it and never overlap"; each
 -- begins where the one before ends, from 0 to the end.
@@ -521,7 +521,7 @@ pub record Limited {A : Type 0} (most count : ℕ) (own limited : Answer A) : Ty
   pub within : count ≤ most → limited ≡ own
 
 pub record LoadersTell : Type 0 where
-  pub check : (file : List ℕ) → Bytes file → LoaderTells Checked.end (checking file) (checkLoader file)
+  pub check : (file : List ℕ) → Bytes file → LoaderTells CheckReport.end (checking file) (checkLoader file)
   pub unpack : (rows channels : ℕ) (stored : List ℕ) (room : ℕ) → Bytes stored
       → LoaderTells Pattern.rows (unpacking rows channels stored room) (unpackLoader rows channels stored room)
   pub pack : (rows channels : ℕ) (cells : List ℕ) (room : ℕ)
@@ -530,7 +530,7 @@ pub record LoadersTell : Type 0 where
       → (packLoader rows channels cells room % 65536 ≡ length (writeStored p)) × (packLoader rows channels cells room / 65536 ≡ p .rows)
   pub press : (file : List ℕ) (room : ℕ) → Bytes file → LoaderTells length (pressing file room) (pressLoader file room)
   pub convert : (to : ModuleKind) (file : List ℕ) (room : ℕ) → Bytes file → LoaderTells length (converting to file room) (convertLoader to file room)
-  pub tables : (room : Room) (file : List ℕ) → Bytes file → LoaderTells Checked.end (checkingInto room file) (checkIntoLoader room file)
+  pub tables : (room : Room) (file : List ℕ) → Bytes file → LoaderTells CheckReport.end (checkingInto room file) (checkIntoLoader room file)
   pub decode : (width : ℕ) (bytes : List ℕ) (room : ℕ) → LoaderTells length (decodingLimited width bytes room) (decodeLoader width bytes room)
   pub decode-limited : (width : ℕ) (bytes : List ℕ) (room : ℕ) → Limited 16777216 (length bytes) (decoding width bytes room) (decodingLimited width bytes room)
   pub code : (width : ℕ) (values : List ℤ) (room : ℕ) → LoaderTells length (codingLimited width values room) (codeLoader width values room)

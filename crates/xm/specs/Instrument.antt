@@ -36,8 +36,8 @@ instrumentSizeAt s = longAt 0 s
 abbrev pub countAt : List ℕ → ℕ
 countAt s = wordAt 27 s
 
-abbrev pub headerSizeAt : List ℕ → ℕ
-headerSizeAt s = longAt 29 s
+abbrev pub sampleHeadSizeAt : List ℕ → ℕ
+sampleHeadSizeAt s = longAt 29 s
 
 -- The bytes that the fields are read from: in a stripped file "Instrument bytes at offset I and beyond read as 0".
 abbrev pub fieldsOf : ModuleKind → List ℕ → List ℕ
@@ -53,8 +53,8 @@ instrumentTests normal place s =
     ∷ atMost samplesMost (countAt s) (10 at place)
     ∷ when (ltb 0 (countAt s)) (atLeast (leastInstrument 1) (instrumentSizeAt s) (10 at place))
     ∷ present (instrumentSizeAt s) (length s) (1 at place)
-    ∷ when (ltb 0 (countAt s)) (atLeast leastHead (headerSizeAt s) (11 at place))
-    ∷ when (ltb 0 (countAt s)) (present (instrumentSizeAt s + countAt s * headerSizeAt s) (length s) (1 at place))
+    ∷ when (ltb 0 (countAt s)) (atLeast leastHead (sampleHeadSizeAt s) (11 at place))
+    ∷ when (ltb 0 (countAt s)) (present (instrumentSizeAt s + countAt s * sampleHeadSizeAt s) (length s) (1 at place))
     ∷ []
 -- "their instruments are tried for 4 bytes present (1), I below 4 (10), I bytes present (1), k above 16 (10)"; then, as above, for
 -- all k headers. "11 never occurs for stripped files".
@@ -65,7 +65,7 @@ instrumentTests stripped place s =
     ∷ atLeast leastStripped (instrumentSizeAt s) (10 at place)
     ∷ present (instrumentSizeAt s) (length s) (1 at place)
     ∷ atMost samplesMost k (10 at place)
-    ∷ when (ltb 0 k) (present (instrumentSizeAt s + k * headerSizeAt fields) (length s) (1 at place))
+    ∷ when (ltb 0 k) (present (instrumentSizeAt s + k * sampleHeadSizeAt fields) (length s) (1 at place))
     ∷ []
 
 -- "each instrument's name, type, k, and if k > 0 bytes 33 to 240": k is the number of samples.
@@ -93,7 +93,7 @@ readInstrument kind place s = do
   let fields = fieldsOf kind s
   let k = countAt fields
   checked (instrumentTests kind place s)
-  (samples, used) ← samplesFormat .read (replicate k (headerSizeAt fields)) (place + size) (drop size s)
+  (samples, used) ← samplesFormat .read (replicate k (sampleHeadSizeAt fields)) (place + size) (drop size s)
   got (record { place = place; size = size; name = part 4 22 fields; type = byteAt 26 fields; voice = voiceOf k fields; samples = samples }) (size + used)
 
 -- "I = 29 or 263, reserved bytes 0, H = 40"

@@ -13,8 +13,8 @@ abbrev pub leastPattern : ℕ
 leastPattern = 9
 
 -- The fields, at their offsets.
-abbrev pub headSizeAt : List ℕ → ℕ
-headSizeAt s = longAt 0 s
+abbrev pub patternHeadSizeAt : List ℕ → ℕ
+patternHeadSizeAt s = longAt 0 s
 
 abbrev pub rowsAt : List ℕ → ℕ
 rowsAt s = wordAt 5 s
@@ -26,9 +26,9 @@ dataSizeAt s = wordAt 7 s
 abbrev pub patternTests : (place : ℕ) → List ℕ → List Test
 patternTests place s =
     present leastPattern (length s) (1 at place)
-    ∷ atLeast leastPattern (headSizeAt s) (6 at place)
+    ∷ atLeast leastPattern (patternHeadSizeAt s) (6 at place)
     ∷ within 1 rowsMost (rowsAt s) (6 at place)
-    ∷ present (headSizeAt s + dataSizeAt s) (length s) (1 at place)
+    ∷ present (patternHeadSizeAt s + dataSizeAt s) (length s) (1 at place)
     ∷ []
 
 -- What is found: the header's place and L, the data's place and S, and the pattern it reads as.
@@ -41,7 +41,7 @@ pub record PatternFound : Type 0 where
 
 unfoldable pub readPattern : (channels : ℕ) → Reader PatternFound
 readPattern channels place s = do
-  let headSize = headSizeAt s
+  let headSize = patternHeadSizeAt s
   let dataSize = dataSizeAt s
   checked (patternTests place s)
   (pattern, used) ← readStored channels (rowsAt s) (place + headSize) (part headSize dataSize s)

@@ -9,7 +9,7 @@ use Rattle.xm.specs.Got.{Got, got, refused}
 use Rattle.xm.specs.Format.{Kind, Region, header, patternHeader, patternData, instrument, sampleHeader, sampleData}
 use Rattle.xm.specs.Answer.{Answer, gives, refuses, answered}
 use Rattle.xm.specs.Header.{patternsAt, instrumentsAt, headerEnd, kindAt}
-use Rattle.xm.specs.PatternInFile.{leastPattern, headSizeAt, dataSizeAt}
+use Rattle.xm.specs.PatternInFile.{leastPattern, patternHeadSizeAt, dataSizeAt}
 use Rattle.xm.specs.Sample.{sizeOfFirst}
 use Rattle.xm.specs.Instrument.{InstrumentFound, readInstrument}
 use Rattle.xm.specs.Module.{Found, regionsOf, fileMost, readFile}
@@ -87,7 +87,7 @@ handPattern s a = record {
   ahead = record {
     patterns = a .patterns - 1;
     instruments = a .instruments;
-    place = a .place + headSizeAt s + dataSizeAt s;
+    place = a .place + patternHeadSizeAt s + dataSizeAt s;
     heads = 0;
     head = 0;
     headSize = 0;

@@ -84,11 +84,11 @@ abbrev pub sampleRows : Found → List SampleRow
 sampleRows found = joined sampleRowsIn (found .1 .1)
 
 -- What a check gives, and its numbers in order: number, place, end, channels, patterns, instruments, samples.
-pub record Checked : Type 0 where
+pub record CheckReport : Type 0 where
   pub found : Found
   pub end : ℕ
 
-abbrev pub checkResults : List (Checked → ℕ)
+abbrev pub checkResults : List (CheckReport → ℕ)
 checkResults =
     (λ c. c .end)
     ∷ (λ c. c .found .0 .content .channels)
@@ -97,10 +97,10 @@ checkResults =
     ∷ (λ c. length (sampleRows (c .found)))
     ∷ []
 
-abbrev pub checkedAs : Found → (end : ℕ) → Checked
+abbrev pub checkedAs : Found → (end : ℕ) → CheckReport
 checkedAs found end = record { found = found; end = end }
 
-unfoldable pub checking : (file : List ℕ) → Answer Checked
+unfoldable pub checking : (file : List ℕ) → Answer CheckReport
 checking file = answered checkedAs (readFile file)
 
 abbrev pub checkNumbers : (file : List ℕ) → List ℕ
@@ -108,7 +108,7 @@ checkNumbers file = numbers checkResults (checking file)
 
 -- The loader's number: "the end".
 abbrev pub checkLoader : (file : List ℕ) → ℕ
-checkLoader file = loaderNumber Checked.end (checking file)
+checkLoader file = loaderNumber CheckReport.end (checking file)
 
 -- The tables "over flat numbers": three numbers to a pattern, three to an instrument; of a sample seven, and its two tunes apart.
 abbrev pub patternStride : ℕ
@@ -155,7 +155,7 @@ roomTests room found =
     ∷ []
 
 -- "14 is tried last of all."
-unfoldable pub checkingInto : Room → (file : List ℕ) → Answer Checked
+unfoldable pub checkingInto : Room → (file : List ℕ) → Answer CheckReport
 checkingInto room file = answered checkedAs (do
   (found, end) ← readFile file
   checked (roomTests room found)
@@ -166,7 +166,7 @@ checkIntoNumbers room file = numbers checkResults (checkingInto room file)
 
 -- The loader's number: the end, as of the check.
 abbrev pub checkIntoLoader : Room → (file : List ℕ) → ℕ
-checkIntoLoader room file = loaderNumber Checked.end (checkingInto room file)
+checkIntoLoader room file = loaderNumber CheckReport.end (checkingInto room file)
 
 abbrev pub roomOf : Tables → Room
 roomOf lent = record {
@@ -176,7 +176,7 @@ roomOf lent = record {
 }
 
 -- What all the tables hold afterwards: "Rows beyond the count stay", and on a refusal every row.
-unfoldable pub tablesAfter : Answer Checked → Tables → Tables
+unfoldable pub tablesAfter : Answer CheckReport → Tables → Tables
 tablesAfter (gives c) lent = record {
   patterns = inFront (joined patternNumbers (patternRows (c .found))) (lent .patterns);
   instruments = inFront (joined instrumentNumbers (instrumentRows (c .found))) (lent .instruments);
@@ -193,5 +193,5 @@ roomWith patterns instruments rows = record {
   samples = length rows;
 }
 
-abbrev pub rowsAfter : Answer Checked → (lent : List SampleRow) → List SampleRow
+abbrev pub rowsAfter : Answer CheckReport → (lent : List SampleRow) → List SampleRow
 rowsAfter answer lent = after (λ c. sampleRows (c .found)) answer lent

@@ -12,7 +12,7 @@ use Rattle.xm.specs.Table.{checkNumbers}
 use Rattle.xm.specs.Structure.{Standing, stands, ended, called, readFor}
 use Rattle.xm.specs.Press.{pressing}
 use Rattle.xm.specs.Convert.{converting}
-use Rattle.xm.specs.Bench.{listIn}
+use Rattle.xm.specs.Bench.{answerList}
 
 pub data Case : Type 0 where
   checks : (file numbers : List ℕ) → Case
@@ -22,8 +22,8 @@ pub data Case : Type 0 where
 
 abbrev pub done : Case → Case
 done (checks file numbers) = checks file (checkNumbers file)
-done (presses file pressed) = presses file (listIn (λ bytes. bytes) (pressing file (length pressed)))
-done (converts to file written) = converts to file (listIn (λ bytes. bytes) (converting to file (length written)))
+done (presses file pressed) = presses file (answerList (λ bytes. bytes) (pressing file (length pressed)))
+done (converts to file written) = converts to file (answerList (λ bytes. bytes) (converting to file (length written)))
 done (hands file number answer) = hands file number (called file (readFor file number))
 
 -- A module of nulls with one pattern of 64 empty rows, in its shortest form: 345 bytes, or 90; and the same with other numbers.
@@ -46,14 +46,14 @@ small kind instruments =
     headed (mark kind) (version kind) (leastHeader kind 1) instruments (idText kind) (replicate 20 0) orders
 
 -- Stripped instruments: nothing; a sample count at 27, of headers of no bytes; and one sample of five bytes, whose header is its length.
-abbrev pub nothing : List ℕ
-nothing = long 4
+abbrev pub noBytes : List ℕ
+noBytes = long 4
 
 abbrev pub counted : (I k : ℕ) → List ℕ
 counted I k = flat (long I ∷ replicate 23 0 ∷ byte k ∷ [])
 
-abbrev pub five : List ℕ
-five = flat (long 30 ∷ replicate 23 0 ∷ word 1 ∷ byte 1 ∷ byte 5 ∷ (1 ∷ 2 ∷ 3 ∷ 4 ∷ 5 ∷ []) ∷ [])
+abbrev pub fiveBytes : List ℕ
+fiveBytes = flat (long 30 ∷ replicate 23 0 ∷ word 1 ∷ byte 1 ∷ byte 5 ∷ (1 ∷ 2 ∷ 3 ∷ 4 ∷ 5 ∷ []) ∷ [])
 
 -- One sample whose header is cut behind the last byte that isn't 0: of kind AD and one value, by its form (A5); and a loop at 16 bits (A7).
 abbrev pub sampled : (H : ℕ) (head bytes : List ℕ) → List ℕ
@@ -110,14 +110,14 @@ cases =
     ∷ checks (small stripped 1 ++ looped 2 2) (0 ∷ 0 ∷ 139 ∷ 1 ∷ 1 ∷ 1 ∷ 1 ∷ [])
     -- the smallest H, then the smallest I
     ∷ checks (small stripped 1 ++ fiveLonger) (0 ∷ 0 ∷ 133 ∷ 1 ∷ 1 ∷ 1 ∷ 1 ∷ [])
-    ∷ presses (small stripped 1 ++ fiveLonger) (small stripped 1 ++ five)
-    ∷ presses (small stripped 1 ++ (long 28 ++ replicate 24 0)) (small stripped 1 ++ nothing)
+    ∷ presses (small stripped 1 ++ fiveLonger) (small stripped 1 ++ fiveBytes)
+    ∷ presses (small stripped 1 ++ (long 28 ++ replicate 24 0)) (small stripped 1 ++ noBytes)
     -- both ways, without a tracker name
     ∷ converts stripped (headed 0x1A 0x0104 276 0 (idText normal) (replicate 20 0x46) (replicate 256 0)) (small stripped 0)
     ∷ converts normal (headed 0x1A 0x0104 276 0 (idText normal) (replicate 20 0x46) (replicate 256 0)) (small normal 0)
     ∷ presses (headed 0 0 276 0 (idText normal) (replicate 20 0x46) (replicate 256 0)) (small stripped 0)
     ∷ converts stripped (small normal 0) (small stripped 0)
     ∷ converts normal (small stripped 0) (small normal 0)
-    ∷ converts stripped (small normal 1 ++ fiveNormal) (small stripped 1 ++ five)
-    ∷ converts normal (small stripped 1 ++ five) (small normal 1 ++ fiveNormal)
+    ∷ converts stripped (small normal 1 ++ fiveNormal) (small stripped 1 ++ fiveBytes)
+    ∷ converts normal (small stripped 1 ++ fiveBytes) (small normal 1 ++ fiveNormal)
     ∷ []

@@ -12,12 +12,12 @@ use Rattle.xm.specs.Format.{flat}
 use Rattle.xm.specs.Answer.{inFront}
 use Rattle.xm.specs.Row.{cellsIn}
 use Rattle.xm.proofs.Lay.{part-all}
-use Rattle.cell.specs.Read.{fieldsOf}
+use Rattle.cell.specs.Read.{cellFields}
 use Rattle.cell.proofs.ReadLaws.{fields-of}
 use Rattle.ahead.specs.Ahead.{WordAt}
 use Rattle.ahead.proofs.Run.{lead-at}
 use Rattle.cells.specs.Unpacked.{firstFields}
-use Rattle.cells.proofs.Fill.{cells-length, Filling, filling-none, filling-more, filling-front, filling-rest}
+use Rattle.cells.proofs.Fill.{filled-length, Filling, filling-none, filling-more, filling-front, filling-rest}
 use borrow.Author.Needs.{needs}
 use Rattle.cells.proofs.fill_cells.Statement.{statement}
 use Rattle.cells.proofs.fill_cells.Tie as tie
@@ -145,7 +145,7 @@ loop-again c =
     let c₁₂ = c₁₁ .before in
     let few = c₁₂ .look-ahead .ensures .few in
     let f = front c₉ (c₉ .fill-first .ensures) in (
-      filling-more f (fieldsOf (c₅ .take-over .result)) (c .before .before .before .put-plain .ensures) (omega arith) (fields-of _ (c₅ .take-over .ensures))
+      filling-more f (cellFields (c₅ .take-over .result)) (c .before .before .before .put-plain .ensures) (omega arith) (fields-of _ (c₅ .take-over .ensures))
           (c₁₂ .look-ahead .ensures .next) (omega arith),
       record { right = λ h. c₁₁ .word .ensures },
     )
@@ -168,7 +168,7 @@ same-length : tie.Need-same-length Inv-loop μ-loop
 same-length c =
     let a = c .before .before .before .before .before .before .before .before .before .args in
     let room = c .before .before .before .before .before .before .before .before .before .pre .1 in
-    ap length (filled c) ∙ simp (length-append, length-drop) (omega (arith, cells-length (a .count) (now (a .stored))))
+    ap length (filled c) ∙ simp (length-append, length-drop) (omega (arith, filled-length (a .count) (now (a .stored))))
 
 returns : tie.Need-returns Inv-loop μ-loop
 returns c = filled c

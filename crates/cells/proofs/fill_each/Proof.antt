@@ -8,7 +8,7 @@ use Rattle.xm.specs.Format.{flat}
 use Rattle.xm.specs.Row.{cellsIn}
 use Rattle.xm.proofs.Cell.{length-some}
 use Rattle.xm.proofs.Lay.{part-all}
-use Rattle.cell.specs.Read.{fieldsOf}
+use Rattle.cell.specs.Read.{cellFields}
 use Rattle.cell.proofs.ReadLaws.{fields-of}
 use Rattle.cell.proofs.ReadRows.{First, row-first}
 use Rattle.cells.proofs.Fill.{Filling, filling-none, filling-more, filling-done}
@@ -22,8 +22,8 @@ Inv-loop stored from count out₀ at₀ to₀ left₀ out at to left = Filling s
 abbrev μ-loop : tie.MeasureT-loop
 μ-loop stored from count out₀ at₀ to₀ left₀ out at to left = left
 
-first : (c : tie.In-loop Inv-loop μ-loop) → First (now (c .before .before .before .before .args .stored)) (c .before .loop .at) (c .before .loop .left)
-first c =
+first-cell : (c : tie.In-loop Inv-loop μ-loop) → First (now (c .before .before .before .before .args .stored)) (c .before .loop .at) (c .before .loop .left)
+first-cell c =
     let l = c .before .loop in
     row-first (now (c .before .before .before .before .args .stored)) (l .at) (l .left) (c .loop-test .taken) (l .inv .inside) (l .inv .fine)
 
@@ -34,7 +34,7 @@ loop-holds c =
     filling-none (now (a .stored)) (a .from) (a .count) (p .0) (p .1 .0) (p .1 .1) refl
 
 take-cell-requires : tie.Need-take-cell-requires Inv-loop μ-loop
-take-cell-requires c κs = first c .fits
+take-cell-requires c κs = first-cell c .fits
 
 sub-put-plain : tie.Need-sub-put-plain Inv-loop μ-loop
 sub-put-plain c = omega (arith, c .before .before .loop .inv .room)
@@ -51,13 +51,13 @@ put-plain-requires c κs = let l = c .before .before .before .loop in rw part-al
 shared-slice-read-cell-length : tie.Need-shared-slice-read-cell-length Inv-loop μ-loop
 shared-slice-read-cell-length c =
     let d = c .before .before .before .before .before .before in
-    omega (arith, first d .fits, length-some (getD (now (d .before .before .before .before .args .stored)) (d .before .loop .at) 0))
+    omega (arith, first-cell d .fits, length-some (getD (now (d .before .before .before .before .args .stored)) (d .before .loop .at) 0))
 
 cell-length-requires : tie.Need-cell-length-requires Inv-loop μ-loop
 cell-length-requires c κs = search needs
 
 add-at : tie.Need-add-at Inv-loop μ-loop
-add-at c = omega (arith, first (c .before .before .before .before .before .before .before) .fits, c .cell-length .ensures)
+add-at c = omega (arith, first-cell (c .before .before .before .before .before .before .before) .fits, c .cell-length .ensures)
 
 add-to : tie.Need-add-to Inv-loop μ-loop
 add-to c = omega (arith, c .before .before .before .before .before .before .before .before .loop .inv .room)
@@ -72,7 +72,7 @@ loop-again : tie.Need-loop-again Inv-loop μ-loop
 loop-again c =
     let c₄ = c .before .before .before .before in
     let d = c₄ .before .before in
-    filling-more (d .before .before .loop .inv) (fieldsOf (d .take-cell .result)) (c₄ .put-plain .ensures) (omega arith) (fields-of _ (d .take-cell .ensures))
+    filling-more (d .before .before .loop .inv) (cellFields (d .take-cell .result)) (c₄ .put-plain .ensures) (omega arith) (fields-of _ (d .take-cell .ensures))
     (ap (λ (n : ℕ). d .before .before .loop .at + n) (c .cell-length .ensures)) refl
 
 same-length : tie.Need-same-length Inv-loop μ-loop

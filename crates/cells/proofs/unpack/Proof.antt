@@ -10,7 +10,7 @@ use borrow.Author.Tests.{not-true, not-false}
 use Rattle.xm.specs.Answer.{inFront}
 use Rattle.xm.proofs.Packing.{UnpackRange, unpack-argument, unpack-cells, unpack-room, unpack-gives}
 use Rattle.refusal.proofs.Steps.{place-refused}
-use Rattle.cells.proofs.Unpacking.{range-holds, range-fails, Found, found-of, rows-found, bytes-none, fine-some, bytes-some, bytes-long}
+use Rattle.cells.proofs.Unpacking.{range-holds, range-fails, StoredFound, found-of, rows-found, bytes-none, fine-some, bytes-some, bytes-long}
 use Rattle.cells.proofs.Unpacking.{answers-refusal, answers-pattern}
 use borrow.Author.Needs.{needs}
 use Rattle.cells.proofs.unpack.Statement.{statement}
@@ -26,7 +26,7 @@ range c =
 
 found : (c : tie.After-enum-told) →
     let a = c .before .before .before .before .before .before .before .before .args in
-    Found (a .channels) (a .rows) (now (a .stored))
+    StoredFound (a .channels) (a .rows) (now (a .stored))
 found c = found-of _ _ _ (c .before .before .scan-stored .ensures) (c .enum-told .given .1)
 
 in-range-requires : tie.Need-in-range-requires

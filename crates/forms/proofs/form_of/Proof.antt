@@ -3,7 +3,7 @@ use Prim.Native.Nat.{_*_, _≤_}
 use mathlib.Core.Path.{refl}
 use native.Mathlib.Omega.{arith}
 use Rattle.xm.specs.Number.{Bytes}
-use Rattle.forms.proofs.FormLaws.{no-heads, Inside, inside, least-most, times-most, form-told, form-normal, form-stripped}
+use Rattle.forms.proofs.FormLaws.{no-heads, PartInside, inside, least-most, times-most, form-told, form-normal, form-stripped}
 use borrow.Author.Needs.{needs}
 use Rattle.forms.proofs.form_of.Statement.{statement}
 use Rattle.forms.proofs.form_of.Tie as tie
@@ -12,7 +12,7 @@ use Rattle.forms.proofs.form_of.Tie as tie
 plain : (k : tie.After-shared-slice-known) → Bytes (k .before .args .file .now)
 plain k = record { below = λ i. omega (arith, k .shared-slice-known .given i) }
 
-within : (k : tie.After-shared-slice-known) → let a = k .before .args in Inside (a .file .now) (a .at) (a .part)
+within : (k : tie.After-shared-slice-known) → let a = k .before .args in PartInside (a .file .now) (a .at) (a .part)
 within k = inside _ _ (k .before .pre .0) (plain k)
 
 smallest-size-requires : tie.Need-smallest-size-requires

@@ -2,14 +2,14 @@
 use native.Mathlib.Omega.{arith}
 use lib.ListN.{drop, length-drop}
 use Rattle.xm.proofs.Lay.{part-all}
-use Rattle.instruments.specs.Instrument.{headsIn}
-use Rattle.instruments.proofs.PieceLaws.{HeadsLeft, heads-none, heads-done, heads-more, head-inside, head-room}
+use Rattle.instruments.specs.Instrument.{headsCut}
+use Rattle.instruments.proofs.PieceLaws.{HeadsToWrite, heads-none, heads-done, heads-more, head-inside, head-room}
 use Rattle.instruments.proofs.write_heads.Statement.{statement}
 use Rattle.instruments.proofs.write_heads.Tie as tie
 
 abbrev Inv-loop : tie.InvT-loop
 Inv-loop file heads size count kept out₀ head₀ to₀ left₀ out head to left =
-    HeadsLeft file out₀ (headsIn count size kept (drop heads file)) size kept left head out to
+    HeadsToWrite file out₀ (headsCut count size kept (drop heads file)) size kept left head out to
 
 abbrev μ-loop : tie.MeasureT-loop
 μ-loop file heads size count kept out₀ head₀ to₀ left₀ out head to left = left

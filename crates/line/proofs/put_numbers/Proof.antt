@@ -4,12 +4,12 @@ use native.Mathlib.Omega.{arith}
 use mathlib.Core.Path.{_∙_}
 use lib.ListN.{length, length-set}
 use borrow.Author.Needs.{needs}
-use Rattle.line.proofs.Put.{Written, written-none, written-kept, written-next, written-more, written-last, written-done}
+use Rattle.line.proofs.Put.{NumbersWritten, written-none, written-kept, written-next, written-more, written-last, written-done}
 use Rattle.line.proofs.put_numbers.Statement.{statement}
 use Rattle.line.proofs.put_numbers.Tie as tie
 
 abbrev Inv-loop : tie.InvT-loop
-Inv-loop numbers line₀ at next₀ done₀ line next done = (done ≤ length numbers) × Written line₀ at numbers done next line
+Inv-loop numbers line₀ at next₀ done₀ line next done = (done ≤ length numbers) × NumbersWritten line₀ at numbers done next line
 
 abbrev μ-loop : tie.MeasureT-loop
 μ-loop numbers line₀ at next₀ done₀ line next done = length numbers - done

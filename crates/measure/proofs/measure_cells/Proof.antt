@@ -12,7 +12,7 @@ use lib.ListN.{length, drop}
 use Rattle.xm.specs.Stored.{readRow}
 use Rattle.ahead.specs.Ahead.{blockSize}
 use Rattle.measure.specs.Measure.{measuredOn}
-use Rattle.measure.proofs.Weighing.{Weighing, skip-start, weighing-block, block-less}
+use Rattle.measure.proofs.Weighing.{Weighing, skip-start, weighing-block, weighed-less}
 use Rattle.measure.proofs.measure_cells.Statement.{statement}
 use Rattle.measure.proofs.measure_cells.Tie as tie
 
@@ -88,7 +88,7 @@ loop-less c =
     let f = w .before .before .before .before in
     let b = f .before .before in
     let l = b .before .before .before .loop in
-    block-less (f .fill-lengths .last .1 .1 .1 .0) (w .before .before .fill-weights .last .1 .1 .1 .0) (b .block-of .result) (l .left) (l .extra) (l .odd)
+    weighed-less (f .fill-lengths .last .1 .1 .1 .0) (w .before .before .fill-weights .last .1 .1 .1 .0) (b .block-of .result) (l .left) (l .extra) (l .odd)
     (b .block-of .ensures .some (omega (arith, ltb-true))) (omega arith) (c .before .before .before .weigh-block .ensures)
 
 loop-again : tie.Need-loop-again Inv-loop μ-loop

@@ -3,19 +3,19 @@ use native.Mathlib.Omega.{arith}
 use borrow.Author.Tests.{leb-false}
 use denote.Ref.{now}
 use lib.ListN.{drop}
-use Rattle.packing.proofs.Measure.{Measuring, measuring-none, kept-five, measuring-done, measuring-small, measuring-more}
+use Rattle.packing.proofs.Measure.{LentMeasuring, measuring-none, lent-kept-five, measuring-done, measuring-small, measuring-more}
 use Rattle.packing.proofs.measure_cells.Statement.{statement}
 use Rattle.packing.proofs.measure_cells.Tie as tie
 
 abbrev Inv-loop : tie.InvT-loop
-Inv-loop cells count place₀ shortest₀ left₀ place shortest left = Measuring cells count place shortest left
+Inv-loop cells count place₀ shortest₀ left₀ place shortest left = LentMeasuring cells count place shortest left
 
 abbrev μ-loop : tie.MeasureT-loop
 μ-loop cells count place₀ shortest₀ left₀ place shortest left = left
 
 shortest-by-requires : tie.Need-shortest-by-requires Inv-loop μ-loop
 shortest-by-requires c κs =
-    let t = c .before .before .before .before in kept-five (drop (t .loop .place) (now (t .before .before .args .cells))) (c .before .kept-in .ensures)
+    let t = c .before .before .before .before in lent-kept-five (drop (t .loop .place) (now (t .before .before .args .cells))) (c .before .kept-in .ensures)
 
 add-shortest : tie.Need-add-shortest Inv-loop μ-loop
 add-shortest c =

@@ -8,7 +8,7 @@ use Rattle.xm.specs.Packing.{argumentTests}
 use Rattle.xm.proofs.Got.{no-true, all-pass, all-hold}
 use Rattle.xm.proofs.Packing.{PackRange}
 use Rattle.cell.proofs.ReadRows.{count-most}
-use Rattle.packing.proofs.Exit.{form-path, Sized, sized, sized-cells, packs-argument, packs-large, packs-narrow, packs-nothing, packs-cells}
+use Rattle.packing.proofs.Exit.{form-path, CellsSized, sized, sized-cells, packs-argument, packs-large, packs-narrow, packs-nothing, packs-cells}
 use Rattle.packing.proofs.pack.Statement.{statement}
 use Rattle.packing.proofs.pack.Tie as tie
 
@@ -22,7 +22,7 @@ range c = let h = held (c .before) in (h .0, (h .1 .0, (omega arith, tt)))
 -- What the first pass found out
 found : (c : tie.After-stored-size)
     → (let a = c .before .before .before .before .before .before .before .before .args in
-    Sized (a .rows) (a .channels) (a .cells .now) (c .stored-size .result))
+    CellsSized (a .rows) (a .channels) (a .cells .now) (c .stored-size .result))
 found c =
     sized _ _ _ (range (c .before .before .before)) (omega arith) (c .before .before .measure-cells .ensures .exact (omega arith)) (c .stored-size .ensures)
 

@@ -31,10 +31,10 @@ empty c =
     let a = c .before .before .before .before .before .before .args in
     lent-first _ (c .before .before .before .loop .place) (a .cells .now) (omega arith) (c .before .weight .ensures (c .if1 .taken))
 
-first : (c : tie.Else1 Inv-loop μ-loop)
+first-cell : (c : tie.Else1 Inv-loop μ-loop)
     → (let l = c .before .before .before .loop in let cells = c .before .before .before .before .before .before .args .cells .now in
     cellsOf (l .left) (drop (l .place) cells) ≡ five (drop (l .place) cells) ∷ cellsOf (l .left - 1) (drop (l .place + 5) cells))
-first c = lent-first _ (c .before .before .before .loop .place) (c .before .before .before .before .before .before .args .cells .now) (omega arith) refl
+first-cell c = lent-first _ (c .before .before .before .loop .place) (c .before .before .before .before .before .before .args .cells .now) (omega arith) refl
 
 -- There is more to write than a cell takes
 more : (c : tie.In-loop Inv-loop μ-loop)
@@ -59,14 +59,14 @@ add-to-2 : tie.Need-add-to-2 Inv-loop μ-loop
 add-to-2 c =
     let e = c .before .before .before .before in
     let l = e .before .before .before in
-    omega (arith, c .before .before .write-over .ensures .0, writing-room (l .loop .inv .1) (first e), l .loop .inv .1 .kept, l .before .before .before .good)
+    omega (arith, c .before .before .write-over .ensures .0, writing-room (l .loop .inv .1) (first-cell e), l .loop .inv .1 .kept, l .before .before .before .good)
 
 loop-again-2 : tie.Need-loop-again-2 Inv-loop μ-loop
 loop-again-2 c =
     let w = c .before .before .write-over in
     let e = c .before .before .before .before in (
       omega arith,
-      writing-over (e .before .before .before .loop .inv .1) (first e) _ _ (w .ensures .0) (more (e .before .before)) (w .ensures .1)
+      writing-over (e .before .before .before .loop .inv .1) (first-cell e) _ _ (w .ensures .0) (more (e .before .before)) (w .ensures .1)
           (w .kept .1 .1 .0),
     )
 

@@ -22,14 +22,14 @@ abbrev μ-loop : tie.MeasureT-loop
 μ-loop cells from count out₀ place₀ to₀ unwritten₀ out place to unwritten = unwritten
 
 -- The first of the cells that are left, and its room
-first : (c : tie.In-loop Inv-loop μ-loop)
+first-cell : (c : tie.In-loop Inv-loop μ-loop)
     → (let l = c .before .loop in let cells = c .before .before .before .before .args .cells .now in
     cellsOf (l .unwritten) (drop (l .place) cells) ≡ five (drop (l .place) cells) ∷ cellsOf (l .unwritten - 1) (drop (l .place + 5) cells))
-first c = lent-first _ (c .before .loop .place) (c .before .before .before .before .args .cells .now) (omega arith) refl
+first-cell c = lent-first _ (c .before .loop .place) (c .before .before .before .before .args .cells .now) (omega arith) refl
 
 room : (c : tie.In-loop Inv-loop μ-loop)
     → (let l = c .before .loop in l .to + length (writeCell (five (drop (l .place) (c .before .before .before .before .args .cells .now)))) ≤ length (l .out))
-room c = writing-room (c .before .loop .inv .1) (first c)
+room c = writing-room (c .before .loop .inv .1) (first-cell c)
 
 write-cell-requires : tie.Need-write-cell-requires Inv-loop μ-loop
 write-cell-requires c κs =
@@ -45,7 +45,7 @@ loop-again : tie.Need-loop-again Inv-loop μ-loop
 loop-again c =
     let t = c .before .before .before .before in
     let w = c .before .before .write-cell .ensures in
-    (omega arith, writing-part (t .before .loop .inv .1) (first t) _ _ (w .0) (w .1))
+    (omega arith, writing-part (t .before .loop .inv .1) (first-cell t) _ _ (w .0) (w .1))
 
 pub write-each-spec : {M : Type 1} → statement M
 write-each-spec =

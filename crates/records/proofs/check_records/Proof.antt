@@ -42,12 +42,12 @@ use denote.Triple.Table.{entered, cited}
 use denote.Triple.Walked.{says, Stays, gave-slice, stay-none-slice, walkOf, goes-gave-slice, goes-none-slice, Walks, ends-at, walked, walk-meets}
 use denote.Exit.{yes}
 use Rattle.xm.specs.Answer.{Answer, inFront}
-use Rattle.xm.specs.Table.{Checked, checkingInto}
+use Rattle.xm.specs.Table.{CheckReport, checkingInto}
 use Rattle.walk.specs.File.{verdictOf}
 use Rattle.walk.specs.declared.Verdict.{Verdict}
 use Rattle.walk.proofs.Verdict as N
 use Rattle.walk.proofs.Verdict.Laws as N′
-use Rattle.tables.specs.Into.{roomFor, patternsAfter, instrumentsAfter}
+use Rattle.tables.specs.Into.{roomBeside, patternsAfter, instrumentsAfter}
 use Rattle.tables.specs.declared.sample.SampleRow.{SampleRow}
 use Rattle.tables.proofs.sample.SampleRow as T
 use Rattle.tables.proofs.check_beside as beside
@@ -55,7 +55,7 @@ use Rattle.tables.proofs.check_beside.Symbol as beside-def
 use Rattle.tables.proofs.check_beside.Symbol.{name as #tables·check-beside}
 use Rattle.tables.proofs.check_beside.Met as beside-thm
 use Rattle.records.specs.Records.{recordsIn, samplesOf}
-use Rattle.records.proofs.Records.{Told, told, count-fits}
+use Rattle.records.proofs.Records.{RecordsTold, told, count-fits}
 use Rattle.records.proofs.row.samples_of as count
 use Rattle.records.proofs.row.samples_of.Symbol as count-def
 use Rattle.records.proofs.row.samples_of.Symbol.{name as #records·samples-of}
@@ -134,7 +134,7 @@ module _ {M : Type 1} (𝓤 : URA M) (H : Heap 𝓤) (A : Atoms 𝓤) (W : Given
   Own₃ = MutSlice (named 3) κ₃ T.the-row .own x₃ (v₃ ∷ [])
 
   -- what is left at exit: the file, and the last list of each of the others
-  exits : (r : Verdict) (w : Val) (ps is : List ℕ) (zs : List SampleRow) → Told (x₀ .now) (x₁ .now) (x₂ .now) (x₃ .now) r ps is zs
+  exits : (r : Verdict) (w : Val) (ps is : List ℕ) (zs : List SampleRow) → RecordsTold (x₀ .now) (x₁ .now) (x₂ .now) (x₃ .now) r ps is zs
       → length ps ≡ length (x₁ .now) → length is ≡ length (x₂ .now) → length zs ≡ length (x₃ .now)
       → ent 𝓤 (⋆ 𝓤 H A ((‵ (flft κ₀ q₀) ⊛ (‵ (flft κ₃ q₃) ⊛ ‵ ftrue)) ∷ ‵ (finally T.the-row (x₃ .name) zs) ∷ ‵ Own₀
       ∷ (‵ (flft κ₁ q₁) ⊛ (‵ (flft κ₂ q₂) ⊛ ‵ ftrue)) ∷ ‵ (N.the-row .own r (w ∷ [])) ∷ ‵ (finally u32 (x₂ .name) is)
@@ -151,8 +151,8 @@ module _ {M : Type 1} (𝓤 : URA M) (H : Heap 𝓤) (A : Atoms 𝓤) (W : Given
       move ! (1 ∷ 0 ∷ []) $ fjoin ! $ move ! (3 ∷ 0 ∷ []) $ fjoin ! $ move ! (3 ∷ 0 ∷ []) $ fjoin ! $ move ! (1 ∷ 0 ∷ []) $ fjoin ! $ frame ! $ done !
 
   -- the call of `check_beside`
-  abbrev into : Answer Checked
-  into = checkingInto (roomFor (length (x₁ .now)) (length (x₂ .now)) rows) (x₀ .now)
+  abbrev into : Answer CheckReport
+  into = checkingInto (roomBeside (length (x₁ .now)) (length (x₂ .now)) rows) (x₀ .now)
 
   abbrev beside-vals : Vals beside.signature (κ₀, (κ₁, (κ₂, tt)))
   beside-vals = (v₀ ∷ [], (v₁ ∷ [], (v₂ ∷ [], (vint w64 rows ∷ [], tt))))

@@ -60,7 +60,7 @@ use Rattle.xm.specs.Module.{readFile}
 use Rattle.xm.specs.Answer.{inFront}
 use Rattle.xm.specs.Table.{sampleRows}
 use Rattle.xm.specs.Asking.{noRow}
-use Rattle.tables.specs.Place.{sampleRow}
+use Rattle.tables.specs.Place.{codeRow}
 use Rattle.records.specs.Records.{noRecord, recordsIn}
 use Rattle.tables.specs.Sought.{Seeks}
 use Rattle.tables.specs.declared.sample.SampleRow.{SampleRow}
@@ -215,7 +215,7 @@ module _ {M : Type 1} (𝓤 : URA M) (H : Heap 𝓤) (A : Atoms 𝓤) (W : Given
 
     abbrev Stepped : RowStep → Type 0
     Stepped r =
-        (r .row ≡ sampleRow (getD (listIn sampleRows (readFile fs)) (x .next .number) noRow)) × (r .next .number ≡ x .next .number + 1) × Seeks fs (r .next)
+        (r .row ≡ codeRow (getD (listIn sampleRows (readFile fs)) (x .next .number) noRow)) × (r .next .number ≡ x .next .number + 1) × Seeks fs (r .next)
 
     said : (r : RowStep) → ent 𝓤 (ensured 𝓤 H A step.ended (step.clauses 𝓤 H A mem run) (κ′, tt) (xf, (x .next, tt)) tt r) (fact 𝓤 (Stepped r))
     said r = exE 𝓤 _ (λ ws. snd∗ 𝓤 (sem 𝓤 H A (lasts step.ended (κ′, tt) (xf, (x .next, tt)) ws)) (fact 𝓤 (Stepped r)))
@@ -224,7 +224,7 @@ module _ {M : Type 1} (𝓤 : URA M) (H : Heap 𝓤) (A : Atoms 𝓤) (W : Given
     stored : (r : RowStep) → Stepped r → set (zs (x .done)) (x .done) (r .row) ≡ zs (x .done + 1)
     stored r e =
         ap (λ (d : SampleRow). set (zs (x .done)) (x .done) d)
-        (e .0 ∙ ap (λ (j : ℕ). sampleRow (getD (listIn sampleRows (readFile fs)) j noRow)) (x .numbered) ∙ record-is fs (x .done))
+        (e .0 ∙ ap (λ (j : ℕ). codeRow (getD (listIn sampleRows (readFile fs)) j noRow)) (x .numbered) ∙ record-is fs (x .done))
         ∙ stored-one rs ys (x .done) noRecord (omega arith) (omega arith)
         ∙ ap zs (sym (add-one (x .done)))
 

@@ -8,7 +8,7 @@ use borrow.Author.Needs.{needs}
 use lib.ListN.{length, getD, drop, length-set}
 use Rattle.xm.specs.Cell.{five, fieldsBy, cellAt, kepts, plainBy}
 use Rattle.xm.proofs.Cell.{length-some, few-marked}
-use Rattle.cell.proofs.ReadLaws.{Inside, first-inside, next-inside, field-inside, cell-first, cell-fields}
+use Rattle.cell.proofs.ReadLaws.{FieldInside, first-inside, next-inside, field-inside, cell-first, cell-fields}
 use Rattle.cell.proofs.WriteLaws.{written-marked, put-more}
 use Rattle.rewrite.proofs.RewriteLaws.{stored-five, stored-few, five-inside, lead-moved, kept-least, kept-next, left-first, laid-lead}
 use Rattle.rewrite.proofs.rewrite_cell.Statement.{statement}
@@ -18,7 +18,7 @@ shared-slice-read-first-field : tie.Need-shared-slice-read-first-field
 shared-slice-read-first-field c = let a = c .before .before .before .args in omega (arith, length-some (getD (a .stored .now) (a .place) 0))
 
 -- All its fields lie inside
-inside : (c : tie.After-first-field) → Inside 5 (c .first-field .result) (length (c .before .before .before .before .args .stored .now))
+inside : (c : tie.After-first-field) → FieldInside 5 (c .first-field .result) (length (c .before .before .before .before .args .stored .now))
 inside c =
     let s = c .before .before .before .before in
     first-inside (s .args .place) (getD (s .args .stored .now) (s .args .place) 0) _ (c .first-field .ensures) (s .pre .0)
@@ -64,11 +64,11 @@ room c =
     rw (cell-first (s .args .place) (s .args .stored .now) (f .first-field .ensures)) at fits
 
 -- From a call of `put_field` to the branch
-abbrev first : tie.After-put-field-arg → tie.Else1
-first c = c .before
+abbrev first-put : tie.After-put-field-arg → tie.Else1
+first-put c = c .before
 
 abbrev second : tie.After-put-field-arg2 → tie.Else1
-second c = first (c .before .before .before .before .before)
+second c = first-put (c .before .before .before .before .before)
 
 abbrev third : tie.After-put-field-arg3 → tie.Else1
 third c = second (c .before .before .before .before .before)
@@ -81,24 +81,24 @@ fifth c = fourth (c .before .before .before .before .before)
 
 -- and from there its field's place
 field₂ : (c : tie.After-put-field-arg2)
-    → Inside 4 (c .before .next-field .result) (length ((second c) .before .before .before .before .before .before .args .stored .now))
+    → FieldInside 4 (c .before .next-field .result) (length ((second c) .before .before .before .before .before .before .args .stored .now))
 field₂ c = next-inside (inside ((second c) .before .before)) (c .before .next-field .ensures)
 
 field₃ : (c : tie.After-put-field-arg3)
-    → Inside 3 (c .before .next-field2 .result) (length ((third c) .before .before .before .before .before .before .args .stored .now))
+    → FieldInside 3 (c .before .next-field2 .result) (length ((third c) .before .before .before .before .before .before .args .stored .now))
 field₃ c = next-inside (field₂ (c .before .before .before .before .before)) (c .before .next-field2 .ensures)
 
 field₄ : (c : tie.After-put-field-arg4)
-    → Inside 2 (c .before .next-field3 .result) (length ((fourth c) .before .before .before .before .before .before .args .stored .now))
+    → FieldInside 2 (c .before .next-field3 .result) (length ((fourth c) .before .before .before .before .before .before .args .stored .now))
 field₄ c = next-inside (field₃ (c .before .before .before .before .before)) (c .before .next-field3 .ensures)
 
 field₅ : (c : tie.After-put-field-arg5)
-    → Inside 1 (c .before .next-field4 .result) (length ((fifth c) .before .before .before .before .before .before .args .stored .now))
+    → FieldInside 1 (c .before .next-field4 .result) (length ((fifth c) .before .before .before .before .before .before .args .stored .now))
 field₅ c = next-inside (field₄ (c .before .before .before .before .before)) (c .before .next-field4 .ensures)
 
 put-field-requires : tie.Need-put-field-requires
 put-field-requires c κs =
-    let e = first c in
+    let e = first-put c in
     let f = e .before .before in
     (field-inside (inside f), omega (arith, room e, kept-least 4 (f .before .before .before .before .args .stored .now) (f .first-field .result)))
 
@@ -247,7 +247,7 @@ returns-2 c =
     let p₃ = p₄ .before .before .before .before .before in
     let p₂ = p₃ .before .before .before .before .before in
     let p₁ = p₂ .before .before .before .before .before in
-    let e = first (p₁ .before) in
+    let e = first-put (p₁ .before) in
     let f = e .before .before in
     let a = f .before .before .before .before .args in
     let n₁ = p₂ .before .before .next-field .ensures in

@@ -4,12 +4,12 @@ use native.Mathlib.Omega.{arith}
 use denote.Ref.{now}
 use borrow.Author.Tests.{ltb-true, ltb-false}
 use Rattle.ahead.proofs.Walk.{walked-more, walked-past, walked-none}
-use Rattle.scan.specs.Block.{walkOf, passed}
+use Rattle.scan.specs.Block.{walkOf, blockPassed}
 use Rattle.scan.proofs.walk_block.Statement.{statement}
 use Rattle.scan.proofs.walk_block.Tie as tie
 
 abbrev Inv-loop : tie.InvT-loop
-Inv-loop lengths size count at₀ left₀ at left = passed lengths size left at ≡ passed lengths size count 0
+Inv-loop lengths size count at₀ left₀ at left = blockPassed lengths size left at ≡ blockPassed lengths size count 0
 
 abbrev μ-loop : tie.MeasureT-loop
 μ-loop lengths size count at₀ left₀ at left = left

@@ -23,8 +23,8 @@ headed : (t : tie.After-known-told) →
     header.Read (t .before .step .given .0 .0) ≡ headerStep (readWhole (headerFormat (kindAt file)) file)
 headed t = sym (t .before .step .given .1) ∙ t .before .before .before .begin .ensures
 
-told : (t : tie.After-known-told) → HeaderTold (t .before .before .before .before .before .args .file .now) (headed t)
-told t = header-told _ (headed t) (plain t)
+header-given : (t : tie.After-known-told) → HeaderTold (t .before .before .before .before .before .args .file .now) (headed t)
+header-given t = header-told _ (headed t) (plain t)
 
 tried : (u : tie.After-known-told2) →
     let t = u .before .before .before .before in
@@ -39,7 +39,7 @@ returns-2 c =
 count-instruments-requires : tie.Need-count-instruments-requires
 count-instruments-requires c κs =
     let t = c .before .before .before .before in
-    (patterns-told _ (headed t) (tried c) (plain t) .inside, (told t .small, told t .few))
+    (patterns-told _ (headed t) (tried c) (plain t) .inside, (header-given t .small, header-given t .few))
 
 returns-3 : tie.Need-returns-3
 returns-3 c =
@@ -64,7 +64,7 @@ check-spec =
     (search needs)
     (λ c. check-refuses _
     (header-out _ (header-refused _ (c .before .before .before .begin .ensures) (c .before .enum-told .given .1) (c .fault-of-header .ensures))))
-    (λ c κs. let t = told c in (t .start, (t .small, (t .low, t .high))))
+    (λ c κs. let t = header-given c in (t .start, (t .small, (t .low, t .high))))
     (search needs)
     (search needs)
     (search needs)

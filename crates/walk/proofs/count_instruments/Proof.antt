@@ -15,12 +15,12 @@ abbrev μ-loop : tie.MeasureT-loop
 μ-loop file at count place₀ samples₀ done₀ place samples done = count - done
 
 -- One more is read
-on : (t : tie.After-known-told Inv-loop μ-loop) →
+counted-more : (t : tie.After-known-told Inv-loop μ-loop) →
     let l = t .before .before .before .before .before in
     let a = l .before .before .args in
     let part = t .before .step .given .0 .0 in
     InstrumentsTried (a .file .now) (a .at) (a .count) (l .loop .done + 1) (part .next) (l .loop .samples + part .samples)
-on t =
+counted-more t =
     let t₄ = t .before .before .before .before in
     let l = t₄ .before in
     counted-on _ _ _ (l .loop .inv) (t₄ .loop-test .taken) (record { below = λ i. omega (arith, l .before .shared-slice-known .given i) })
@@ -46,8 +46,8 @@ count-instruments-spec =
     (search needs)
     (search needs)
     returns
-    (λ c. omega (arith, on (c .before) .few))
+    (λ c. omega (arith, counted-more (c .before) .few))
     (search needs)
     (omega arith)
-    (λ c. on (c .before))
+    (λ c. counted-more (c .before))
     (λ c. counted-end _ _ _ (c .before .loop .inv) (c .loop-test .left)))

@@ -16,13 +16,13 @@ abbrev μ-loop : tie.MeasureT-loop
 μ-loop file at to count place₀ pressed₀ done₀ place pressed done = count - done
 
 -- One more is read and measured
-on : (u : tie.After-form-of Inv-loop μ-loop) →
+measured-more : (u : tie.After-form-of Inv-loop μ-loop) →
     let t = u .before in
     let l = t .before .before .before .before .before in
     let a = l .before .before .args in
     let part = t .before .step .given .0 .0 in
     InstrumentsRead (a .file .now) (kindBy (a .to)) (a .at) (a .count) (l .loop .done + 1) (part .next) (l .loop .pressed + u .form-of .result .length)
-on u =
+measured-more u =
     let t = u .before in
     let l = t .before .before .before .before .before in
     instruments-on _ _ _ (l .loop .inv) (t .before .before .before .before .loop-test .taken)
@@ -55,8 +55,8 @@ read-instruments-spec =
       sym (c .before .step .given .1) ∙ c .before .before .before .read-instrument .ensures,
       c .before .before .before .before .before .before .before .pre .1 .0,
     ))
-    (λ c. omega (arith, instruments-short _ _ _ (on (c .before))))
+    (λ c. omega (arith, instruments-short _ _ _ (measured-more (c .before))))
     (search needs)
     (omega arith)
-    (λ c. on (c .before))
+    (λ c. measured-more (c .before))
     (λ c. let w = c .before .loop .inv in (instruments-end _ _ _ w (c .loop-test .left), omega (arith, instruments-short _ _ _ w))))

@@ -18,14 +18,14 @@ abbrev μ-loop : tie.MeasureT-loop
 μ-loop file at channels count marks₀ place₀ pressed₀ done₀ marks place pressed done = count - done
 
 -- One more is read and marked
-on : (p : tie.After-put-mark Inv-loop μ-loop) →
+measured-more : (p : tie.After-put-mark Inv-loop μ-loop) →
     let t = p .before .before .before in
     let l = t .before .before .before .before .before in
     let a = l .before .before .args in
     let part = t .before .step .given .0 .0 in
     PatternsRead (a .file .now) (a .at) (a .channels) (a .count) (l .loop .done + 1) (part .next) (l .loop .pressed + (9 + part .shortest))
     (p .put-mark .last .0)
-on p =
+measured-more p =
     let t = p .before .before .before in
     let l = t .before .before .before .before .before in
     patterns-on _ _ _ _ (l .loop .inv .1) (t .before .before .before .before .loop-test .taken)
@@ -47,7 +47,7 @@ returns c =
     (c .fault-of-pattern .ensures)
 
 loop-again : tie.Need-loop-again Inv-loop μ-loop
-loop-again c = (c .before .put-mark .ensures .size ∙ c .before .before .before .before .before .before .before .before .before .loop .inv .0, on (c .before))
+loop-again c = (c .before .put-mark .ensures .size ∙ c .before .before .before .before .before .before .before .before .before .loop .inv .0, measured-more (c .before))
 
 pub read-patterns-spec : {M : Type 1} → statement M
 read-patterns-spec =
@@ -63,8 +63,8 @@ read-patterns-spec =
     returns
     (search needs)
     put-mark-requires
-    (λ c. let w = on (c .before) in omega (arith, w .inside, w .short))
-    (λ c. let w = on (c .before) in omega (arith, w .inside, w .short))
+    (λ c. let w = measured-more (c .before) in omega (arith, w .inside, w .short))
+    (λ c. let w = measured-more (c .before) in omega (arith, w .inside, w .short))
     (search needs)
     (omega arith)
     loop-again

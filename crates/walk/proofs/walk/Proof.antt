@@ -26,8 +26,8 @@ headed : (t : tie.After-known-told) →
     header.Read (t .before .step .given .0 .0) ≡ headerStep (readWhole (headerFormat (kindAt file)) file)
 headed t = sym (t .before .step .given .1) ∙ t .before .before .before .begin .ensures
 
-told : (t : tie.After-known-told) → HeaderTold (t .before .before .before .before .before .args .file .now) (headed t)
-told t = header-told _ (headed t) (plain t)
+header-given : (t : tie.After-known-told) → HeaderTold (t .before .before .before .before .before .args .file .now) (headed t)
+header-given t = header-told _ (headed t) (plain t)
 
 patterned : (u : tie.After-known-told2) →
     let t = u .before .before .before .before .before in
@@ -61,7 +61,7 @@ header-size c =
     omega (arith, c .least-header .ensures, song .ensures .small, header-most (kindBy (t .before .before .before .before .before .args .to)) (song .result))
 
 patterns-size : (u : tie.After-known-told2) → u .before .first .given .0 .0 .pressed ≤ fileMost
-patterns-size u = omega (arith, told (u .before .before .before .before .before) .small, patterned u .pressed, ended u .pressed)
+patterns-size u = omega (arith, header-given (u .before .before .before .before .before) .small, patterned u .pressed, ended u .pressed)
 
 instruments-size : (v : tie.After-known-told3) → v .before .last .given .0 .0 .pressed ≤ 2 * fileMost
 instruments-size v = omega (arith, v .before .before .before .read-instruments .ensures .1, ap runPressed (v .before .last .given .1))
@@ -89,17 +89,17 @@ walk-spec =
     (search needs)
     (λ c. walk-refuses _ _ _
     (header-out _ (header-refused _ (c .before .before .before .begin .ensures) (c .before .enum-told .given .1) (c .fault-of-header .ensures))))
-    (λ c κs. let t = told (c .before) in (t .start, (t .small, ((t .low, t .high), (t .many, c .before .before .before .before .before .before .pre)))))
+    (λ c κs. let t = header-given (c .before) in (t .start, (t .small, ((t .low, t .high), (t .many, c .before .before .before .before .before .before .pre)))))
     (search needs)
     (search needs)
     (search needs)
     returns-2
-    (λ c κs. let t = told (c .before .before .before .before .before) in (ended c .inside, (t .small, t .few)))
+    (λ c κs. let t = header-given (c .before .before .before .before .before) in (ended c .inside, (t .small, t .few)))
     (search needs)
     (search needs)
     (search needs)
     returns-3
-    (λ c κs. let u = c .before .before .before .before in omega (arith, told (u .before .before .before .before .before) .long))
+    (λ c κs. let u = c .before .before .before .before in omega (arith, header-given (u .before .before .before .before .before) .long))
     (λ c κs. c .word .ensures .small)
     (λ c. omega (arith, header-size c))
     (λ c. omega (arith, header-size (c .before), patterns-size (c .before .before .before .before .before .before .before)))

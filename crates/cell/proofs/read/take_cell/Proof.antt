@@ -5,13 +5,13 @@ use lib.ListN.{length, getD}
 use denote.Ref.{now}
 use Rattle.xm.proofs.Cell.{length-some}
 use Rattle.cell.specs.Read.{cellOf}
-use Rattle.cell.proofs.ReadLaws.{Inside, first-inside, next-inside, field-inside, cell-fields}
+use Rattle.cell.proofs.ReadLaws.{FieldInside, first-inside, next-inside, field-inside, cell-fields}
 use borrow.Author.Needs.{needs}
 use Rattle.cell.proofs.read.take_cell.Statement.{statement}
 use Rattle.cell.proofs.read.take_cell.Tie as tie
 
 -- All five lie inside
-inside : (c : tie.After-first-field) → Inside 5 (c .first-field .result) (length (now (c .before .before .before .args .stored)))
+inside : (c : tie.After-first-field) → FieldInside 5 (c .first-field .result) (length (now (c .before .before .before .args .stored)))
 inside c =
     let c₃ = c .before .before .before in
     let a = c₃ .args in

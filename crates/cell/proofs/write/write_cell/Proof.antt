@@ -61,11 +61,11 @@ bits c =
     )
 
 -- From one call of `put` back to the one before, and from the first to the lead byte
-abbrev first : tie.After-put-arg → tie.Else1
-first c = c .before .before
+abbrev first-put : tie.After-put-arg → tie.Else1
+first-put c = c .before .before
 
 abbrev second : tie.After-put-arg2 → tie.Else1
-second c = first (c .before .before .before .before .before)
+second c = first-put (c .before .before .before .before .before)
 
 abbrev third : tie.After-put-arg3 → tie.Else1
 third c = second (c .before .before .before .before .before)
@@ -104,7 +104,7 @@ write-cell-spec =
     (tie.spec (λ c κs. search needs) (λ c. search needs) (λ c κs. search needs)
     (λ c κs. (omega arith, omega (arith, ap length (plain (c .before)), room (c .before .before .before .before)))) (λ c. search needs) returns
     (λ c. omega (arith, marked c .1))
-    (λ c. search needs) (λ c κs. omega (arith, bits (first c)))
+    (λ c. search needs) (λ c κs. omega (arith, bits (first-put c)))
     (λ c. search needs) (λ c. search needs) (λ c κs. omega (arith, bits (second c)))
     (λ c. search needs) (λ c. search needs) (λ c κs. omega (arith, bits (third c)))
     (λ c. search needs) (λ c. search needs) (λ c κs. omega (arith, bits (fourth c)))

@@ -22,11 +22,11 @@ long : (c : tie.After-first-place)
 long c = let of = c .before .before .before in length-set (of .before .before .before .args .out .now) 0 (of .lead-of .result)
 
 -- From one call of `put_over` back to the one before, and from the first to its place
-abbrev first : tie.After-put-over-arg → tie.After-first-place
-first c = c .before .before
+abbrev first-put : tie.After-put-over-arg → tie.After-first-place
+first-put c = c .before .before
 
 abbrev second : tie.After-put-over-arg2 → tie.After-first-place
-second c = first (c .before .before .before .before .before)
+second c = first-put (c .before .before .before .before .before)
 
 abbrev third : tie.After-put-over-arg3 → tie.After-first-place
 third c = second (c .before .before .before .before .before)
@@ -60,7 +60,7 @@ pub write-over-spec : {M : Type 1} → statement M
 write-over-spec =
     tie.close
     (tie.spec (λ c κs. search needs) (λ c. search needs) (λ c. search needs) (λ c κs. search needs) (λ c κs. search needs)
-    (λ c. search needs) (λ c κs. omega (arith, long (first c)))
+    (λ c. search needs) (λ c κs. omega (arith, long (first-put c)))
     (λ c. search needs) (λ c. search needs) (λ c κs. omega (arith, long (second c)))
     (λ c. search needs) (λ c. search needs) (λ c κs. omega (arith, long (third c)))
     (λ c. search needs) (λ c. search needs) (λ c κs. omega (arith, long (fourth c)))

@@ -64,7 +64,7 @@ use Rattle.structures.proofs.Standing.Laws as F′
 use Rattle.reader.specs.declared.Reader.{Reader}
 use Rattle.reader.specs.declared.count.Counts.{Counts}
 use Rattle.reader.specs.declared.count.Counted.{Counted}
-use Rattle.reader.specs.Count.{countsOf, handsOver, oneMore, endsAs, counting, countedOf}
+use Rattle.reader.specs.Count.{structureCounts, handsOver, oneMore, endsAs, counting, countedOf}
 use Rattle.reader.proofs.CountLaws.{placeAfter, standAfter, Running, running}
 use Rattle.reader.proofs.KnownBytes.{bytes-known}
 use Rattle.reader.proofs.CallNext.{Next, B, part-in, to-room, call-next, call-next-last}
@@ -193,8 +193,8 @@ module _ {M : Type 1} (𝓤 : URA M) (H : Heap 𝓤) (A : Atoms 𝓤) (W : Given
   asks-none : ent 𝓤 (emp 𝓤) (NoneCounted 𝓤 H A mem run .pre to-none)
   asks-none = qed W [] ∵ nothing ! $ nothing ! $ join ! $ frame ! $ done !
 
-  said-none : (r : Counts) → ent 𝓤 (ensured 𝓤 H A none-counted.ended (none-counted.clauses 𝓤 H A mem run) tt tt tt r) (fact 𝓤 (r ≡ countsOf []))
-  said-none r = exE 𝓤 _ (λ ws. snd∗ 𝓤 (sem 𝓤 H A (lasts none-counted.ended tt tt ws)) (fact 𝓤 (r ≡ countsOf [])))
+  said-none : (r : Counts) → ent 𝓤 (ensured 𝓤 H A none-counted.ended (none-counted.clauses 𝓤 H A mem run) tt tt tt r) (fact 𝓤 (r ≡ structureCounts []))
+  said-none r = exE 𝓤 _ (λ ws. snd∗ 𝓤 (sem 𝓤 H A (lasts none-counted.ended tt tt ws)) (fact 𝓤 (r ≡ structureCounts [])))
 
   module _ (g : Standing) (ug : Val) (isg : Is F.the-row g (ug ∷ [])) where
     abbrev to-test : IsStructure 𝓤 H A mem run .Ghost
@@ -239,7 +239,7 @@ module _ {M : Type 1} (𝓤 : URA M) (H : Heap 𝓤) (A : Atoms 𝓤) (W : Given
     rd i = record { file = s; place = placeAfter (now s) i }
 
     abbrev cnt : ℕ → Counts
-    cnt i = countsOf (take i rs)
+    cnt i = structureCounts (take i rs)
 
     abbrev std : ℕ → Standing
     std i = standAfter (now s) i
@@ -268,12 +268,12 @@ module _ {M : Type 1} (𝓤 : URA M) (H : Heap 𝓤) (A : Atoms 𝓤) (W : Given
     At x = ‵ (partAt (B κ) fullShare (rd (suc (x .0))) l₃ 0) ∷ ‵ (flft κ q) ∷ ‵ (fat fullShare N′.mir l₄ 0 (x .1 .0))
         ∷ ‵ (fat fullShare F′.mir l₅ 0 (x .1 .1)) ∷ Frame
 
-    abbrev Told : State → Type 0
-    Told x = Is N.the-row (cnt (x .0)) (x .1 .0 ∷ []) × Is F.the-row (std (x .0)) (x .1 .1 ∷ [])
+    abbrev CountsHeld : State → Type 0
+    CountsHeld x = Is N.the-row (cnt (x .0)) (x .1 .0 ∷ []) × Is F.the-row (std (x .0)) (x .1 .1 ∷ [])
 
     -- the invariant, where t structures are left
     abbrev Inv : ℕ → SProp 𝓤
-    Inv t = ex 𝓤 (λ (x : State). guard 𝓤 ((x .0 + t ≡ length rs) × Told x) (⋆ 𝓤 H A (At x)))
+    Inv t = ex 𝓤 (λ (x : State). guard 𝓤 ((x .0 + t ≡ length rs) × CountsHeld x) (⋆ 𝓤 H A (At x)))
 
     abbrev Below : ℕ → SProp 𝓤
     Below t = ex 𝓤 (λ (t′ : ℕ). guard 𝓤 (t′ < t) (Inv t′))
@@ -283,7 +283,7 @@ module _ {M : Type 1} (𝓤 : URA M) (H : Heap 𝓤) (A : Atoms 𝓤) (W : Given
     Left = afterBlock 𝓤 H (afterSeq 𝓤 H (Wp 𝓤 H C Λ En M′.t-6 (atReturn 𝓤 H En Post)) (atReturn 𝓤 H En Post))
 
     -- a turn that goes on
-    more : (x : State) (X : SProp 𝓤) → x .0 < length rs → Told x → ((y : State) → y .0 ≡ suc (x .0) → Told y → ent 𝓤 (⋆ 𝓤 H A (At y)) X)
+    more : (x : State) (X : SProp 𝓤) → x .0 < length rs → CountsHeld x → ((y : State) → y .0 ≡ suc (x .0) → CountsHeld y → ent 𝓤 (⋆ 𝓤 H A (At y)) X)
         → ent 𝓤 (⋆ 𝓤 H A (At x)) (Wp 𝓤 H C Λ En M′.turn-1 (afterTurn 𝓤 H X Left))
     unfolding afterTurn
     more (i, (uc, ug)) X small told then =
@@ -313,7 +313,7 @@ module _ {M : Type 1} (𝓤 : URA M) (H : Heap 𝓤) (A : Atoms 𝓤) (W : Given
         )))))))
 
     -- the turn that leaves the loop, and the rest of the body
-    ends : (uc ug : Val) (X : SProp 𝓤) → Told (length rs, (uc, ug))
+    ends : (uc ug : Val) (X : SProp 𝓤) → CountsHeld (length rs, (uc, ug))
         → ent 𝓤 (⋆ 𝓤 H A (At (length rs, (uc, ug)))) (Wp 𝓤 H C Λ En M′.turn-1 (afterTurn 𝓤 H X Left))
     unfolding afterTurn
     ends uc ug X told =
@@ -341,31 +341,31 @@ module _ {M : Type 1} (𝓤 : URA M) (H : Heap 𝓤) (A : Atoms 𝓤) (W : Given
         n : ℕ
         n = length rs
 
-    below : (t : ℕ) (y : State) → (y .0 + t ≡ length rs) × Told y → ent 𝓤 (⋆ 𝓤 H A (At y)) (Below (suc t))
+    below : (t : ℕ) (y : State) → (y .0 + t ≡ length rs) × CountsHeld y → ent 𝓤 (⋆ 𝓤 H A (At y)) (Below (suc t))
     below t y e =
         via 𝓤 (Inv t)
-        (via 𝓤 (guard 𝓤 ((y .0 + t ≡ length rs) × Told y) (⋆ 𝓤 H A (At y))) (guardI 𝓤 ((y .0 + t ≡ length rs) × Told y) (⋆ 𝓤 H A (At y)) e)
-        (exI 𝓤 (λ (x : State). guard 𝓤 ((x .0 + t ≡ length rs) × Told x) (⋆ 𝓤 H A (At x))) y))
+        (via 𝓤 (guard 𝓤 ((y .0 + t ≡ length rs) × CountsHeld y) (⋆ 𝓤 H A (At y))) (guardI 𝓤 ((y .0 + t ≡ length rs) × CountsHeld y) (⋆ 𝓤 H A (At y)) e)
+        (exI 𝓤 (λ (x : State). guard 𝓤 ((x .0 + t ≡ length rs) × CountsHeld x) (⋆ 𝓤 H A (At x))) y))
         (via 𝓤 (guard 𝓤 (t < suc t) (Inv t)) (guardI 𝓤 (t < suc t) (Inv t) (omega arith)) (exI 𝓤 (λ (u : ℕ). guard 𝓤 (u < suc t) (Inv u)) t))
 
-    turn-at : (t : ℕ) (x : State) → (x .0 + t ≡ length rs) × Told x → ent 𝓤 (⋆ 𝓤 H A (At x)) (Wp 𝓤 H C Λ En M′.turn-1 (afterTurn 𝓤 H (Below t) Left))
+    turn-at : (t : ℕ) (x : State) → (x .0 + t ≡ length rs) × CountsHeld x → ent 𝓤 (⋆ 𝓤 H A (At x)) (Wp 𝓤 H C Λ En M′.turn-1 (afterTurn 𝓤 H (Below t) Left))
     turn-at zero (i, (uc, ug)) e =
         let none-left : length rs ≡ i = omega (arith, e .0) in
-        subst (λ (j : ℕ). Told (j, (uc, ug)) → ent 𝓤 (⋆ 𝓤 H A (At (j, (uc, ug)))) (Wp 𝓤 H C Λ En M′.turn-1 (afterTurn 𝓤 H (Below zero) Left))) none-left
+        subst (λ (j : ℕ). CountsHeld (j, (uc, ug)) → ent 𝓤 (⋆ 𝓤 H A (At (j, (uc, ug)))) (Wp 𝓤 H C Λ En M′.turn-1 (afterTurn 𝓤 H (Below zero) Left))) none-left
         (ends uc ug (Below zero)) (e .1)
     turn-at (suc t) x e = more x (Below (suc t)) (omega (arith, e .0)) (e .1) (λ y next told. below t y (omega (arith, e .0, next), told))
 
     turns : (t : ℕ) → ent 𝓤 (Inv t) (Wp 𝓤 H C Λ En M′.turn-1 (afterTurn 𝓤 H (Below t) Left))
     turns t =
-        exE 𝓤 (λ (x : State). guard 𝓤 ((x .0 + t ≡ length rs) × Told x) (⋆ 𝓤 H A (At x)))
-        (λ x. guardE 𝓤 ((x .0 + t ≡ length rs) × Told x) (⋆ 𝓤 H A (At x)) (λ e. turn-at t x e))
+        exE 𝓤 (λ (x : State). guard 𝓤 ((x .0 + t ≡ length rs) × CountsHeld x) (⋆ 𝓤 H A (At x)))
+        (λ x. guardE 𝓤 ((x .0 + t ≡ length rs) × CountsHeld x) (⋆ 𝓤 H A (At x)) (λ e. turn-at t x e))
 
-    loops : (uc ug : Val) → Told (0, (uc, ug)) → ent 𝓤 (⋆ 𝓤 H A (At (0, (uc, ug)))) (Wp 𝓤 H C Λ En (loop M′.turn-1) Left)
+    loops : (uc ug : Val) → CountsHeld (0, (uc, ug)) → ent 𝓤 (⋆ 𝓤 H A (At (0, (uc, ug)))) (Wp 𝓤 H C Λ En (loop M′.turn-1) Left)
     loops uc ug told =
         via 𝓤 (Inv (length rs))
-        (via 𝓤 (guard 𝓤 ((0 + length rs ≡ length rs) × Told (0, (uc, ug))) (⋆ 𝓤 H A (At (0, (uc, ug)))))
-        (guardI 𝓤 ((0 + length rs ≡ length rs) × Told (0, (uc, ug))) (⋆ 𝓤 H A (At (0, (uc, ug)))) (omega arith, told))
-        (exI 𝓤 (λ (x : State). guard 𝓤 ((x .0 + length rs ≡ length rs) × Told x) (⋆ 𝓤 H A (At x))) (0, (uc, ug))))
+        (via 𝓤 (guard 𝓤 ((0 + length rs ≡ length rs) × CountsHeld (0, (uc, ug))) (⋆ 𝓤 H A (At (0, (uc, ug)))))
+        (guardI 𝓤 ((0 + length rs ≡ length rs) × CountsHeld (0, (uc, ug))) (⋆ 𝓤 H A (At (0, (uc, ug)))) (omega arith, told))
+        (exI 𝓤 (λ (x : State). guard 𝓤 ((x .0 + length rs ≡ length rs) × CountsHeld x) (⋆ 𝓤 H A (At x))) (0, (uc, ug))))
         (loop-rule 𝓤 H (W .laws) 𝓣 _<_ (Nat·lt-wfRel .wf) En M′.turn-1 Left Inv turns (length rs))
 
     -- the body, up to the loop: the reader is made in its local, which is memory; none is counted; and the first call
@@ -390,7 +390,7 @@ module _ {M : Type 1} (𝓤 : URA M) (H : Heap 𝓤) (A : Atoms 𝓤) (W : Given
         -- [the reader; the token; _4; _5; _7; _8; _1; _0; _2; _6; file's; …]
         use0 W (raw (NoneCounted 𝓤 H A mem run .pre to-none)) asks-none $
         calls-at ! fm (NoneCounted 𝓤 H A mem run) (known .none-counted) to-none (no-more !) (λ uc.
-        plain-back 𝓤 H A W ! tt N.the-row (λ r. r ≡ countsOf []) said-none uc (id⊢ 𝓤 _) (λ c ec isc.
+        plain-back 𝓤 H A W ! tt N.the-row (λ r. r ≡ structureCounts []) said-none uc (id⊢ 𝓤 _) (λ c ec isc.
         land ! (from ! (stop !)) (init ! 2 refl (LL.lawful N.the-type N′.the-laws 𝓤 H A W .typed c _ isc .0)) $
         assigns ! (addr ! (from ! (stop !))) (from ! (stop !)) (init ! 9 refl (tt, tt)) $
         call-next 𝓤 H A W mem run κ q ! fm (known .next) l₃ (rd 0) (λ _ _ _. and-then ! (load ! (from ! (stop !)) (look ! 10 refl)) (no-more !))

@@ -6,7 +6,7 @@ use native.Mathlib.Omega.{arith}
 use lib.ListN.{length, drop, length-drop}
 use borrow.Author.Tests.{lt-ltb}
 use Rattle.xm.specs.ModuleKind.{stripped}
-use Rattle.xm.specs.Instrument.{countAt, headerSizeAt, fieldsOf}
+use Rattle.xm.specs.Instrument.{countAt, sampleHeadSizeAt, fieldsOf}
 use Rattle.refusal.proofs.Tests.{fault-at, fault-none}
 use Rattle.steps.proofs.InstrumentLaws.{count-cut, size-cut, times-some}
 use borrow.Author.Needs.{needs}
@@ -28,7 +28,7 @@ counted t =
 taken : (t : tie.After-long-in) →
     let a = t .before .before .before .before .before .before .before .before .args in
     let fields = fieldsOf stripped (drop (a .at) (a .file .now)) in
-    t .before .before .word-in .result * t .long-in .result ≡ countAt fields * headerSizeAt fields
+    t .before .before .word-in .result * t .long-in .result ≡ countAt fields * sampleHeadSizeAt fields
 taken t =
     let t₅ = t .before .before .before .before .before in
     let a = t₅ .before .before .before .args in

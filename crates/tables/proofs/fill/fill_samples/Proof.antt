@@ -7,7 +7,7 @@ use Rattle.xm.specs.Got.{listIn}
 use Rattle.xm.specs.Lay.{lay}
 use Rattle.xm.specs.Module.{readFile}
 use Rattle.xm.specs.Table.{sampleRows, sampleStride, tuneStride}
-use Rattle.tables.specs.Place.{numbersOf, tunesOf}
+use Rattle.tables.specs.Place.{codeRowNumbers, tunesOf}
 use Rattle.tables.specs.Sought.{Seeks}
 use Rattle.tables.specs.declared.sample.SampleRow.{SampleRow}
 use Rattle.tables.proofs.FillLaws.{FillingSamples, samples-start, samples-room, tunes-room, samples-on, samples-done}
@@ -51,7 +51,7 @@ loop-again c =
     let step = c .before .before .before .before .before .before .before .before .row-step .ensures in
     let put = c .before .before .before .before .put-sample .ensures in (
       rw (step .1) (samples-on _ _ _ (l .inv .0) (omega (arith, s .before .before .before .before .pre .0))
-          (put .0 ∙ ap (λ (r : SampleRow). lay (l .table) (sampleStride * l .from .number) (numbersOf r)) (step .0))
+          (put .0 ∙ ap (λ (r : SampleRow). lay (l .table) (sampleStride * l .from .number) (codeRowNumbers r)) (step .0))
           (put .1 ∙ ap (λ (r : SampleRow). lay (l .tunes) (tuneStride * l .from .number) (tunesOf r)) (step .0))),
       λ some. step .2,
     )

@@ -5,14 +5,14 @@ use native.Mathlib.Omega.{arith}
 use borrow.Author.Needs.{needs}
 use lib.ListN.{drop}
 use Rattle.tables.specs.Place.{dataBefore}
-use Rattle.tables.specs.Sought.{Left}
+use Rattle.tables.specs.Sought.{SamplesLeft}
 use Rattle.heads.proofs.SampleLaws.{head-size}
 use Rattle.tables.proofs.PlaceLoops.{left-start, left-on, left-room, left-end}
 use Rattle.tables.proofs.place.data_end.Statement.{statement}
 use Rattle.tables.proofs.place.data_end.Tie as tie
 
 abbrev Inv-loop : tie.InvT-loop
-Inv-loop file size left₀ head₀ place₀ left head place = Left file size (place₀ + dataBefore left₀ size (drop head₀ file)) left head place
+Inv-loop file size left₀ head₀ place₀ left head place = SamplesLeft file size (place₀ + dataBefore left₀ size (drop head₀ file)) left head place
 
 abbrev μ-loop : tie.MeasureT-loop
 μ-loop file size left₀ head₀ place₀ left head place = left

@@ -4,7 +4,7 @@ use Prim.Native.Nat.{_-_, _<_}
 use mathlib.Core.Path.{refl, sym, ap, _∙_}
 use native.Mathlib.Omega.{arith}
 use lib.ListN.{length}
-use Rattle.tables.specs.Place.{sampleRow}
+use Rattle.tables.specs.Place.{codeRow}
 use Rattle.tables.specs.Sought.{Seeks}
 use Rattle.tables.specs.declared.sample.SampleRow.{SampleRow}
 use Rattle.tables.proofs.SampleLaws.{seeks-fits, seeks-found, seeks-after, seeks-tests, seeks-stands, seeks-on, seeks-less}
@@ -89,7 +89,7 @@ returns c =
     let row = c .before .sample-row .ensures in
     let s = c .before .before .before in
     let some : 0 < s .loop .left = omega (arith, c .before .before .loop-test .left) in (
-      row ∙ ap sampleRow (sym (seeks-found _ _ (s .before .before .pre .0) (record { below = λ i. omega (arith, s .before .shared-slice-known .given i) })
+      row ∙ ap codeRow (sym (seeks-found _ _ (s .before .before .pre .0) (record { below = λ i. omega (arith, s .before .shared-slice-known .given i) })
           (s .loop .inv) some)),
       refl,
       seeks-after _ _ (s .before .before .pre .0) (record { below = λ i. omega (arith, s .before .shared-slice-known .given i) }) (s .loop .inv)

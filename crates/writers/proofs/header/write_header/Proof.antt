@@ -5,7 +5,7 @@ use lib.ListN.{length}
 use Rattle.xm.specs.ModuleKind.{kindBy}
 use Rattle.xm.specs.Header.{writeHeader}
 use Rattle.xm.proofs.Lay.{laid-first, laid-part, laid-last}
-use Rattle.writers.specs.Header.{trackerBy, headerWith, namesOf, numbersOf}
+use Rattle.writers.specs.Header.{trackerBy, headerWith, namesOf, headerNumbers}
 use Rattle.writers.proofs.HeaderLaws.{table-size, tracker-size, header-parts, names-size, header-size}
 use borrow.Author.Needs.{needs}
 use Rattle.writers.proofs.header.write_header.Statement.{statement}
@@ -52,7 +52,7 @@ returns c =
     (header-parts kind tracker (a .patterns) orders file)
     (omega (arith, header-size kind tracker (a .patterns) orders file named (s .pre .0) (s .pre .1 .1 .0), s .pre .1 .1 .1))
     (sym (names-size kind tracker file named (s .pre .0))) (c₁₀ .write-names .ensures) in
-    laid-last (laid-part names (numbersOf kind (length orders) (a .patterns) file) _ refl refl refl (c₆ .write-numbers .ensures)) refl
+    laid-last (laid-part names (headerNumbers kind (length orders) (a .patterns) file) _ refl refl refl (c₆ .write-numbers .ensures)) refl
     (c .before .before .write-orders .ensures)
 
 pub write-header-spec : {M : Type 1} → statement M

@@ -8,7 +8,7 @@ use Rattle.xm.specs.Answer.{inFront}
 use Rattle.xm.specs.Header.{leastHeader, channelsAt, restartOf}
 use Rattle.xm.proofs.Lay.{laid-first, laid-part, laid-last}
 use Rattle.steps.proofs.KindLaws.{least-small}
-use Rattle.writers.specs.Header.{numbersOf}
+use Rattle.writers.specs.Header.{headerNumbers}
 use Rattle.writers.proofs.Kept.{word-kept}
 use Rattle.writers.proofs.HeaderLaws.{four-words}
 use borrow.Author.Needs.{needs}
@@ -49,7 +49,7 @@ returns c =
     let bytes : Bytes file = record { below = λ i. omega (arith, c₃₀ .shared-slice-known .given i) } in
     let restart = ap (λ (n : ℕ). word n) (c₁₈ .restart-of .ensures .0 ∙ ap (restartOf (a .song-length)) (c₁₉ .word .ensures .value)) in
     let least : c₂₈ .least-header .result ≡ leastHeader kind (a .song-length) = omega (arith, c₂₈ .least-header .ensures) in
-    let first = laid-first (a .out .now) (numbersOf kind (a .song-length) (a .patterns) file) (long (leastHeader kind (a .song-length))) _ refl
+    let first = laid-first (a .out .now) (headerNumbers kind (a .song-length) (a .patterns) file) (long (leastHeader kind (a .song-length))) _ refl
     (omega (arith, room)) refl (c₂₆ .put-long .ensures ∙ ap (λ (n : ℕ). inFront (long n) (a .out .now)) least) in
     let second = laid-part first (word (a .song-length)) _ refl refl refl (c₂₂ .put-word .ensures) in
     let third = laid-part second (word (restartOf (a .song-length) (wordAt 66 file))) _ refl restart refl (c₁₆ .put-word2 .ensures) in

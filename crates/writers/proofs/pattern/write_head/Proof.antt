@@ -3,7 +3,7 @@ use mathlib.Core.Path.{refl}
 use native.Mathlib.Omega.{arith}
 use Rattle.xm.specs.Number.{byte, word, long}
 use Rattle.xm.proofs.Lay.{laid-first, laid-part, laid-last}
-use Rattle.writers.specs.Pattern.{patternHead}
+use Rattle.writers.specs.Pattern.{writtenHead}
 use borrow.Author.Needs.{needs}
 use Rattle.writers.proofs.pattern.write_head.Statement.{statement}
 use Rattle.writers.proofs.pattern.write_head.Tie as tie
@@ -57,7 +57,7 @@ returns c =
     let c₁₄ = c₁₀ .before .before .before .before in
     let c₁₇ = c₁₄ .before .before .before in
     let a = c₁₇ .args in
-    let first = laid-first (a .out .now) (patternHead (a .rows) (a .size)) (long 9) _ refl (omega (arith, c₁₇ .pre)) refl (c₁₄ .put-long .ensures) in
+    let first = laid-first (a .out .now) (writtenHead (a .rows) (a .size)) (long 9) _ refl (omega (arith, c₁₇ .pre)) refl (c₁₄ .put-long .ensures) in
     let second = laid-part first (byte 0) _ refl refl refl (c₁₀ .put-byte .ensures) in
     let third = laid-part second (word (a .rows)) _ refl refl refl (c₆ .put-word .ensures) in
     laid-last third refl (c .before .before .put-word2 .ensures)
