@@ -1,4 +1,4 @@
 pub mod Lengths
-pub mod Run
+pub mod AheadLaws
 pub mod Fill
 pub mod Walk

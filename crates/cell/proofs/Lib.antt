@@ -2,5 +2,5 @@ pub mod Bits
 pub mod ReadLaws
 pub mod ReadRows
 pub mod WriteLaws
-pub mod Over
+pub mod OverLaws
 pub mod WriteRows

@@ -10,7 +10,7 @@ use Rattle.xm.specs.Answer.{inFront}
 use Rattle.xm.specs.Cell.{writeCell}
 use Rattle.xm.proofs.Lay.{Laid, laid-part, laid-set}
 use Rattle.cell.specs.Over.{overMost, Over}
-use Rattle.cell.proofs.Over.{laid-over}
+use Rattle.cell.proofs.OverLaws.{laid-over}
 
 -- Its bytes, and those of the rest
 pub first-length : {rest rest′ : List (List ℕ)} {cell : List ℕ} → rest ≡ cell ∷ rest′

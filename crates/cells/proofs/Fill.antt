@@ -25,7 +25,7 @@ use Rattle.cell.proofs.ReadLaws.{empty-length, empty-cell}
 use Rattle.cell.proofs.ReadRows.{row-first, cells-first}
 use Rattle.ahead.specs.declared.Ahead.{Ahead}
 use Rattle.ahead.specs.Ahead.{EmptyRun, AheadOf}
-use Rattle.ahead.proofs.Run.{run-over}
+use Rattle.ahead.proofs.AheadLaws.{run-over}
 use Rattle.cells.specs.Unpacked.{firstFields}
 
 pub filled-length : (count : ℕ) (s : List ℕ) → length (flat (cellsIn count s)) ≡ count * 5

@@ -1,2 +1,2 @@
 pub mod Fill
-pub mod Unpacking
+pub mod UnpackedLaws

@@ -30,7 +30,7 @@ use Rattle.slices.specs.Number.{Byte, Long}
 use Rattle.refusal.specs.Test.{firstFault}
 use Rattle.heads.specs.Sample.{fieldsEnd, HeadAt, headTestsOf, headsFrom}
 use Rattle.heads.specs.declared.SampleHead.{SampleHead}
-use Rattle.refusal.proofs.Tests.{fault-holds, fault-refuses}
+use Rattle.refusal.proofs.TestLaws.{fault-holds, fault-refuses}
 use Rattle.refusal.proofs.Walking.{refused-on, Reached, reached-start, reached-on, reached-out, reached-place}
 
 -- A header's fields are the numbers at their offsets

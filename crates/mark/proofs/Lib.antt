@@ -1,2 +1,2 @@
-pub mod Word
+pub mod EightLaws
 pub mod MarkLaws

@@ -15,7 +15,7 @@ use Rattle.xm.proofs.Got.{no-true}
 use Rattle.xm.proofs.Format.{cons-path}
 use Rattle.measure.specs.Measure.{sameBytes}
 use Rattle.mark.specs.Mark.{again, copied, nothing, markBy, Marked, twoAt, withTwo, bitsOf, patternMark, Put, Marks}
-use Rattle.mark.proofs.Word.{two-put, two-lower, two-higher}
+use Rattle.mark.proofs.EightLaws.{two-put, two-lower, two-higher}
 
 same-equal : (xs ys : List ℕ) → sameBytes xs ys ≡ true → xs ≡ ys
 unfolding sameBytes

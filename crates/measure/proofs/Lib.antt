@@ -1,4 +1,4 @@
-pub mod Weight
-pub mod Measuring
+pub mod WeightLaws
+pub mod MeasureLaws
 pub mod Weighing
 pub mod Stored

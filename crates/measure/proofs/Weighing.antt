@@ -17,15 +17,15 @@ use Rattle.cell.proofs.ReadLaws.{read-got-at, empty-length}
 use Rattle.ahead.specs.declared.Ahead.{Ahead}
 use Rattle.ahead.specs.Ahead.{AheadOf, Follows, lengthsFrom}
 use Rattle.ahead.proofs.Lengths.{length-six}
-use Rattle.ahead.proofs.Run.{run-over}
+use Rattle.ahead.proofs.AheadLaws.{run-over}
 use Rattle.ahead.proofs.Walk.{walked-some, walked-over}
 use Rattle.measure.specs.declared.StoredStep.{StoredStep}
 use Rattle.measure.specs.declared.Weigh.{Weigh}
 use Rattle.measure.specs.declared.Skip.{Skip}
 use Rattle.measure.specs.Measure.{measuredOn}
 use Rattle.measure.specs.Weight.{someOf, weightOf, weightsFrom, Sums, added, weighed, weighOf, longLead, Skipped}
-use Rattle.measure.proofs.Weight.{some-add, some-most, some-all, weighs, weight-one}
-use Rattle.measure.proofs.Measuring.{bool-same, Measuring, measuring-more}
+use Rattle.measure.proofs.WeightLaws.{some-add, some-most, some-all, weighs, weight-one}
+use Rattle.measure.proofs.MeasureLaws.{bool-same, Measuring, measuring-more}
 
 -- An empty cell's lead byte
 empty-lead : (lead note : ℕ) → lead ≡ 128 → longLead lead note ≡ false

@@ -17,7 +17,7 @@ use Rattle.xm.proofs.Demands.{demand₂, demand₃}
 use Rattle.packing.specs.declared.Packed.{Packed}
 use Rattle.packing.specs.Packed.{packedOf, packedNumbers}
 use Rattle.packing.specs.Promise.{PackWritten}
-use Rattle.packing.proofs.Exit.{Packs}
+use Rattle.packing.proofs.Exits.{Packs}
 
 -- The numbers are the paper's
 packed-numbers : (answer : Answer Pattern) → packedNumbers (packedOf answer) ≡ numbers (storedLength ∷ rowsRead ∷ []) answer

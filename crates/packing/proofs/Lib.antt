@@ -1,4 +1,4 @@
 pub mod Lent
 pub mod Measure
-pub mod Exit
+pub mod Exits
 pub mod Calls

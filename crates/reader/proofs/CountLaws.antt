@@ -11,7 +11,7 @@ use Rattle.xm.specs.Format.{Kind, Region, header, patternHeader, patternData, i
 use Rattle.xm.specs.Answer.{Answer, gives, answered, result}
 use Rattle.xm.specs.Module.{Found, regionsOf, readFile}
 use Rattle.xm.specs.Structure.{isStructure, structures, Ahead, handOver, started, called, readOn, readFor}
-use Rattle.xm.specs.Structure as structure
+use Rattle.xm.specs.Structure as paper
 use Rattle.xm.specs.Region.{ofKind, regionAt}
 use Rattle.xm.specs.Demands.{ReaderHandsOver}
 use Rattle.xm.proofs.Got.{no-true}
@@ -102,10 +102,10 @@ counted-few file plain = go (readFile file) refl
     go (refused r) e = omega arith
 
 -- A call that hands over no structure: how far has been read stays
-hand-none-of : (file : List ℕ) (a : Ahead) (s : structure.Standing) → handOver file a .standing ≡ s → OfStanding IsStructure s
+hand-none-of : (file : List ℕ) (a : Ahead) (s : paper.Standing) → handOver file a .standing ≡ s → OfStanding IsStructure s
     → handsOver (standingIn s) ≡ false → handOver file a .ahead ≡ a
-hand-none-of file a (structure.stands kind place) e k h = absurd (no-true (sym h ∙ hands-kind kind place k))
-hand-none-of file a structure.ended e k h = hand-stays file a e
+hand-none-of file a (paper.stands kind place) e k h = absurd (no-true (sym h ∙ hands-kind kind place k))
+hand-none-of file a paper.ended e k h = hand-stays file a e
 
 pub hand-none : (file : List ℕ) (x : Reached) → handsOver (standingOf (called file (reachedIn x))) ≡ false → reachedOf (readOn file (reachedIn x)) ≡ x
 hand-none file (reached.Within a) h =

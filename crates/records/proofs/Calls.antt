@@ -33,7 +33,7 @@ use Rattle.records.specs.Records.{rowOf, rowsOf, recordsOf, noRecord, ch
 use Rattle.records.specs.Records.{rowAskedNumbers, rowAskedTunes, rowNumbers, rowTunes}
 use Rattle.records.specs.declared.row.RowAsked.{RowAsked}
 use Rattle.records.specs.declared.row.RowAsked.the-variants as asked
-use Rattle.records.proofs.Records.{RecordsTold, row-lent, row-beyond}
+use Rattle.records.proofs.RecordsLaws.{RecordsTold, row-lent, row-beyond}
 
 -- The numbers are the paper's
 pub records-numbers : (file patterns instruments : List ℕ) (records : List SampleRow) {answer : Verdict}

@@ -20,7 +20,7 @@ use Rattle.cell.specs.Over.{overMost, Over}
 use Rattle.cell.proofs.Bits.{odd₃₂, odd₁₆, odd₈, odd₄, ones-most, ones-all, all-ones}
 use Rattle.cell.proofs.ReadLaws.{plain-fields, cell-first, FieldInside}
 use Rattle.cell.proofs.WriteLaws.{count-plain, count-marked, plain-kept}
-use Rattle.cell.proofs.Over.{PutOver, over-done}
+use Rattle.cell.proofs.OverLaws.{PutOver, over-done}
 
 -- All five fields are stored, as they are if all five bits are set
 set-field : (count bits : ℕ) (s : List ℕ) → bits % 2 ≡ 1 → fieldsBy (suc count) bits s ≡ getD s 0 0 ∷ fieldsBy count (bits / 2) (drop 1 s)

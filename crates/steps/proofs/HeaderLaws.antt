@@ -14,7 +14,7 @@ use Rattle.steps.specs.Step.{headerPart, headerStep, headerFault}
 use Rattle.steps.specs.declared.header.HeaderPart.{HeaderPart}
 use Rattle.steps.specs.declared.header.HeaderStep.{HeaderStep}
 use Rattle.steps.specs.declared.header.HeaderStep.the-variants.{Refused}
-use Rattle.refusal.proofs.Tests.{fault-holds, fault-refuses}
+use Rattle.refusal.proofs.TestLaws.{fault-holds, fault-refuses}
 
 -- The counts and the start, one by one
 pub record PartOf (file : List ℕ) (part : HeaderPart) : Type 0 where

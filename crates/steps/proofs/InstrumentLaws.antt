@@ -27,7 +27,7 @@ use Rattle.steps.specs.declared.instrument.InstrumentHead.{InstrumentHea
 use Rattle.steps.specs.declared.instrument.InstrumentPart.{InstrumentPart}
 use Rattle.steps.specs.declared.instrument.InstrumentStep.{InstrumentStep}
 use Rattle.steps.specs.declared.instrument.InstrumentStep.the-variants.{Read, Refused}
-use Rattle.refusal.proofs.Tests.{RefuseAt, fault-holds, fault-refuses}
+use Rattle.refusal.proofs.TestLaws.{RefuseAt, fault-holds, fault-refuses}
 use Rattle.heads.specs.Sample.{headsFrom}
 use Rattle.heads.proofs.SampleLaws.{heads-viewed, samples-size}
 

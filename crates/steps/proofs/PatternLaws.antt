@@ -26,7 +26,7 @@ use Rattle.steps.specs.Step.{patternHead, patternStep, patternFault, sto
 use Rattle.steps.specs.declared.pattern.PatternHead.{PatternHead}
 use Rattle.steps.specs.declared.pattern.PatternStep.{PatternStep}
 use Rattle.steps.specs.declared.pattern.PatternStep.the-variants.{Read, Refused}
-use Rattle.refusal.proofs.Tests.{fault-holds, fault-refuses}
+use Rattle.refusal.proofs.TestLaws.{fault-holds, fault-refuses}
 
 -- What its header tells, by its fields
 pub head-path : {place place′ size size′ rows rows′ : ℕ} → place ≡ place′ → size ≡ size′ → rows ≡ rows′

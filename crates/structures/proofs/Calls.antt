@@ -12,7 +12,7 @@ use Rattle.xm.specs.Header.{kindAt}
 use Rattle.xm.specs.PatternInFile.{leastPattern}
 use Rattle.xm.specs.Instrument.{InstrumentFound, readInstrument}
 use Rattle.xm.specs.Module.{fileMost}
-use Rattle.xm.specs.Structure as structure
+use Rattle.xm.specs.Structure as paper
 use Rattle.xm.specs.Structure.{isStructure, kindNumber, structuresOf, endsAt, handHead, handPattern, handInstrument, handOver, started, called}
 use Rattle.xm.proofs.Got.{no-true}
 use Rattle.structures.specs.declared.Standing.{Standing}
@@ -21,7 +21,7 @@ use Rattle.structures.specs.declared.Handed.{Handed}
 use Rattle.structures.specs.Handing.{standingAt, standingOf, standingNumbers, readingNumbers, reachedOf, reachedIn, handing}
 
 -- How far has been read, there and back
-pub reached-back : (x : Answer structure.Ahead) → reachedIn (reachedOf x) ≡ x
+pub reached-back : (x : Answer paper.Ahead) → reachedIn (reachedOf x) ≡ x
 reached-back (gives a) = refl
 reached-back (refuses r) = refl
 
@@ -33,9 +33,9 @@ pub hand-once : (file : List ℕ) (x : Reached) {answer other : Handed} → answ
 hand-once file x met e = met ∙ sym e
 
 -- What is handed over is a structure, so that its kind is told
-abbrev pub OfStanding : (Kind → Type 0) → structure.Standing → Type 0
-OfStanding P (structure.stands kind place) = P kind
-OfStanding P structure.ended = Unit {0}
+abbrev pub OfStanding : (Kind → Type 0) → paper.Standing → Type 0
+OfStanding P (paper.stands kind place) = P kind
+OfStanding P paper.ended = Unit {0}
 
 abbrev pub IsStructure : Kind → Type 0
 IsStructure kind = isStructure kind ≡ true
@@ -49,11 +49,11 @@ all-structures (r ∷ rs) = go (isStructure (r .kind)) refl (all-structures rs)
     go true e w = (e, w)
     go false e w = w
 
-module _ (file : List ℕ) (a : structure.Ahead) where
-  abbrev StructureTold : structure.Handed → Type 0
+module _ (file : List ℕ) (a : paper.Ahead) where
+  abbrev StructureTold : paper.Handed → Type 0
   StructureTold h = OfStanding IsStructure (h .standing)
 
-  either : (t : Bool) (x y : structure.Handed) → StructureTold x → StructureTold y → StructureTold (cond t x y)
+  either : (t : Bool) (x y : paper.Handed) → StructureTold x → StructureTold y → StructureTold (cond t x y)
   either true x y p q = p
   either false x y p q = q
 
@@ -80,11 +80,11 @@ kind-told instrument place h = refl
 kind-told sampleHeader place h = refl
 kind-told sampleData place h = absurd (no-true h)
 
-standing-told : (s : structure.Standing) → OfStanding IsStructure s → standingNumbers (standingOf (gives s)) ≡ readingNumbers (gives s)
-standing-told (structure.stands kind place) h = kind-told kind place h
-standing-told structure.ended h = refl
+standing-told : (s : paper.Standing) → OfStanding IsStructure s → standingNumbers (standingOf (gives s)) ≡ readingNumbers (gives s)
+standing-told (paper.stands kind place) h = kind-told kind place h
+standing-told paper.ended h = refl
 
 -- The numbers are the paper's
-pub call-numbers : (file : List ℕ) (x : Answer structure.Ahead) → standingNumbers (standingOf (called file x)) ≡ readingNumbers (called file x)
+pub call-numbers : (file : List ℕ) (x : Answer paper.Ahead) → standingNumbers (standingOf (called file x)) ≡ readingNumbers (called file x)
 call-numbers file (gives a) = standing-told (handOver file a .standing) (hand-kind file a)
 call-numbers file (refuses r) = refl

@@ -1,3 +1,3 @@
-pub mod HandLaws
+pub mod HandingLaws
 pub mod FewLaws
 pub mod Calls

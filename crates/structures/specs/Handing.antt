@@ -3,7 +3,7 @@ use Prim.Native.Nat.{ℕ}
 use mathlib.Core.List.{List, [], _∷_}
 use Rattle.xm.specs.Format.{Kind, header, patternHeader, patternData, instrument, sampleHeader, sampleData}
 use Rattle.xm.specs.Answer.{Answer, gives, refuses, numbers}
-use Rattle.xm.specs.Structure as structure
+use Rattle.xm.specs.Structure as paper
 use Rattle.xm.specs.Structure.{kindNumber, called, readOn}
 use Rattle.refusal.specs.Fault.{faultOf, refusalIn}
 use Rattle.structures.specs.declared.Standing.{Standing}
@@ -22,11 +22,11 @@ standingAt instrument place = standing.Instrument place
 standingAt sampleHeader place = standing.SampleHeader place
 standingAt sampleData place = standing.End
 
-abbrev pub standingIn : structure.Standing → Standing
-standingIn (structure.stands kind place) = standingAt kind place
-standingIn structure.ended = standing.End
+abbrev pub standingIn : paper.Standing → Standing
+standingIn (paper.stands kind place) = standingAt kind place
+standingIn paper.ended = standing.End
 
-abbrev pub standingOf : Answer structure.Standing → Standing
+abbrev pub standingOf : Answer paper.Standing → Standing
 standingOf (gives s) = standingIn s
 standingOf (refuses r) = standing.Refused (faultOf r)
 
@@ -39,29 +39,29 @@ standingNumbers standing.End = 0 ∷ 0 ∷ 0 ∷ 0 ∷ []
 standingNumbers (standing.Refused fault) = fault .number ∷ fault .place ∷ 0 ∷ 0 ∷ []
 
 -- and the same of the definition's answer.
-abbrev pub kindStanding : structure.Standing → ℕ
-kindStanding (structure.stands kind place) = kindNumber kind
-kindStanding structure.ended = 0
+abbrev pub kindStanding : paper.Standing → ℕ
+kindStanding (paper.stands kind place) = kindNumber kind
+kindStanding paper.ended = 0
 
-abbrev pub placeStanding : structure.Standing → ℕ
-placeStanding (structure.stands kind place) = place
-placeStanding structure.ended = 0
+abbrev pub placeStanding : paper.Standing → ℕ
+placeStanding (paper.stands kind place) = place
+placeStanding paper.ended = 0
 
-abbrev pub readingNumbers : Answer structure.Standing → List ℕ
+abbrev pub readingNumbers : Answer paper.Standing → List ℕ
 readingNumbers answer = numbers (kindStanding ∷ placeStanding ∷ []) answer
 
 -- How far has been read, there and back.
-abbrev pub aheadOf : structure.Ahead → Ahead
+abbrev pub aheadOf : paper.Ahead → Ahead
 aheadOf a = record { patterns = a .patterns; instruments = a .instruments; place = a .place; heads = a .heads; head = a .head; «head_size» = a .headSize }
 
-abbrev pub aheadIn : Ahead → structure.Ahead
+abbrev pub aheadIn : Ahead → paper.Ahead
 aheadIn a = record { patterns = a .patterns; instruments = a .instruments; place = a .place; heads = a .heads; head = a .head; headSize = a .«head_size» }
 
-abbrev pub reachedOf : Answer structure.Ahead → Reached
+abbrev pub reachedOf : Answer paper.Ahead → Reached
 reachedOf (gives a) = reached.Within (aheadOf a)
 reachedOf (refuses r) = reached.Refused (faultOf r)
 
-abbrev pub reachedIn : Reached → Answer structure.Ahead
+abbrev pub reachedIn : Reached → Answer paper.Ahead
 reachedIn (reached.Within a) = gives (aheadIn a)
 reachedIn (reached.Refused fault) = refuses (refusalIn fault)
 
@@ -72,5 +72,5 @@ handing file x = record { standing = standingOf (called file (reachedIn x)); rea
 abbrev pub handedWith : Standing → Ahead → Handed
 handedWith s a = record { standing = s; reached = reached.Within a }
 
-abbrev pub handedOf : structure.Handed → Handed
+abbrev pub handedOf : paper.Handed → Handed
 handedOf h = handedWith (standingIn (h .standing)) (aheadOf (h .ahead))

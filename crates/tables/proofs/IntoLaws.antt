@@ -29,7 +29,7 @@ use Rattle.walk.specs.declared.Module.{Module}
 use Rattle.walk.specs.declared.Verdict.{Verdict}
 use Rattle.walk.specs.declared.Verdict.the-variants as verdict
 use Rattle.xm.proofs.Got.{all-hold}
-use Rattle.refusal.proofs.Tests.{not-all-hold}
+use Rattle.refusal.proofs.TestLaws.{not-all-hold}
 use Rattle.tables.specs.Into.{lent, roomBeside, roomTestsOf, patternsAfter, instrumentsAfter}
 use Rattle.tables.proofs.Reading.{file-reads}
 use Rattle.tables.proofs.VerdictLaws.{never, verdict-got, verdict-refused}

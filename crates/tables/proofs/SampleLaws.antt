@@ -15,7 +15,7 @@ use Rattle.xm.specs.Header.{kindAt}
 use Rattle.xm.specs.Sample.{headBytes, inSamples, dataSize}
 use Rattle.xm.specs.Instrument.{InstrumentFound, instrumentFormat, instrumentTests}
 use Rattle.xm.specs.Module.{Found, fileMost, readFile}
-use Rattle.xm.specs.Table as row
+use Rattle.xm.specs.Table as paper
 use Rattle.xm.specs.Table.{sampleRowAt, sampleRowsIn, sampleRows}
 use Rattle.xm.specs.Asking.{noRow}
 use Rattle.tables.specs.Accepted.{ReadsFrom, InstrumentsFrom}
@@ -90,7 +90,7 @@ some-instrument file small bytes {count = zero} r l k =
 some-instrument file small bytes {count = suc count} r l k = instruments-next file small bytes r (omega arith) λ i n more ei s ep rest. k i n more s ep rest
 
 module _ (file : List ℕ) (number : ℕ) (some : number < length (listIn sampleRows (readFile file))) (bytes : Bytes file) where
-  abbrev all : List row.SampleRow
+  abbrev all : List paper.SampleRow
   all = listIn sampleRows (readFile file)
 
   pub seeks-small : length file ≤ fileMost
@@ -115,7 +115,7 @@ module _ (file : List ℕ) (number : ℕ) (some : number < length (listIn sample
   module _ {left head size place : ℕ} (w : Seeks file (record { number = number; left = left; head = head; «head_size» = size; «data_place» = place })) where
     -- with a sample left, the row sought is its
     module _ (l : 0 < left) where
-      abbrev found : row.SampleRow
+      abbrev found : paper.SampleRow
       found = sampleRowAt head place (headBytes size (drop head file))
 
       both : getD all number noRow ∷ drop (suc number) all
@@ -124,7 +124,7 @@ module _ (file : List ℕ) (number : ℕ) (some : number < length (listIn sample
       both =
           sym (drop-cons all number noRow some)
           ∙ w .same
-          ∙ ap (λ (rows : List row.SampleRow). rows ++ joined sampleRowsIn (w .parts)) (rows-step left size head place (drop head file) l)
+          ∙ ap (λ (rows : List paper.SampleRow). rows ++ joined sampleRowsIn (w .parts)) (rows-step left size head place (drop head file) l)
 
       pub seeks-fits : SampleFits file head size place
       seeks-fits =
@@ -138,7 +138,7 @@ module _ (file : List ℕ) (number : ℕ) (some : number < length (listIn sample
           }
 
       pub seeks-found : getD all number noRow ≡ found
-      seeks-found = ap (λ (rows : List row.SampleRow). getD rows 0 noRow) both
+      seeks-found = ap (λ (rows : List paper.SampleRow). getD rows 0 noRow) both
 
       pub seeks-after : {place′ : ℕ} → place′ ≡ place + dataSize (headBytes size (drop head file))
           → Seeks file (record { number = number + 1; left = left - 1; head = head + size; «head_size» = size; «data_place» = place′ })
@@ -182,7 +182,7 @@ module _ (file : List ℕ) (number : ℕ) (some : number < length (listIn sample
           parts = more;
           end = w .end;
           reads = rest;
-          same = rest-same ∙ ap (joined sampleRowsIn) ep ∙ ap (λ (rows : List row.SampleRow). rows ++ joined sampleRowsIn more) (s .rows);
+          same = rest-same ∙ ap (joined sampleRowsIn) ep ∙ ap (λ (rows : List paper.SampleRow). rows ++ joined sampleRowsIn more) (s .rows);
         })
 
         pub seeks-less : length file - dataStart x < length file - place

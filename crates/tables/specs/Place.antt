@@ -6,7 +6,7 @@ use lib.ListN.{length, drop}
 use Rattle.xm.specs.Sample.{headBytes, dataSize}
 use Rattle.xm.specs.Instrument.{samplesMost}
 use Rattle.xm.specs.Module.{fileMost}
-use Rattle.xm.specs.Table as row
+use Rattle.xm.specs.Table as paper
 use Rattle.steps.specs.declared.instrument.InstrumentHead.{InstrumentHead}
 use Rattle.tables.specs.declared.sample.SampleRow.{SampleRow}
 
@@ -29,13 +29,13 @@ pub record InstrumentHeadStands (file : List ℕ) (x : InstrumentHead) : Type 0 
   pub inside : dataEnd file x ≤ length file
 
 -- The rows of the first samples, whose headers stand in front of `s`, from `head` on, and whose data from `bytesPlace` on.
-unfoldable pub rowsFrom : (number size head bytesPlace : ℕ) → List ℕ → List row.SampleRow
+unfoldable pub rowsFrom : (number size head bytesPlace : ℕ) → List ℕ → List paper.SampleRow
 rowsFrom zero size head bytesPlace s = []
 rowsFrom (suc number) size head bytesPlace s =
-    row.sampleRowAt head bytesPlace (headBytes size s) ∷ rowsFrom number size (head + size) (bytesPlace + dataSize (headBytes size s)) (drop size s)
+    paper.sampleRowAt head bytesPlace (headBytes size s) ∷ rowsFrom number size (head + size) (bytesPlace + dataSize (headBytes size s)) (drop size s)
 
 -- The row as the code has it.
-abbrev pub codeRow : row.SampleRow → SampleRow
+abbrev pub codeRow : paper.SampleRow → SampleRow
 codeRow r = record {
   «header_place» = r .headerPlace;
   «data_place» = r .dataPlace;

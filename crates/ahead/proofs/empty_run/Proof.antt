@@ -3,7 +3,7 @@ use Prim.Native.Nat.{_+_, _%_}
 use mathlib.Core.Path.{refl}
 use native.Mathlib.Omega.{arith}
 use lib.Count.{trailing-le}
-use Rattle.ahead.proofs.Run.{run-of}
+use Rattle.ahead.proofs.AheadLaws.{run-of}
 use borrow.Author.Needs.{needs}
 use Rattle.ahead.proofs.empty_run.Statement.{statement}
 use Rattle.ahead.proofs.empty_run.Tie as tie

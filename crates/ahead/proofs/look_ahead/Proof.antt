@@ -4,7 +4,7 @@ use Prim.Native.Nat.{_%_}
 use native.Mathlib.Omega.{arith}
 use denote.Ref.{now}
 use Rattle.ahead.proofs.Lengths.{length-six}
-use Rattle.ahead.proofs.Run.{ahead-run, ahead-one}
+use Rattle.ahead.proofs.AheadLaws.{ahead-run, ahead-one}
 use borrow.Author.Needs.{needs}
 use Rattle.ahead.proofs.look_ahead.Statement.{statement}
 use Rattle.ahead.proofs.look_ahead.Tie as tie

@@ -1,6 +1,6 @@
 -- `asking::ask_row` meets its contract. Assumes nothing.
 use native.Mathlib.Omega.{arith}
-use Rattle.asking.proofs.Ask.{ask-lies, ask-refused}
+use Rattle.asking.proofs.AskLaws.{ask-lies, ask-refused}
 use borrow.Author.Needs.{needs}
 use Rattle.asking.proofs.ask_row.Statement.{statement}
 use Rattle.asking.proofs.ask_row.Tie as tie

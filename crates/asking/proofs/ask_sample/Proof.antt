@@ -4,7 +4,7 @@ use mathlib.Core.Path.{ap, _∙_}
 use native.Mathlib.Omega.{arith}
 use Rattle.xm.specs.Table.{sampleStride}
 use Rattle.asking.specs.Ask.{askedOf}
-use Rattle.asking.proofs.Ask.{ask-beyond}
+use Rattle.asking.proofs.AskLaws.{ask-beyond}
 use borrow.Author.Needs.{needs}
 use Rattle.asking.proofs.ask_sample.Statement.{statement}
 use Rattle.asking.proofs.ask_sample.Tie as tie

@@ -4,7 +4,7 @@ use mathlib.Core.Path.{_≡_, sym, ap, _∙_}
 use native.Mathlib.Omega.{arith}
 use Rattle.xm.specs.Number.{part}
 use Rattle.asking.specs.Ask.{stretchAsked}
-use Rattle.asking.proofs.Ask.{lies-inside}
+use Rattle.asking.proofs.AskLaws.{lies-inside}
 use borrow.Author.Needs.{needs}
 use Rattle.asking.proofs.asked_stretch.Statement.{statement}
 use Rattle.asking.proofs.asked_stretch.Tie as tie

@@ -1,7 +1,7 @@
 -- `asking::sample_refusal` meets its contract. Assumes nothing.
 use mathlib.Core.Path.{_∙_}
 use Rattle.xm.specs.Asking.{askingFlat}
-use Rattle.asking.proofs.Ask.{refusal-asked}
+use Rattle.asking.proofs.AskLaws.{refusal-asked}
 use borrow.Author.Needs.{needs}
 use Rattle.asking.proofs.sample_refusal.Statement.{statement}
 use Rattle.asking.proofs.sample_refusal.Tie as tie

@@ -1,7 +1,7 @@
 -- `asking::sample_stretch` meets its contract. Assumes nothing.
 use mathlib.Core.Path.{_∙_}
 use Rattle.xm.specs.Asking.{askingFlat}
-use Rattle.asking.proofs.Ask.{asked-inside, stretch-asked}
+use Rattle.asking.proofs.AskLaws.{asked-inside, stretch-asked}
 use borrow.Author.Needs.{needs}
 use Rattle.asking.proofs.sample_stretch.Statement.{statement}
 use Rattle.asking.proofs.sample_stretch.Tie as tie

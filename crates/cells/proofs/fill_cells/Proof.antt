@@ -15,7 +15,7 @@ use Rattle.xm.proofs.Lay.{part-all}
 use Rattle.cell.specs.Read.{cellFields}
 use Rattle.cell.proofs.ReadLaws.{fields-of}
 use Rattle.ahead.specs.Ahead.{WordAt}
-use Rattle.ahead.proofs.Run.{lead-at}
+use Rattle.ahead.proofs.AheadLaws.{lead-at}
 use Rattle.cells.specs.Unpacked.{firstFields}
 use Rattle.cells.proofs.Fill.{filled-length, Filling, filling-none, filling-more, filling-front, filling-rest}
 use borrow.Author.Needs.{needs}

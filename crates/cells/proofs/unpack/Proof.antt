@@ -10,8 +10,8 @@ use borrow.Author.Tests.{not-true, not-false}
 use Rattle.xm.specs.Answer.{inFront}
 use Rattle.xm.proofs.Packing.{UnpackRange, unpack-argument, unpack-cells, unpack-room, unpack-gives}
 use Rattle.refusal.proofs.Steps.{place-refused}
-use Rattle.cells.proofs.Unpacking.{range-holds, range-fails, StoredFound, found-of, rows-found, bytes-none, fine-some, bytes-some, bytes-long}
-use Rattle.cells.proofs.Unpacking.{answers-refusal, answers-pattern}
+use Rattle.cells.proofs.UnpackedLaws.{range-holds, range-fails, StoredFound, found-of, rows-found, bytes-none, fine-some, bytes-some, bytes-long}
+use Rattle.cells.proofs.UnpackedLaws.{answers-refusal, answers-pattern}
 use borrow.Author.Needs.{needs}
 use Rattle.cells.proofs.unpack.Statement.{statement}
 use Rattle.cells.proofs.unpack.Tie as tie

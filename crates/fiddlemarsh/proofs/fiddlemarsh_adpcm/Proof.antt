@@ -1,7 +1,7 @@
 -- `fiddlemarsh::fiddlemarsh_adpcm` meets its contract: the number of what the call below it answers. Assumes nothing.
 use mathlib.Core.Path.{_∙_}
 use lib.ListN.{length}
-use Rattle.loader.proofs.Numbers.{adpcm-fits, adpcm-same}
+use Rattle.loader.proofs.NumberLaws.{adpcm-fits, adpcm-same}
 use borrow.Author.Needs.{needs}
 use Rattle.fiddlemarsh.proofs.fiddlemarsh_adpcm.Statement.{statement}
 use Rattle.fiddlemarsh.proofs.fiddlemarsh_adpcm.Tie as tie

@@ -1,7 +1,7 @@
 -- `fiddlemarsh::fiddlemarsh_check` meets its contract: the number of what the call below it answers. Assumes nothing.
 use mathlib.Core.Path.{_∙_}
 use native.Mathlib.Omega.{arith}
-use Rattle.loader.proofs.Numbers.{check-fits, check-same}
+use Rattle.loader.proofs.NumberLaws.{check-fits, check-same}
 use borrow.Author.Needs.{needs}
 use Rattle.fiddlemarsh.proofs.fiddlemarsh_check.Statement.{statement}
 use Rattle.fiddlemarsh.proofs.fiddlemarsh_check.Tie as tie

@@ -1,7 +1,7 @@
 -- `fiddlemarsh::fiddlemarsh_code` meets its contract: the number of what the call below it answers. Assumes nothing.
 use mathlib.Core.Path.{_∙_}
 use lib.ListN.{length}
-use Rattle.loader.proofs.Numbers.{code-fits, code-same}
+use Rattle.loader.proofs.NumberLaws.{code-fits, code-same}
 use borrow.Author.Needs.{needs}
 use Rattle.fiddlemarsh.proofs.fiddlemarsh_code.Statement.{statement}
 use Rattle.fiddlemarsh.proofs.fiddlemarsh_code.Tie as tie

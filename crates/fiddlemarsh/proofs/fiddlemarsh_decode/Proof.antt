@@ -1,7 +1,7 @@
 -- `fiddlemarsh::fiddlemarsh_decode` meets its contract: the number of what the call below it answers. Assumes nothing.
 use mathlib.Core.Path.{_∙_}
 use lib.ListN.{length}
-use Rattle.loader.proofs.Numbers.{decode-fits, decode-same}
+use Rattle.loader.proofs.NumberLaws.{decode-fits, decode-same}
 use borrow.Author.Needs.{needs}
 use Rattle.fiddlemarsh.proofs.fiddlemarsh_decode.Statement.{statement}
 use Rattle.fiddlemarsh.proofs.fiddlemarsh_decode.Tie as tie

@@ -1,7 +1,7 @@
 -- `fiddlemarsh::fiddlemarsh_pack` meets its contract: the number of what the call below it answers. Assumes nothing.
 use mathlib.Core.Path.{_∙_}
 use lib.ListN.{length}
-use Rattle.loader.proofs.Numbers.{pack-fits, pack-same}
+use Rattle.loader.proofs.NumberLaws.{pack-fits, pack-same}
 use borrow.Author.Needs.{needs}
 use Rattle.fiddlemarsh.proofs.fiddlemarsh_pack.Statement.{statement}
 use Rattle.fiddlemarsh.proofs.fiddlemarsh_pack.Tie as tie

@@ -2,7 +2,7 @@
 use mathlib.Core.Path.{_∙_, ap}
 use lib.IntN.{ℤ}
 use mir.Facts.{toZ-ofZ}
-use Rattle.loader.proofs.Numbers.{period-fits, period-same}
+use Rattle.loader.proofs.NumberLaws.{period-fits, period-same}
 use Rattle.periods.specs.Period.{tuning}
 use Rattle.periods.specs.Tuned.{tunedOf}
 use borrow.Author.Needs.{needs}

@@ -2,7 +2,7 @@
 use mathlib.Core.Path.{_∙_}
 use native.Mathlib.Omega.{arith}
 use lib.ListN.{length}
-use Rattle.loader.proofs.Numbers.{press-fits, press-same}
+use Rattle.loader.proofs.NumberLaws.{press-fits, press-same}
 use borrow.Author.Needs.{needs}
 use Rattle.fiddlemarsh.proofs.fiddlemarsh_press.Statement.{statement}
 use Rattle.fiddlemarsh.proofs.fiddlemarsh_press.Tie as tie

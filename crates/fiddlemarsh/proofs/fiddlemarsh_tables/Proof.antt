@@ -2,7 +2,7 @@
 use mathlib.Core.Path.{_∙_}
 use native.Mathlib.Omega.{arith}
 use Rattle.tables.specs.Into.{lent}
-use Rattle.loader.proofs.Numbers.{tables-fits, tables-same}
+use Rattle.loader.proofs.NumberLaws.{tables-fits, tables-same}
 use borrow.Author.Needs.{needs}
 use Rattle.fiddlemarsh.proofs.fiddlemarsh_tables.Statement.{statement}
 use Rattle.fiddlemarsh.proofs.fiddlemarsh_tables.Tie as tie

@@ -3,7 +3,7 @@ use mathlib.Core.Path.{_∙_}
 use native.Mathlib.Omega.{arith}
 use lib.ListN.{length}
 use Rattle.xm.specs.ModuleKind.{normal}
-use Rattle.loader.proofs.Numbers.{convert-fits, convert-same}
+use Rattle.loader.proofs.NumberLaws.{convert-fits, convert-same}
 use borrow.Author.Needs.{needs}
 use Rattle.fiddlemarsh.proofs.fiddlemarsh_to_normal.Statement.{statement}
 use Rattle.fiddlemarsh.proofs.fiddlemarsh_to_normal.Tie as tie

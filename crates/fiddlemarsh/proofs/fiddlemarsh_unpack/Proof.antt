@@ -2,7 +2,7 @@
 use mathlib.Core.Path.{_∙_}
 use native.Mathlib.Omega.{arith}
 use lib.ListN.{length}
-use Rattle.loader.proofs.Numbers.{unpack-fits, unpack-same}
+use Rattle.loader.proofs.NumberLaws.{unpack-fits, unpack-same}
 use borrow.Author.Needs.{needs}
 use Rattle.fiddlemarsh.proofs.fiddlemarsh_unpack.Statement.{statement}
 use Rattle.fiddlemarsh.proofs.fiddlemarsh_unpack.Tie as tie

@@ -5,7 +5,7 @@ use native.Mathlib.Omega.{arith}
 use Rattle.xm.specs.Got.{Test}
 use Rattle.heads.specs.Sample.{kindTest, wideTest, loopTest, wholeTest}
 use Rattle.heads.specs.declared.SampleHead.{SampleHead}
-use Rattle.refusal.proofs.Tests.{test-passed, test-failed, fault-at, fault-none}
+use Rattle.refusal.proofs.TestLaws.{test-passed, test-failed, fault-at, fault-none}
 use borrow.Author.Needs.{needs}
 use Rattle.heads.proofs.head_fault.Statement.{statement}
 use Rattle.heads.proofs.head_fault.Tie as tie

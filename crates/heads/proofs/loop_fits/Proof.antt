@@ -4,7 +4,7 @@ use native.Mathlib.Omega.{arith}
 use borrow.Author.Tests.{not-true, not-false}
 use Rattle.xm.proofs.Got.{holds-passes}
 use Rattle.heads.specs.Sample.{loopTest}
-use Rattle.refusal.proofs.Tests.{not-passes}
+use Rattle.refusal.proofs.TestLaws.{not-passes}
 use borrow.Author.Needs.{needs}
 use Rattle.heads.proofs.loop_fits.Statement.{statement}
 use Rattle.heads.proofs.loop_fits.Tie as tie

@@ -3,7 +3,7 @@ use mathlib.Core.Path.{sym, _∙_}
 use native.Mathlib.Omega.{arith}
 use borrow.Author.Tests.{eq-eqb, ne-eqb, not-true, not-false}
 use Rattle.xm.proofs.Got.{holds-passes}
-use Rattle.refusal.proofs.Tests.{not-passes}
+use Rattle.refusal.proofs.TestLaws.{not-passes}
 use Rattle.heads.specs.Sample.{wholeTest}
 use borrow.Author.Needs.{needs}
 use Rattle.heads.proofs.whole_fits.Statement.{statement}

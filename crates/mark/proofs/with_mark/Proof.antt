@@ -4,7 +4,7 @@ use mathlib.Core.Path.{_≡_}
 use native.Mathlib.Omega.{arith}
 use lib.Pow.{shl-exact}
 use Rattle.mark.specs.Mark.{twoAt}
-use Rattle.mark.proofs.Word.{two-inside, two-fits}
+use Rattle.mark.proofs.EightLaws.{two-inside, two-fits}
 use borrow.Author.Needs.{needs}
 use Rattle.mark.proofs.with_mark.Statement.{statement}
 use Rattle.mark.proofs.with_mark.Tie as tie

@@ -3,7 +3,7 @@ use Prim.Native.Nat.{_+_, _%_, _≤_}
 use native.Mathlib.Omega.{arith}
 use borrow.Author.Needs.{needs}
 use lib.Dec.{ltb, eqb}
-use Rattle.measure.proofs.Weight.{cond-most}
+use Rattle.measure.proofs.WeightLaws.{cond-most}
 use Rattle.measure.proofs.marked_weight.Statement.{statement}
 use Rattle.measure.proofs.marked_weight.Tie as tie
 

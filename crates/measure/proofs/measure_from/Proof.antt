@@ -10,7 +10,7 @@ use Rattle.refusal.proofs.Steps.{place-refused}
 use Rattle.cell.specs.declared.read.Cell.{Cell}
 use Rattle.cell.proofs.ReadLaws.{kept-of, Tried, tried}
 use Rattle.measure.specs.Measure.{measuredOn}
-use Rattle.measure.proofs.Measuring.{Measuring, kept-five, measuring-cell, measuring-stop, measuring-done}
+use Rattle.measure.proofs.MeasureLaws.{Measuring, kept-five, measuring-cell, measuring-stop, measuring-done}
 use borrow.Author.Needs.{needs}
 use Rattle.measure.proofs.measure_from.Statement.{statement}
 use Rattle.measure.proofs.measure_from.Tie as tie

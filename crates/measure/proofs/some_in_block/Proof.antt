@@ -6,7 +6,7 @@ use borrow.Author.Needs.{needs}
 use denote.Ref.{now}
 use lib.ListN.{drop}
 use Rattle.measure.specs.Weight.{someOf}
-use Rattle.measure.proofs.Weight.{some-next, some-most}
+use Rattle.measure.proofs.WeightLaws.{some-next, some-most}
 use Rattle.measure.proofs.some_in_block.Statement.{statement}
 use Rattle.measure.proofs.some_in_block.Tie as tie
 

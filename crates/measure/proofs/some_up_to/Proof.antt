@@ -6,7 +6,7 @@ use borrow.Author.Needs.{needs}
 use denote.Ref.{now}
 use lib.ListN.{drop}
 use Rattle.measure.specs.Weight.{someOf}
-use Rattle.measure.proofs.Weight.{some-add, some-after, some-most}
+use Rattle.measure.proofs.WeightLaws.{some-add, some-after, some-most}
 use Rattle.measure.proofs.some_up_to.Statement.{statement}
 use Rattle.measure.proofs.some_up_to.Tie as tie
 

@@ -1,7 +1,7 @@
 -- `measure::weight_at` meets its contract: the bytes are those of the cell that would begin here. Assumes nothing.
 use borrow.Author.Needs.{needs}
 use denote.Ref.{now}
-use Rattle.measure.proofs.Weight.{weight-by}
+use Rattle.measure.proofs.WeightLaws.{weight-by}
 use Rattle.measure.proofs.weight_at.Statement.{statement}
 use Rattle.measure.proofs.weight_at.Tie as tie
 

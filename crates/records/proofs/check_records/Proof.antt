@@ -55,7 +55,7 @@ use Rattle.tables.proofs.check_beside.Symbol as beside-def
 use Rattle.tables.proofs.check_beside.Symbol.{name as #tables·check-beside}
 use Rattle.tables.proofs.check_beside.Met as beside-thm
 use Rattle.records.specs.Records.{recordsIn, samplesOf}
-use Rattle.records.proofs.Records.{RecordsTold, told, count-fits}
+use Rattle.records.proofs.RecordsLaws.{RecordsTold, told, count-fits}
 use Rattle.records.proofs.row.samples_of as count
 use Rattle.records.proofs.row.samples_of.Symbol as count-def
 use Rattle.records.proofs.row.samples_of.Symbol.{name as #records·samples-of}

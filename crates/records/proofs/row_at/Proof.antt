@@ -54,7 +54,7 @@ use Rattle.records.specs.declared.row.RowAsked.{RowAsked}
 use Rattle.records.specs.declared.row.RowAsked.the-variants as asked
 use Rattle.records.proofs.row.RowAsked as N
 use Rattle.records.proofs.row.RowAsked.Laws as N′
-use Rattle.records.proofs.Records.{row-lent, row-beyond}
+use Rattle.records.proofs.RecordsLaws.{row-lent, row-beyond}
 use Rattle.records.proofs.row_at.Key.{name as #records·row-at}
 use Rattle.records.proofs.row_at as f
 use Rattle.records.proofs.row_at.Statement as stated

@@ -66,7 +66,7 @@ use Rattle.tables.specs.Sought.{Seeks}
 use Rattle.tables.specs.declared.sample.SampleRow.{SampleRow}
 use Rattle.tables.specs.declared.sample.Sought.{Sought}
 use Rattle.tables.specs.declared.sample.RowStep.{RowStep}
-use Rattle.records.proofs.Records.{stored-one, stored-length, records-length, record-is}
+use Rattle.records.proofs.RecordsLaws.{stored-one, stored-length, records-length, record-is}
 use Rattle.tables.proofs.sample.SampleRow as T
 use Rattle.tables.proofs.sample.SampleRow.Laws as T′
 use Rattle.tables.proofs.sample.Sought as S

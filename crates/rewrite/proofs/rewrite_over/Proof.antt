@@ -9,7 +9,7 @@ use lib.ListN.{length-set}
 use Rattle.xm.specs.Cell.{kepts}
 use Rattle.cell.specs.Over.{overMost}
 use Rattle.cell.proofs.ReadLaws.{cell-fields}
-use Rattle.cell.proofs.Over.{over-more}
+use Rattle.cell.proofs.OverLaws.{over-more}
 use Rattle.rewrite.proofs.RewriteLaws.{stored-plain, lead-moved, left-over, over-lead}
 use Rattle.rewrite.proofs.rewrite_over.Statement.{statement}
 use Rattle.rewrite.proofs.rewrite_over.Tie as tie

@@ -6,7 +6,7 @@ use lib.ListN.{length}
 use Rattle.xm.specs.Stored.{readRow}
 use Rattle.refusal.specs.Fault.{placeStep}
 use Rattle.ahead.specs.Ahead.{blockSize}
-use Rattle.scan.proofs.Scan.{Scanning, scanning-block, block-less}
+use Rattle.scan.proofs.BlockLaws.{Scanning, scanning-block, block-less}
 use borrow.Author.Needs.{needs}
 use Rattle.scan.proofs.scan_dense.Statement.{statement}
 use Rattle.scan.proofs.scan_dense.Tie as tie

@@ -4,7 +4,7 @@ use native.Mathlib.Omega.{arith}
 use lib.ListN.{drop}
 use Rattle.xm.specs.Stored.{readRow}
 use Rattle.refusal.specs.Fault.{placeStep}
-use Rattle.scan.proofs.Scan.{Scanning, scanning-next, scanning-stop, scanning-done}
+use Rattle.scan.proofs.BlockLaws.{Scanning, scanning-next, scanning-stop, scanning-done}
 use borrow.Author.Needs.{needs}
 use Rattle.scan.proofs.scan_from.Statement.{statement}
 use Rattle.scan.proofs.scan_from.Tie as tie

@@ -9,7 +9,7 @@ use denote.Ref.{now}
 use Rattle.xm.specs.Stored.{readRow}
 use Rattle.refusal.specs.Fault.{placeStep}
 use Rattle.ahead.specs.Ahead.{WordAt}
-use Rattle.scan.proofs.Scan.{Scanning, scanning-turn}
+use Rattle.scan.proofs.BlockLaws.{Scanning, scanning-turn}
 use borrow.Author.Needs.{needs}
 use Rattle.scan.proofs.scan_sparse.Statement.{statement}
 use Rattle.scan.proofs.scan_sparse.Tie as tie

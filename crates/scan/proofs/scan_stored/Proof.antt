@@ -5,7 +5,7 @@ use denote.Ref.{now}
 use Rattle.xm.proofs.Stored.{stored-none}
 use Rattle.refusal.specs.Fault.{placeStep}
 use Rattle.cell.proofs.ReadRows.{count-most}
-use Rattle.scan.proofs.Scan.{scan-refused, scan-left, scan-whole}
+use Rattle.scan.proofs.BlockLaws.{scan-refused, scan-left, scan-whole}
 use borrow.Author.Needs.{needs}
 use Rattle.scan.proofs.scan_stored.Statement.{statement}
 use Rattle.scan.proofs.scan_stored.Tie as tie

@@ -2,7 +2,7 @@
 use mathlib.Core.Path.{_∙_}
 use native.Mathlib.Omega.{arith}
 use Prim.Native.Nat.{_+_}
-use Rattle.structures.proofs.HandLaws.{not-there, is-there, head-handed}
+use Rattle.structures.proofs.HandingLaws.{not-there, is-there, head-handed}
 use borrow.Author.Needs.{needs}
 use Rattle.structures.proofs.hand_head.Statement.{statement}
 use Rattle.structures.proofs.hand_head.Tie as tie

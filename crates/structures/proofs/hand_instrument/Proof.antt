@@ -4,7 +4,7 @@ use native.Mathlib.Omega.{arith}
 use lib.ListN.{length, drop}
 use Rattle.xm.specs.Header.{kindAt}
 use Rattle.xm.specs.Instrument.{readInstrument}
-use Rattle.structures.proofs.HandLaws.{not-there, is-there, instrument-handed, instrument-not, part-fits}
+use Rattle.structures.proofs.HandingLaws.{not-there, is-there, instrument-handed, instrument-not, part-fits}
 use borrow.Author.Needs.{needs}
 use Rattle.structures.proofs.hand_instrument.Statement.{statement}
 use Rattle.structures.proofs.hand_instrument.Tie as tie

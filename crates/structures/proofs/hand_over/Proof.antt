@@ -1,7 +1,7 @@
 -- `structures::hand_over` meets its contract. Assumes nothing.
 use mathlib.Core.Path.{_∙_}
 use native.Mathlib.Omega.{arith}
-use Rattle.structures.proofs.HandLaws.{over-long, over-head, over-pattern, over-instrument, over-end}
+use Rattle.structures.proofs.HandingLaws.{over-long, over-head, over-pattern, over-instrument, over-end}
 use borrow.Author.Needs.{needs}
 use Rattle.structures.proofs.hand_over.Statement.{statement}
 use Rattle.structures.proofs.hand_over.Tie as tie

@@ -4,7 +4,7 @@ use native.Mathlib.Omega.{arith}
 use Prim.Native.Nat.{_+_}
 use lib.ListN.{length}
 use Rattle.xm.specs.PatternInFile.{leastPattern}
-use Rattle.structures.proofs.HandLaws.{not-there, is-there, pattern-handed, pattern-fits}
+use Rattle.structures.proofs.HandingLaws.{not-there, is-there, pattern-handed, pattern-fits}
 use borrow.Author.Needs.{needs}
 use Rattle.structures.proofs.hand_pattern.Statement.{statement}
 use Rattle.structures.proofs.hand_pattern.Tie as tie

@@ -1,7 +1,7 @@
 -- `structures::start_checked` meets its contract. Assumes nothing.
 use mathlib.Core.Path.{sym, _∙_}
 use Rattle.tables.proofs.Reading.{accepted-header}
-use Rattle.structures.proofs.HandLaws.{start-refused, start-accepted, start-reached}
+use Rattle.structures.proofs.HandingLaws.{start-refused, start-accepted, start-reached}
 use borrow.Author.Needs.{needs}
 use Rattle.structures.proofs.start_checked.Statement.{statement}
 use Rattle.structures.proofs.start_checked.Tie as tie

@@ -2,7 +2,7 @@
 use mathlib.Core.Path.{sym}
 use native.Mathlib.Omega.{arith}
 use Rattle.xm.proofs.Got.{all-pass}
-use Rattle.refusal.proofs.Tests.{not-all-pass}
+use Rattle.refusal.proofs.TestLaws.{not-all-pass}
 use Rattle.tables.proofs.has_room.Statement.{statement}
 use Rattle.tables.proofs.has_room.Tie as tie
 

@@ -1,7 +1,7 @@
 -- `timed::timed_reader` meets its contract: the number of what the call below it answers. Assumes nothing.
 use mathlib.Core.Path.{_∙_}
 use native.Mathlib.Omega.{arith}
-use Rattle.timed.proofs.Numbers.{counted-same, counted-fits}
+use Rattle.timed.proofs.NumberLaws.{counted-same, counted-fits}
 use borrow.Author.Needs.{needs}
 use Rattle.timed.proofs.timed_reader.Statement.{statement}
 use Rattle.timed.proofs.timed_reader.Tie as tie

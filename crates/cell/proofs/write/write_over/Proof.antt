@@ -9,7 +9,7 @@ use lib.ListN.{length, set, length-set}
 use Rattle.xm.specs.Cell.{marks}
 use Rattle.cell.proofs.ReadLaws.{bytesAt, five-at}
 use Rattle.cell.proofs.WriteLaws.{lead-plain}
-use Rattle.cell.proofs.Over.{over-first, over-more, over-done}
+use Rattle.cell.proofs.OverLaws.{over-first, over-more, over-done}
 use Rattle.cell.proofs.write.write_over.Statement.{statement}
 use Rattle.cell.proofs.write.write_over.Tie as tie
 

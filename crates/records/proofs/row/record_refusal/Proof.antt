@@ -1,7 +1,7 @@
 -- `records::row::record_refusal` meets its contract. Assumes nothing.
 use mathlib.Core.Path.{_∙_}
 use Rattle.xm.specs.Asking.{askingRows}
-use Rattle.asking.proofs.Ask.{refusal-asked}
+use Rattle.asking.proofs.AskLaws.{refusal-asked}
 use Rattle.records.specs.Records.{rowsGiven}
 use borrow.Author.Needs.{needs}
 use Rattle.records.proofs.row.record_refusal.Statement.{statement}

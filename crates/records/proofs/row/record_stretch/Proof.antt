@@ -1,7 +1,7 @@
 -- `records::row::record_stretch` meets its contract. Assumes nothing.
 use mathlib.Core.Path.{_∙_}
 use Rattle.xm.specs.Asking.{askingRows}
-use Rattle.asking.proofs.Ask.{asked-inside, stretch-asked}
+use Rattle.asking.proofs.AskLaws.{asked-inside, stretch-asked}
 use Rattle.records.specs.Records.{rowsGiven}
 use borrow.Author.Needs.{needs}
 use Rattle.records.proofs.row.record_stretch.Statement.{statement}

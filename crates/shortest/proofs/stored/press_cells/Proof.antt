@@ -7,8 +7,8 @@ use Rattle.xm.specs.Format.{joined}
 use Rattle.xm.specs.Cell.{writeCell}
 use Rattle.xm.specs.Row.{cellsIn}
 use Rattle.xm.proofs.Lay.{part-all, laid-last}
-use Rattle.shortest.proofs.Read.{Rewriting, rewriting-none, rewriting-stored, rewriting-lent, rewriting-here, rewriting-room, rewriting-over}
-use Rattle.shortest.proofs.Read.{empty-room, rewriting-empty}
+use Rattle.shortest.proofs.FoundLaws.{Rewriting, rewriting-none, rewriting-stored, rewriting-lent, rewriting-here, rewriting-room, rewriting-over}
+use Rattle.shortest.proofs.FoundLaws.{empty-room, rewriting-empty}
 use Rattle.shortest.proofs.stored.press_cells.Statement.{statement}
 use Rattle.shortest.proofs.stored.press_cells.Tie as tie
 

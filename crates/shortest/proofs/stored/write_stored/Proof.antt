@@ -4,7 +4,7 @@ use mathlib.Core.Path.{refl, ap}
 use native.Mathlib.Nat.{mul-le-mul}
 use native.Mathlib.Omega.{arith}
 use lib.ListN.{length}
-use Rattle.shortest.proofs.Read.{stored-pressed}
+use Rattle.shortest.proofs.FoundLaws.{stored-pressed}
 use Rattle.shortest.proofs.stored.write_stored.Statement.{statement}
 use Rattle.shortest.proofs.stored.write_stored.Tie as tie
 

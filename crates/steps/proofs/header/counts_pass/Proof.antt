@@ -2,7 +2,7 @@
 use mathlib.Core.Path.{sym}
 use native.Mathlib.Omega.{arith}
 use Rattle.xm.proofs.Got.{all-pass}
-use Rattle.refusal.proofs.Tests.{not-all-pass}
+use Rattle.refusal.proofs.TestLaws.{not-all-pass}
 use Rattle.steps.proofs.header.counts_pass.Statement.{statement}
 use Rattle.steps.proofs.header.counts_pass.Tie as tie
 

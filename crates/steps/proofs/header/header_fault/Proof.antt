@@ -5,7 +5,7 @@ use borrow.Author.Tests.{not-true, not-false}
 use Rattle.xm.specs.ModuleKind.{kindBy}
 use Rattle.xm.specs.Header.{leastHeader, songLengthAt}
 use Rattle.xm.proofs.Got.{all-hold}
-use Rattle.refusal.proofs.Tests.{not-all-hold, fault-among, fault-at, fault-none}
+use Rattle.refusal.proofs.TestLaws.{not-all-hold, fault-among, fault-at, fault-none}
 use Rattle.steps.proofs.HeaderLaws.{part-of}
 use Rattle.steps.proofs.KindLaws.{least-small}
 use borrow.Author.Needs.{needs}

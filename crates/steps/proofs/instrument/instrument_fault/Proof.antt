@@ -8,7 +8,7 @@ use lib.Dec.{ltb}
 use lib.ListN.{length, drop, length-drop}
 use borrow.Author.Tests.{ltb-true, lt-ltb}
 use Rattle.xm.specs.Instrument.{countAt}
-use Rattle.refusal.proofs.Tests.{fault-at, fault-none}
+use Rattle.refusal.proofs.TestLaws.{fault-at, fault-none}
 use borrow.Author.Needs.{needs}
 use Rattle.steps.proofs.instrument.instrument_fault.Statement.{statement}
 use Rattle.steps.proofs.instrument.instrument_fault.Tie as tie

@@ -7,7 +7,7 @@ use lib.ListN.{length, drop, length-drop}
 use borrow.Author.Tests.{lt-ltb}
 use Rattle.xm.specs.ModuleKind.{stripped}
 use Rattle.xm.specs.Instrument.{countAt, sampleHeadSizeAt, fieldsOf}
-use Rattle.refusal.proofs.Tests.{fault-at, fault-none}
+use Rattle.refusal.proofs.TestLaws.{fault-at, fault-none}
 use Rattle.steps.proofs.InstrumentLaws.{count-cut, size-cut, times-some}
 use borrow.Author.Needs.{needs}
 use Rattle.steps.proofs.instrument.stripped_fault.Statement.{statement}

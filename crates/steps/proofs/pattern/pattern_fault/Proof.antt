@@ -3,7 +3,7 @@ use mathlib.Core.Path.{refl, sym}
 use native.Mathlib.Omega.{arith}
 use lib.ListN.{length-drop}
 use Rattle.steps.proofs.PatternLaws.{HeadOf, head-of}
-use Rattle.refusal.proofs.Tests.{fault-at, fault-none}
+use Rattle.refusal.proofs.TestLaws.{fault-at, fault-none}
 use borrow.Author.Needs.{needs}
 use Rattle.steps.proofs.pattern.pattern_fault.Statement.{statement}
 use Rattle.steps.proofs.pattern.pattern_fault.Tie as tie

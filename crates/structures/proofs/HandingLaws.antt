@@ -14,7 +14,7 @@ use Rattle.xm.specs.PatternInFile.{leastPattern}
 use Rattle.xm.specs.Instrument.{InstrumentFound, readInstrument}
 use Rattle.xm.specs.Module.{Found, fileMost, readFile}
 use Rattle.xm.specs.Table.{checking}
-use Rattle.xm.specs.Structure as structure
+use Rattle.xm.specs.Structure as paper
 use Rattle.xm.specs.Structure.{endsAt, handHead, handPattern, handInstrument, handOver, aheadAtFirst, started}
 use Rattle.xm.proofs.Number.{bytes-drop, word-small, long-small}
 use Rattle.xm.proofs.Answer.{answer-gives, answer-refuses}
@@ -38,7 +38,7 @@ use Rattle.structures.specs.declared.Handed.{Handed}
 use Rattle.structures.specs.Handing.{aheadOf, aheadIn, handedWith, handedOf, reachedOf}
 
 -- What has to lie in the file, and does or does not
-module _ (a b : ℕ) (x : structure.Handed) (ahead : Ahead) where
+module _ (a b : ℕ) (x : paper.Handed) (ahead : Ahead) where
   pub not-there : b < a → handedWith standing.End ahead ≡ handedOf (cond (leb a b) x (endsAt (aheadIn ahead)))
   not-there l = rw (lt-leb a b l) refl
 

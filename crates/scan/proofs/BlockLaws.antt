@@ -22,7 +22,7 @@ use Rattle.cell.proofs.ReadLaws.{read-got-at}
 use Rattle.cell.proofs.ReadRows.{cellOnto, row-more, row-stop, stored-refused, stored-left, stored-whole}
 use Rattle.ahead.specs.declared.Ahead.{Ahead}
 use Rattle.ahead.specs.Ahead.{AheadOf, Follows, lengthsFrom}
-use Rattle.ahead.proofs.Run.{read-empty, read-six, run-over}
+use Rattle.ahead.proofs.AheadLaws.{read-empty, read-six, run-over}
 use Rattle.ahead.proofs.Walk.{walked-some, walked-over}
 use Rattle.scan.specs.declared.Walk.{Walk}
 use Rattle.scan.specs.Block.{walkOf, blockPassed}
