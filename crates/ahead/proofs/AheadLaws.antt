@@ -1,4 +1,4 @@
--- Laws of what a word has ahead: its bytes, empty cells in a row, and the cell behind them. Assumes nothing.
+-- Laws of what a word has ahead: its bytes, a run of empty cells, and the cell behind them. Assumes nothing.
 use Prim.Native.Nat.{ℕ, zero, suc, _+_, _*_, _/_, _%_, _^_, _≤_, _<_}
 use mathlib.Core.Bool.{Bool, true, false}
 use mathlib.Core.List.{List}

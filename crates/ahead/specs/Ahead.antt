@@ -1,4 +1,4 @@
--- For the fast loops: eight bytes at once, empty cells in a row, and two cells ahead; and the cells that begin in a block of bytes.
+-- For the fast loops: eight bytes at once, a run of empty cells, and two cells ahead; and the cells that begin in a block of bytes.
 use Prim.Native.Nat.{ℕ, zero, suc, _+_, _*_, _/_, _%_, _^_, _<_, _≤_}
 use mathlib.Core.Bool.{cond}
 use mathlib.Core.List.{List}

@@ -1,6 +1,6 @@
 pub mod Bits
 pub mod ReadLaws
-pub mod ReadRows
+pub mod ReadRuns
 pub mod WriteLaws
 pub mod OverLaws
-pub mod WriteRows
+pub mod WriteRuns

@@ -1,7 +1,7 @@
 // The numbers of a pattern: its rows and channels, and the bytes of its stored form.
 ghost use mathlib.Core.Path.{_≡_};
 ghost use Rattle.xm.specs.Got.{allPass};
-ghost use Rattle.xm.specs.Row.{sizeBy};
+ghost use Rattle.xm.specs.Run.{sizeBy};
 ghost use Rattle.xm.specs.Packing.{argumentTests};
 
 // Rows and channels as 16 asks for.

@@ -1,4 +1,4 @@
--- Laws of filling: accepted cells in a row laid one after the other, a run of empty ones written as forty zeros, and the rest left to
+-- Laws of filling: a run of accepted cells laid one after the other, a run of empty ones written as forty zeros, and the rest left to
 -- another. Assumes nothing.
 use Prim.Native.Nat.{ℕ, suc, _+_, _*_, _-_, _%_, _≤_, _<_}
 use mathlib.Core.Bool.{Bool, true, false, cond}
@@ -14,15 +14,15 @@ use Rattle.xm.specs.Got.{accepted}
 use Rattle.xm.specs.Format.{flat}
 use Rattle.xm.specs.Answer.{inFront}
 use Rattle.xm.specs.Cell.{lengthBy, cellAt}
-use Rattle.xm.specs.Stored.{readRow}
-use Rattle.xm.specs.Row.{cellsIn}
+use Rattle.xm.specs.Stored.{readRun}
+use Rattle.xm.specs.Run.{cellsIn}
 use Rattle.xm.specs.Lay.{lay}
 use Rattle.xm.proofs.Cell.{cell-length}
 use Rattle.xm.proofs.Stored.{flat-length}
-use Rattle.xm.proofs.Row.{in-length, in-fives}
+use Rattle.xm.proofs.Run.{in-length, in-fives}
 use Rattle.xm.proofs.Lay.{part-back, part-all, lay-front, lay-more, length-lay, Laid, laid-none, laid-more, laid-done}
 use Rattle.cell.proofs.ReadLaws.{empty-length, empty-cell}
-use Rattle.cell.proofs.ReadRows.{row-first, cells-first}
+use Rattle.cell.proofs.ReadRuns.{run-first, cells-first}
 use Rattle.ahead.specs.declared.Ahead.{Ahead}
 use Rattle.ahead.specs.Ahead.{EmptyRun, AheadOf}
 use Rattle.ahead.proofs.AheadLaws.{run-over}
@@ -34,11 +34,11 @@ filled-length count s = flat-length (cellsIn count s) (in-fives count s) ∙ ap 
 -- A loop that fills: `left` cells are still to come, from `at` on, were accepted, and go to `to`; `goal` is what all are to be
 pub record Filling (s goal lent out : List ℕ) (at to left : ℕ) : Type 0 where
   pub inside : at ≤ length s
-  pub fine : accepted (readRow left at (drop at s)) ≡ true
+  pub fine : accepted (readRun left at (drop at s)) ≡ true
   pub room : to + left * 5 ≤ length out
   pub writes : Laid lent goal out to (flat (cellsIn left (drop at s)))
 
-pub filling-none : (s : List ℕ) (at count : ℕ) {out : List ℕ} {left : ℕ} → at ≤ length s → accepted (readRow count at (drop at s)) ≡ true
+pub filling-none : (s : List ℕ) (at count : ℕ) {out : List ℕ} {left : ℕ} → at ≤ length s → accepted (readRun count at (drop at s)) ≡ true
     → count * 5 ≤ length out
     → left ≡ count → Filling s (flat (cellsIn count (drop at s))) out out at 0 left
 filling-none s at count {out} i a h e = rw e (record {
@@ -65,7 +65,7 @@ module _ {s goal lent : List ℕ} where
     pub filling-more : 0 < left → w ≡ cellAt (drop at s) → {next left′ : ℕ} → next ≡ at + lengthBy (getD s at 0) → left′ ≡ left - 1
         → Filling s goal lent (putMid to (length out - to) out written) next (to + 5) left′
     filling-more some cell {next} n o =
-        let r = row-first s at left some (f .inside) (f .fine) in
+        let r = run-first s at left some (f .inside) (f .fine) in
         let rest = flat (cellsIn (left - 1) (drop next s)) in
         let size : length w ≡ 5 = ap length cell ∙ cell-length (drop at s) in
         let m = laid-more (f .writes) w rest _ (to + 5) (ap flat (cells-first s at left some) ∙ rw (n, cell)) (ap (λ (x : ℕ). to + x) (sym size)) put in
@@ -106,10 +106,10 @@ lay-over out to v r h l =
 -- Some empty cells, and those that follow them
 record Past (s : List ℕ) (left at k : ℕ) : Type 0 where
   inside : at + k ≤ length s
-  fine : accepted (readRow (left - k) (at + k) (drop (at + k) s)) ≡ true
+  fine : accepted (readRun (left - k) (at + k) (drop (at + k) s)) ≡ true
   cells : flat (cellsIn left (drop at s)) ≡ replicate (k * 5) 0 ++ flat (cellsIn (left - k) (drop (at + k) s))
 
-past-run : (s : List ℕ) (left at k : ℕ) → k ≤ left → at ≤ length s → accepted (readRow left at (drop at s)) ≡ true
+past-run : (s : List ℕ) (left at k : ℕ) → k ≤ left → at ≤ length s → accepted (readRun left at (drop at s)) ≡ true
     → ((i : ℕ) → i < k → getD s (at + i) 0 ≡ 128) → Past s left at k
 past-run s left at k h i a all = run-over (Past s left at) s at k all none more
   where
@@ -121,7 +121,7 @@ past-run s left at k h i a all = run-over (Past s left at) s at k all none more
 
     more : (i : ℕ) → i < k → getD s (at + i) 0 ≡ 128 → Past s left at i → Past s left at (suc i)
     more i below e w =
-        let r = row-first s (at + i) (left - i) (omega arith) (w .inside) (w .fine) in
+        let r = run-first s (at + i) (left - i) (omega arith) (w .inside) (w .fine) in
         let one = empty-length (at + i) s e in
         let p : at + i + lengthBy (getD s (at + i) 0) ≡ at + suc i = omega arith in
         let q : left - i - 1 ≡ left - suc i = omega arith in

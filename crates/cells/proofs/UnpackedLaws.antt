@@ -9,13 +9,13 @@ use lib.ListN.{length, replicate, length-replicate}
 use Rattle.xm.specs.Got.{Refusal, got, accepted, allPass}
 use Rattle.xm.specs.Format.{flat}
 use Rattle.xm.specs.Answer.{Answer, gives, refuses, numbers, inFront, after}
-use Rattle.xm.specs.Stored.{Pattern, readRow, readCells, readStored}
-use Rattle.xm.specs.Row.{cellsIn}
+use Rattle.xm.specs.Stored.{Pattern, readRun, readCells, readStored}
+use Rattle.xm.specs.Run.{cellsIn}
 use Rattle.xm.specs.PatternInFile.{dataMost}
 use Rattle.xm.specs.Packing.{argumentTests, cellBytes, rowsRead, unpacking, unpackAfter}
 use Rattle.xm.proofs.Got.{no-true, all-pass, all-hold, passed, bind-got, got-carry, got-accepted}
 use Rattle.xm.proofs.Stored.{empty-flat, stored-empty, stored-some, stored-rows}
-use Rattle.xm.proofs.Row.{row-read}
+use Rattle.xm.proofs.Run.{run-read}
 use Rattle.xm.proofs.Packing.{UnpackRange}
 use Rattle.refusal.specs.declared.Fault.{Fault}
 use Rattle.refusal.specs.declared.Step.{Step}
@@ -45,19 +45,19 @@ pub found-of : (channels rows : ℕ) (d : List ℕ) {step : Step} {next : ℕ} �
     → StoredFound channels rows d
 found-of channels rows d e told = next-got 0 (readStored channels rows 0 d) (sym told ∙ e) λ p n q en. record { pattern = p; used = n; reads = q }
 
--- With some data, the cells of the pattern are those in a row, and they were accepted
+-- With some data, the cells of the pattern are a run, which was accepted
 record FromCells (channels rows : ℕ) (d : List ℕ) (p : Pattern) : Type 0 where
   pub cells : p .cells ≡ cellsIn (rows * channels) d
-  pub fine : accepted (readRow (rows * channels) 0 d) ≡ true
+  pub fine : accepted (readRun (rows * channels) 0 d) ≡ true
 
 from-cells : (channels rows : ℕ) (d : List ℕ) (p : Pattern) (n : ℕ) → 1 ≤ length d → readStored channels rows 0 d ≡ got p n → FromCells channels rows d p
 unfolding readCells
 from-cells channels rows d p n some e =
     bind-got _ _ (sym (stored-some channels rows 0 d some) ∙ e) λ cells m ec e. passed _ _ e λ h e.
     got-carry (λ (q : Pattern) (u : ℕ). FromCells channels rows d q) e
-    (record { cells = row-read (rows * channels) 0 d cells m ec .same; fine = got-accepted ec })
+    (record { cells = run-read (rows * channels) 0 d cells m ec .same; fine = got-accepted ec })
 
--- Its rows, and what is to be filled: zeros, or the cells in a row; five bytes a cell
+-- Its rows, and what is to be filled: zeros, or the cells of a run; five bytes a cell
 module _ {channels rows : ℕ} {d : List ℕ} (f : StoredFound channels rows d) where
   pub rows-found : f .pattern .rows ≡ rows
   rows-found = stored-rows channels rows 0 d (f .pattern) (f .used) (f .reads)
@@ -69,7 +69,7 @@ module _ {channels rows : ℕ} {d : List ℕ} (f : StoredFound channels rows d) 
     from : FromCells channels rows d (f .pattern)
     from = from-cells channels rows d (f .pattern) (f .used) some (f .reads)
 
-    pub fine-some : accepted (readRow (rows * channels) 0 d) ≡ true
+    pub fine-some : accepted (readRun (rows * channels) 0 d) ≡ true
     unfolding from
     fine-some = from .fine
 

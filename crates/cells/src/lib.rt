@@ -13,8 +13,8 @@ ghost use lib.ListN.{length, drop};
 ghost use Rattle.xm.specs.Got.{accepted};
 ghost use Rattle.xm.specs.Format.{flat};
 ghost use Rattle.xm.specs.Answer.{inFront};
-ghost use Rattle.xm.specs.Stored.{readRow};
-ghost use Rattle.xm.specs.Row.{cellsIn};
+ghost use Rattle.xm.specs.Stored.{readRun};
+ghost use Rattle.xm.specs.Run.{cellsIn};
 ghost use Rattle.xm.specs.Packing.{unpacking, unpackAfter};
 ghost use Rattle.cells.specs.Unpacked.{firstFields, unpackedOf};
 
@@ -26,7 +26,7 @@ pub enum Unpacked {
 // The cells from a place on, which were accepted, five bytes each, at the front, one by one.
 fn fill_each(stored: &[u8], from: usize, count: usize, out: &mut [u8])
     requires { ⌜ from ≤ length (now stored) ⌝ }
-    requires { ⌜ accepted (readRow count from (drop from (now stored))) ≡ true ⌝ }
+    requires { ⌜ accepted (readRun count from (drop from (now stored))) ≡ true ⌝ }
     requires { ⌜ count * 5 ≤ length (now out) ⌝ }
     ensures { λ _. ⌜ now (out .exit) ≡ inFront (flat (cellsIn count (drop from (now (stored .entry))))) (now (out .entry)) ⌝ }
 {
@@ -55,9 +55,9 @@ fn fill_first(stored: &[u8], place: usize, word: u64, out: &mut [u8])
     }
 }
 
-// Cells in a row that were accepted, five bytes each, at the front, two or more at a time.
+// A run of cells that were accepted, five bytes each, at the front, two or more at a time.
 fn fill_cells(stored: &[u8], count: usize, out: &mut [u8])
-    requires { ⌜ accepted (readRow count 0 (now stored)) ≡ true ⌝ }
+    requires { ⌜ accepted (readRun count 0 (now stored)) ≡ true ⌝ }
     requires { ⌜ count * 5 ≤ length (now out) ⌝ }
     ensures { λ _. ⌜ now (out .exit) ≡ inFront (flat (cellsIn count (now (stored .entry)))) (now (out .entry)) ⌝ }
 {

@@ -184,7 +184,7 @@ module _ (file : List ℕ) (start size count : ℕ) where
     pub heads-end : count ≤ j → Next place ≡ placeStep start (each headFormat .read (replicate count size) start (drop start file))
     heads-end h = reached-place headFormat _ file start (w .reached) (rw length-replicate h)
 
--- The bytes of headers in a row: the j-th stands j times a header's size on
+-- The bytes of a run of headers: the j-th stands j times a header's size on
 length-heads : (count size : ℕ) (s : List ℕ) → length (headsFrom count size s) ≡ count
 unfolding headsFrom
 length-heads zero size s = refl

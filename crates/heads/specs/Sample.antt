@@ -53,7 +53,7 @@ headTestsOf place head =
     ∷ wholeTest (head .form) (head .«loop_length») (head .«loop_length») place
     ∷ []
 
--- The bytes of headers in a row.
+-- The bytes of a run of headers.
 unfoldable pub headsFrom : (count size : ℕ) → List ℕ → List (List ℕ)
 headsFrom zero size s = []
 headsFrom (suc count) size s = headBytes size s ∷ headsFrom count size (drop size s)

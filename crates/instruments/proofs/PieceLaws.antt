@@ -52,7 +52,7 @@ fields-size size headSize s h =
     length-append (long size) (padded (size - 4) (padded 25 (drop 4 s) ++ voiceIn headSize s))
     ∙ omega (arith, padded-length (size - 4) (padded 25 (drop 4 s) ++ voiceIn headSize s))
 
--- Headers in a row, of each as many bytes as are kept: the first of them, and how many they are
+-- A run of headers, of each as many bytes as are kept: the first of them, and how many they are
 module _ (size kept : ℕ) (few : kept ≤ leastHead) where
   heads-first : (left : ℕ) (s : List ℕ) → 0 < left → headsCut left size kept s ≡ padded kept (take size s) ++ headsCut (left - 1) size kept (drop size s)
   unfolding headsFrom

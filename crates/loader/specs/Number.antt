@@ -52,7 +52,7 @@ abbrev pub codeNumber : Coded → ℕ
 codeNumber (coded.Bytes count) = count
 codeNumber (coded.Refused fault) = refusalNumber fault
 
--- "E + 65,536 × 2^(octave + 1)"
+-- E + 65,536 × 2^(octave + 1)
 abbrev pub periodNumber : Tuned → ℕ
 periodNumber (tuned.Period period) = period .dividend + 65536 * period .divisor
 periodNumber (tuned.Refused fault) = refusalNumber fault

@@ -13,15 +13,15 @@ use Rattle.xm.specs.Got.{Refusal, Got, got, refused}
 use Rattle.xm.specs.Format.{joined}
 use Rattle.xm.specs.Cell.{lengthBy, needed, cellAt, readCell, kept, kepts, writeCell}
 use Rattle.xm.specs.Short.{shortestBy, shortBy, isShort}
-use Rattle.xm.specs.Stored.{readRow}
+use Rattle.xm.specs.Stored.{readRun}
 use Rattle.xm.proofs.Got.{no-true}
 use Rattle.xm.proofs.Format.{cons-path}
 use Rattle.xm.proofs.Cell.{kepts-most, cell-length, CellRead, cell-read, write-short}
 use Rattle.xm.proofs.Lay.{head-at}
 use Rattle.xm.proofs.Short.{shortest-by, short-by, short-exact}
-use Rattle.xm.proofs.Row.{row-read}
+use Rattle.xm.proofs.Run.{run-read}
 use Rattle.refusal.specs.Fault.{faultOf}
-use Rattle.cell.proofs.ReadRows.{cellOnto, row-more, row-stop}
+use Rattle.cell.proofs.ReadRuns.{cellOnto, run-more, run-stop}
 use Rattle.measure.specs.declared.StoredStep.{StoredStep}
 use Rattle.measure.specs.declared.StoredStep.the-variants.{Read, Refused}
 use Rattle.measure.specs.Measure.{sameBytes, measuredOn}
@@ -70,11 +70,11 @@ size-path p q r = cc
 
 -- One cell more
 measured-more : (s : List ℕ) (left used shortest : ℕ) (same : Bool) → 0 < left → {cell : List ℕ} {k : ℕ} → readCell used (drop used s) ≡ got cell k
-    → measuredOn used shortest same (drop used s) (readRow left used (drop used s))
+    → measuredOn used shortest same (drop used s) (readRun left used (drop used s))
     ≡ measuredOn (used + k) (shortest + length (writeCell cell)) (same && isShort (drop used s)) (drop (used + k) s)
-    (readRow (left - 1) (used + k) (drop (used + k) s))
+    (readRun (left - 1) (used + k) (drop (used + k) s))
 measured-more s left used shortest same some {cell} {k} e =
-    ap (measuredOn used shortest same d) (row-more s used left some e) ∙ go (readRow (left - 1) (used + k) (drop (used + k) s)) refl
+    ap (measuredOn used shortest same d) (run-more s used left some e) ∙ go (readRun (left - 1) (used + k) (drop (used + k) s)) refl
   where
     d : List ℕ
     d = drop used s
@@ -82,14 +82,14 @@ measured-more s left used shortest same some {cell} {k} e =
     r : CellRead d cell k
     r = cell-read used d cell k e
 
-    go : (g : Got (List (List ℕ))) → readRow (left - 1) (used + k) (drop (used + k) s) ≡ g
+    go : (g : Got (List (List ℕ))) → readRun (left - 1) (used + k) (drop (used + k) s) ≡ g
         → measuredOn used shortest same d (cellOnto cell k g)
         ≡ measuredOn (used + k) (shortest + length (writeCell cell)) (same && isShort d) (drop (used + k) s) g
     go (refused r) q = refl
     go (got js m) q =
         let w = writeCell cell in
         let rest = joined writeCell js in
-        let row = row-read (left - 1) (used + k) (drop (used + k) s) js m q in
+        let row = run-read (left - 1) (used + k) (drop (used + k) s) js m q in
         let x = short-exact d (r .fits) in
         let written : w ≡ writeCell (cellAt d) = ap writeCell (r .same) in
         let stands : take k d ≡ take (needed d) d = ap (λ (n : ℕ). take n d) (r .long) in
@@ -107,7 +107,7 @@ measured-more s left used shortest same some {cell} {k} e =
 pub record Measuring (s : List ℕ) (answer : StoredStep) (used shortest : ℕ) (same : Bool) (left : ℕ) : Type 0 where
   pub inside : used ≤ length s
   pub small : shortest ≤ used
-  pub rest : answer ≡ measuredOn used shortest same (drop used s) (readRow left used (drop used s))
+  pub rest : answer ≡ measuredOn used shortest same (drop used s) (readRun left used (drop used s))
 
 module _ {s : List ℕ} {answer : StoredStep} where
   move : {used used′ shortest shortest′ : ℕ} {same same′ : Bool} {left left′ : ℕ} → Measuring s answer used shortest same left
@@ -129,13 +129,13 @@ module _ {s : List ℕ} {answer : StoredStep} where
         }
 
     pub measuring-stop : 0 < left → {r : Refusal} → readCell used (drop used s) ≡ refused r → Refused (faultOf r) ≡ answer
-    measuring-stop some e = sym (v .rest ∙ ap (measuredOn used shortest same (drop used s)) (row-stop s used left some e))
+    measuring-stop some e = sym (v .rest ∙ ap (measuredOn used shortest same (drop used s)) (run-stop s used left some e))
 
     pub measuring-done : left ≡ 0 → Read (record { used = used; shortest = shortest; same = same }) ≡ answer
     unfolding sameBytes
     measuring-done z =
         size-path (omega arith) (omega arith) (sym (and-true same))
-        ∙ sym (v .rest ∙ ap (λ (n : ℕ). measuredOn used shortest same (drop used s) (readRow n used (drop used s))) z)
+        ∙ sym (v .rest ∙ ap (λ (n : ℕ). measuredOn used shortest same (drop used s) (readRun n used (drop used s))) z)
 
 -- A cell by the numbers that the code has: how many fields are kept, and the length of its shortest form
 pub kept-five : (s : List ℕ) {kept : ℕ} → kept ≡ length (kepts (cellAt s)) → kept ≤ 5

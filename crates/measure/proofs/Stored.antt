@@ -9,13 +9,13 @@ use lib.Seq.{take-all}
 use Rattle.xm.specs.Got.{Got, got, refused}
 use Rattle.xm.specs.Format.{joined}
 use Rattle.xm.specs.Cell.{writeCell}
-use Rattle.xm.specs.Stored.{Pattern, emptyRows, readRow, readStored, writeStored}
-use Rattle.xm.specs.Row.{sizeBy}
+use Rattle.xm.specs.Stored.{Pattern, emptyRows, readRun, readStored, writeStored}
+use Rattle.xm.specs.Run.{sizeBy}
 use Rattle.xm.proofs.Got.{no-true}
 use Rattle.xm.proofs.Stored.{Fives, rows-none, write-none, stored-none}
-use Rattle.xm.proofs.Row.{row-read, in-length, in-fives, stored-nothing, stored-cells, size-by}
+use Rattle.xm.proofs.Run.{run-read, in-length, in-fives, stored-nothing, stored-cells, size-by}
 use Rattle.refusal.specs.declared.Fault.{Fault}
-use Rattle.cell.proofs.ReadRows.{stored-refused, stored-left, stored-whole}
+use Rattle.cell.proofs.ReadRuns.{stored-refused, stored-left, stored-whole}
 use Rattle.measure.specs.declared.StoredSize.{StoredSize}
 use Rattle.measure.specs.declared.StoredStep.{StoredStep}
 use Rattle.measure.specs.declared.StoredStep.the-variants.{Read, Refused}
@@ -37,21 +37,21 @@ same-nothing [] h = absurd (omega arith)
 same-nothing (x ∷ d) h = refl
 
 -- Some data
-module _ (channels rows : ℕ) (d : List ℕ) (some : 1 ≤ length d) {step : StoredStep} (e : step ≡ measuredOn 0 0 true d (readRow (rows * channels) 0 d)) where
+module _ (channels rows : ℕ) (d : List ℕ) (some : 1 ≤ length d) {step : StoredStep} (e : step ≡ measuredOn 0 0 true d (readRun (rows * channels) 0 d)) where
   pub measured-refused : {f : Fault} → step ≡ Refused f → step ≡ storedOf d (readStored channels rows 0 d)
-  measured-refused {f} told = go (readRow (rows * channels) 0 d) refl (sym told ∙ e)
+  measured-refused {f} told = go (readRun (rows * channels) 0 d) refl (sym told ∙ e)
     where
-      go : (g : Got (List (List ℕ))) → readRow (rows * channels) 0 d ≡ g → Refused f ≡ measuredOn 0 0 true d g
+      go : (g : Got (List (List ℕ))) → readRun (rows * channels) 0 d ≡ g → Refused f ≡ measuredOn 0 0 true d g
           → step ≡ storedOf d (readStored channels rows 0 d)
       go (got cells used) q t = absurd (no-true (cc))
       go (refused r) q t = told ∙ t ∙ sym (ap (storedOf d) (stored-refused channels rows d some q))
 
   module _ {size : StoredSize} (told : step ≡ Read size) where
-    found : {R : Type 0} → ((cells : List (List ℕ)) → readRow (rows * channels) 0 d ≡ got cells (size .used) → size .shortest ≡ length (joined writeCell cells)
+    found : {R : Type 0} → ((cells : List (List ℕ)) → readRun (rows * channels) 0 d ≡ got cells (size .used) → size .shortest ≡ length (joined writeCell cells)
         → size .same ≡ sameBytes (take (size .used) d) (joined writeCell cells) → R) → R
-    found {R} k = go (readRow (rows * channels) 0 d) refl (sym told ∙ e)
+    found {R} k = go (readRun (rows * channels) 0 d) refl (sym told ∙ e)
       where
-        go : (g : Got (List (List ℕ))) → readRow (rows * channels) 0 d ≡ g → Read size ≡ measuredOn 0 0 true d g → R
+        go : (g : Got (List (List ℕ))) → readRun (rows * channels) 0 d ≡ g → Read size ≡ measuredOn 0 0 true d g → R
         go (got cells n) q t =
             let z : 0 + n ≡ size .used = cc in
             let u : n ≡ size .used = omega arith in
@@ -70,7 +70,7 @@ module _ (channels rows : ℕ) (d : List ℕ) (some : 1 ≤ length d) {step : St
           → size .same ≡ sameBytes d (joined writeCell (p .cells)) → R) → R
       whole k = found λ cells reads l b.
           let p : Pattern = record { rows = rows; cells = cells } in
-          let same = row-read (rows * channels) 0 d cells (size .used) reads .same in
+          let same = run-read (rows * channels) 0 d cells (size .used) reads .same in
           let fives : Fives cells = rw same (in-fives (rows * channels) d) in
           let count : rows * channels ≡ length cells = sym (ap length same ∙ in-length (rows * channels) d) in
           k p (stored-whole channels rows d some reads all) (long ∙ ap₂ sizeBy count l ∙ size-by p fives) l

@@ -10,7 +10,7 @@ use lib.ListN.{length, getD, drop}
 use lib.Seq.{getD-drop}
 use Rattle.xm.specs.Cell.{lengthBy, needed, cellAt, writeCell}
 use Rattle.xm.specs.Short.{isShort}
-use Rattle.xm.specs.Stored.{readRow}
+use Rattle.xm.specs.Stored.{readRun}
 use Rattle.xm.proofs.Cell.{write-short}
 use Rattle.xm.proofs.Lay.{head-at}
 use Rattle.cell.proofs.ReadLaws.{read-got-at, empty-length}
@@ -75,7 +75,7 @@ pub record Weighing (s : List ℕ) (answer : StoredStep) (count used left extra 
   pub even : same ≡ (eqb odd 0 && eqb shortest used)
   pub small : (extra ≤ 15 * (count - left)) × (odd ≤ 15 * (count - left))
 
-pub weighing-start : (s : List ℕ) (count : ℕ) → Weighing s (measuredOn 0 0 true s (readRow count 0 s)) count 0 count (count - count) 0
+pub weighing-start : (s : List ℕ) (count : ℕ) → Weighing s (measuredOn 0 0 true s (readRun count 0 s)) count 0 count (count - count) 0
 unfolding someOf
 weighing-start s count = record {
   shortest = 0;
@@ -168,7 +168,7 @@ weighed-less lengths weights size left extra odd h k e = rw e (walked-some (adde
 
 -- What was skipped, as a weighing, and the other way round
 pub skip-start : (s : List ℕ) (count : ℕ) (r : Skip) → Skipped s count r
-    → Weighing s (measuredOn 0 0 true s (readRow count 0 s)) count (r .used) (r .left) (count - r .left) 0
+    → Weighing s (measuredOn 0 0 true s (readRun count 0 s)) count (r .used) (r .left) (count - r .left) 0
 skip-start s count r k =
     let i = k .inside in
     let f = k .fewer in
@@ -183,7 +183,7 @@ skip-start s count r k =
     }
 
 pub skip-end : (s : List ℕ) (count used left : ℕ) → someOf (length s) s ≡ length s
-    → Weighing s (measuredOn 0 0 true s (readRow count 0 s)) count used left (count - left) 0
+    → Weighing s (measuredOn 0 0 true s (readRun count 0 s)) count used left (count - left) 0
     → Skipped s count (record { used = used; left = left })
 skip-end s count used left none v =
     let i = v .measuring .inside in
@@ -197,7 +197,7 @@ skip-end s count used left none v =
       inside = i;
       fewer = f;
       some = all;
-      rest = v .measuring .rest ∙ ap₂ (λ (n : ℕ) (b : Bool). measuredOn used n b (drop used s) (readRow left used (drop used s))) short same;
+      rest = v .measuring .rest ∙ ap₂ (λ (n : ℕ) (b : Bool). measuredOn used n b (drop used s) (readRun left used (drop used s))) short same;
     }
 
 pub skip-none : (s : List ℕ) (count : ℕ) → Skipped s count (record { used = 0; left = count })

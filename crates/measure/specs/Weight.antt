@@ -6,7 +6,7 @@ use mathlib.Core.Path.{_≡_}
 use lib.Dec.{ltb, eqb}
 use lib.ListN.{length, getD, drop}
 use Rattle.xm.specs.Cell.{cellSize, markedFrom, bit}
-use Rattle.xm.specs.Stored.{rowsMost, channelsMost, readRow}
+use Rattle.xm.specs.Stored.{rowsMost, channelsMost, readRun}
 use Rattle.ahead.specs.Ahead.{Walked, walked}
 use Rattle.measure.specs.declared.Weigh.{Weigh}
 use Rattle.measure.specs.declared.Skip.{Skip}
@@ -64,5 +64,5 @@ pub record Skipped (s : List ℕ) (count : ℕ) (r : Skip) : Type 0 where
   pub inside : r .used ≤ length s
   pub fewer : r .left ≤ count
   pub some : someOf (r .used) s ≡ r .used
-  pub rest : measuredOn 0 0 true s (readRow count 0 s)
-      ≡ measuredOn (r .used) (r .used) true (drop (r .used) s) (readRow (r .left) (r .used) (drop (r .used) s))
+  pub rest : measuredOn 0 0 true s (readRun count 0 s)
+      ≡ measuredOn (r .used) (r .used) true (drop (r .used) s) (readRun (r .left) (r .used) (drop (r .used) s))

@@ -13,7 +13,7 @@ ghost use lib.ListN.{length, drop};
 ghost use Rattle.xm.specs.Got.{AllHold};
 ghost use Rattle.xm.specs.Cell.{bit};
 ghost use Rattle.xm.specs.Short.{shortBy};
-ghost use Rattle.xm.specs.Stored.{readRow, readStored};
+ghost use Rattle.xm.specs.Stored.{readRun, readStored};
 ghost use Rattle.xm.specs.Packing.{argumentTests};
 ghost use Rattle.ahead.specs.Ahead.{blockSize, Follows};
 ghost use Rattle.measure.specs.Measure.{measuredOn, storedOf};
@@ -213,7 +213,7 @@ fn still_same(same: bool, lead: u8, used: usize, kept: usize, shortest: usize) -
 fn measure_from(stored: &[u8], from: usize, count: usize, before: usize, alike: bool) -> StoredStep
     requires { ⌜ from ≤ length (now stored) ⌝ }
     requires { ⌜ before ≤ from ⌝ }
-    ensures { λ r. ⌜ r ≡ measuredOn from before alike (drop from (now (stored .entry))) (readRow count from (drop from (now (stored .entry)))) ⌝ }
+    ensures { λ r. ⌜ r ≡ measuredOn from before alike (drop from (now (stored .entry))) (readRun count from (drop from (now (stored .entry)))) ⌝ }
 {
     let mut used = from;
     let mut shortest = before;
@@ -292,10 +292,10 @@ fn skipped(stored: &[u8], count: usize) -> Skip
     }
 }
 
-// `count` cells in a row, a block at a time. All that is left from the last block on, or from one whose last cell is cut, goes one by one.
+// A run of `count` cells, a block at a time. All that is left from the last block on, or from one whose last cell is cut, goes one by one.
 fn measure_cells(stored: &[u8], count: usize) -> StoredStep
     requires { ⌜ count ≤ cellsMost ⌝ }
-    ensures { λ r. ⌜ r ≡ measuredOn 0 0 true (now (stored .entry)) (readRow count 0 (now (stored .entry))) ⌝ }
+    ensures { λ r. ⌜ r ≡ measuredOn 0 0 true (now (stored .entry)) (readRun count 0 (now (stored .entry))) ⌝ }
 {
     let mut lengths = [0u8; 64];
     let mut weights = [0u8; 64];

@@ -14,10 +14,10 @@ use Rattle.xm.specs.Answer.{refuses, inFront}
 use Rattle.xm.specs.Cell.{writeCell}
 use Rattle.xm.specs.Stored.{writeStored, cellsOf}
 use Rattle.xm.specs.PatternInFile.{dataMost}
-use Rattle.xm.specs.Row.{sizeBy}
+use Rattle.xm.specs.Run.{sizeBy}
 use Rattle.xm.specs.Packing.{patternOf, packing, packAfter}
 use Rattle.xm.proofs.Stored.{cells-length, cells-fives}
-use Rattle.xm.proofs.Row.{stored-nothing, stored-cells, size-by}
+use Rattle.xm.proofs.Run.{stored-nothing, stored-cells, size-by}
 use Rattle.xm.proofs.Packing.{PackRange, pack-argument, pack-size, pack-room, pack-gives}
 use Rattle.packing.specs.declared.Packed.{Packed}
 use Rattle.packing.specs.declared.Packed.the-variants.{Stored}

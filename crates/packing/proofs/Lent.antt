@@ -9,7 +9,7 @@ use Rattle.xm.specs.Format.{joined}
 use Rattle.xm.specs.Cell.{cellSize, cellMost, five, writeCell}
 use Rattle.xm.specs.Stored.{cellsOf}
 use Rattle.xm.proofs.Stored.{cells-length, cells-fives, cells-most}
-use Rattle.xm.proofs.Row.{cells-least}
+use Rattle.xm.proofs.Run.{cells-least}
 
 -- Five bytes that add up to 0
 pub five-zero : (a b c d e : ℕ) → a + 256 * b + 65536 * c + 16777216 * d + e ≡ 0 → a ∷ b ∷ c ∷ d ∷ e ∷ [] ≡ replicate cellSize 0

@@ -12,7 +12,7 @@ use Rattle.xm.specs.PatternInFile.{dataMost}
 use Rattle.xm.proofs.Cell.{kepts-most}
 use Rattle.xm.proofs.Lay.{head-at}
 use Rattle.xm.proofs.Short.{shortest-by}
-use Rattle.cell.proofs.WriteRows.{first-length}
+use Rattle.cell.proofs.WriteRuns.{first-length}
 use Rattle.packing.specs.Packed.{LimitedLength}
 use Rattle.packing.proofs.Lent.{lent-first, lent-none, lent-most}
 

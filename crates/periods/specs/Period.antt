@@ -70,7 +70,7 @@ tuning note finetune = answered (λ period used. period) (do
 abbrev pub periodNumbers : (note : ℕ) (finetune : ℤ) → List ℕ
 periodNumbers note finetune = numbers (Period.dividend ∷ Period.divisor ∷ []) (tuning note finetune)
 
--- The loader's number: "E + 65,536 × 2^(octave + 1)".
+-- The loader's number: E + 65,536 × 2^(octave + 1).
 abbrev pub bothNumbers : Period → ℕ
 bothNumbers period = period .dividend + 65536 * period .divisor
 

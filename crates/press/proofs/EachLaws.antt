@@ -1,4 +1,4 @@
--- Parts of one format in a row, each written within another of the same content, into what remains of the output. Assumes nothing.
+-- A run of parts of one format, each written within another of the same content, into what remains of the output. Assumes nothing.
 use Prim.Native.Nat.{ℕ, zero, suc, _+_, _-_, _≤_, _<_}
 use mathlib.Core.List.{List, [], _∷_, _++_}
 use mathlib.Core.Path.{_≡_, refl, sym, ap, _∙_}

@@ -1,5 +1,5 @@
 pub mod EachLaws
-pub mod RowLaws
+pub mod LoopLaws
 pub mod ModuleLaws
 pub mod Exits
 pub mod Calls

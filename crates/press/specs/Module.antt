@@ -1,4 +1,4 @@
--- Patterns in a row, instruments in a row, and a whole file, as they are written.
+-- A run of patterns, a run of instruments, and a whole file, as they are written.
 use Prim.Native.Nat.{ℕ}
 use mathlib.Core.Bool.{Bool, true, false}
 use mathlib.Core.List.{List}

@@ -10,7 +10,7 @@ ghost use Rattle.xm.specs.ModuleKind.{kindBy};
 ghost use Rattle.xm.specs.Convert.{converting, convertAfter};
 ghost use Rattle.press.specs.Pressed.{pressedOf};
 
-// "A file is at most 16,777,216 bytes"
+// "2 | file over 16,777,216 bytes"
 const FILE_MOST: usize = 16777216;
 
 // Converts a file to a stripped module or to a normal one, in the same two passes. Its tracker name is not kept; what is written may be

@@ -11,7 +11,7 @@ use lib.Dec.{eqb}
 use lib.ListN.{length, getD, drop, length-drop}
 use Rattle.xm.specs.Got.{Got, got, refused}
 use Rattle.xm.specs.Cell.{readCell}
-use Rattle.xm.specs.Stored.{readRow, readStored}
+use Rattle.xm.specs.Stored.{readRun, readStored}
 use Rattle.xm.proofs.Cell.{cell-read}
 use Rattle.refusal.specs.declared.Fault.{Fault}
 use Rattle.refusal.specs.declared.Step.{Step}
@@ -19,7 +19,7 @@ use Rattle.refusal.specs.declared.Step.the-variants.{Next, Refused}
 use Rattle.refusal.specs.Fault.{stepFault, placeStep}
 use Rattle.refusal.proofs.Steps.{next-got, place-refused}
 use Rattle.cell.proofs.ReadLaws.{read-got-at}
-use Rattle.cell.proofs.ReadRows.{cellOnto, row-more, row-stop, stored-refused, stored-left, stored-whole}
+use Rattle.cell.proofs.ReadRuns.{cellOnto, run-more, run-stop, stored-refused, stored-left, stored-whole}
 use Rattle.ahead.specs.declared.Ahead.{Ahead}
 use Rattle.ahead.specs.Ahead.{AheadOf, Follows, lengthsFrom}
 use Rattle.ahead.proofs.AheadLaws.{read-empty, read-six, run-over}
@@ -30,7 +30,7 @@ use Rattle.scan.specs.Block.{walkOf, blockPassed}
 -- `left` cells are still to come, from `used` on, and the loop's answer is to be `answer`
 pub record Scanning (s : List ℕ) (answer : Step) (used left : ℕ) : Type 0 where
   pub inside : used ≤ length s
-  pub rest : answer ≡ placeStep used (readRow left used (drop used s))
+  pub rest : answer ≡ placeStep used (readRun left used (drop used s))
 
 onto-step : (used k : ℕ) (cell : List ℕ) (g : Got (List (List ℕ))) → placeStep used (cellOnto cell k g) ≡ placeStep (used + k) g
 onto-step used k cell (got cells n) = ap Next (sym (add-assoc used k n))
@@ -47,7 +47,7 @@ module _ {s : List ℕ} {answer : Step} where
       let r = cell-read used (drop used s) cell k e in
       record {
         inside = omega (arith, r .long, r .fits, length-drop used s);
-        rest = v .rest ∙ ap (placeStep used) (row-more s used left some e) ∙ onto-step used k cell (readRow (left - 1) (used + k) (drop (used + k) s));
+        rest = v .rest ∙ ap (placeStep used) (run-more s used left some e) ∙ onto-step used k cell (readRun (left - 1) (used + k) (drop (used + k) s));
       }
 
   -- A cell that was tried
@@ -58,12 +58,12 @@ module _ {s : List ℕ} {answer : Step} where
     pub scanning-stop : {f : Fault} → step ≡ Refused f → step ≡ answer
     scanning-stop told =
         told ∙ sym (v .rest
-        ∙ ap (placeStep used) (row-stop s used left some (place-refused used (readCell used (drop used s)) e told (sym (ap stepFault told)))))
+        ∙ ap (placeStep used) (run-stop s used left some (place-refused used (readCell used (drop used s)) e told (sym (ap stepFault told)))))
 
   pub scanning-done : {used left : ℕ} → Scanning s answer used left → left ≡ 0 → Next used ≡ answer
   scanning-done {used} v z =
       let u : used ≡ used + 0 = omega arith in
-      ap Next u ∙ sym (v .rest ∙ ap (λ (n : ℕ). placeStep used (readRow n used (drop used s))) z)
+      ap Next u ∙ sym (v .rest ∙ ap (λ (n : ℕ). placeStep used (readRun n used (drop used s))) z)
 
   -- A turn: empty cells, or one where six bytes stand, and a last one
   pub scanning-turn : {used left : ℕ} {r : Ahead} → Scanning s answer used left → 9 ≤ left → used + 21 ≤ length s → AheadOf s used r
@@ -99,19 +99,19 @@ pub block-less : (lengths : List ℕ) (size : ℕ) {left : ℕ} {walk : Walk} �
 block-less lengths size {left} h k e = rw e (walked-some (λ at u. u) lengths size left tt h k)
 
 -- A stored pattern with some data, by what its cells came to
-module _ (channels rows : ℕ) (d : List ℕ) (some : 1 ≤ length d) {step : Step} (e : step ≡ placeStep 0 (readRow (rows * channels) 0 d)) where
+module _ (channels rows : ℕ) (d : List ℕ) (some : 1 ≤ length d) {step : Step} (e : step ≡ placeStep 0 (readRun (rows * channels) 0 d)) where
   pub scan-refused : {f : Fault} → step ≡ Refused f → step ≡ placeStep 0 (readStored channels rows 0 d)
   scan-refused told =
-      told ∙ sym (ap (placeStep 0) (stored-refused channels rows d some (place-refused 0 (readRow (rows * channels) 0 d) e told (sym (ap stepFault told)))))
+      told ∙ sym (ap (placeStep 0) (stored-refused channels rows d some (place-refused 0 (readRun (rows * channels) 0 d) e told (sym (ap stepFault told)))))
 
   module _ {used : ℕ} (told : step ≡ Next used) where
     pub scan-left : used < length d → Refused (record { number = 8; place = used }) ≡ placeStep 0 (readStored channels rows 0 d)
     scan-left h =
-        next-got 0 (readRow (rows * channels) 0 d) (sym told ∙ e) λ cells n ec en.
+        next-got 0 (readRun (rows * channels) 0 d) (sym told ∙ e) λ cells n ec en.
         let u : used ≡ n = omega arith in
         rw u (sym (ap (placeStep 0) (stored-left channels rows d some ec (omega arith))))
 
     pub scan-whole : length d ≤ used → Next used ≡ placeStep 0 (readStored channels rows 0 d)
     scan-whole h =
-        next-got 0 (readRow (rows * channels) 0 d) (sym told ∙ e) λ cells n ec en.
+        next-got 0 (readRun (rows * channels) 0 d) (sym told ∙ e) λ cells n ec en.
         ap Next en ∙ sym (ap (placeStep 0) (stored-whole channels rows d some ec (omega arith)))

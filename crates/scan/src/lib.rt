@@ -6,7 +6,7 @@ ghost use mathlib.Core.Path.{_≡_};
 ghost use Prim.Native.Nat.{_≤_};
 ghost use lib.ListN.{length, drop};
 ghost use Rattle.xm.specs.Got.{AllHold};
-ghost use Rattle.xm.specs.Stored.{readRow, readStored};
+ghost use Rattle.xm.specs.Stored.{readRun, readStored};
 ghost use Rattle.xm.specs.Packing.{argumentTests};
 ghost use Rattle.refusal.specs.Fault.{placeStep};
 ghost use Rattle.scan.specs.Block.{walkOf, blockPassed};
@@ -20,7 +20,7 @@ struct Walk {
 // The cells from a place on, one by one.
 fn scan_from(stored: &[u8], from: usize, count: usize) -> Step
     requires { ⌜ from ≤ length (now stored) ⌝ }
-    ensures { λ r. ⌜ r ≡ placeStep from (readRow count from (drop from (now (stored .entry)))) ⌝ }
+    ensures { λ r. ⌜ r ≡ placeStep from (readRun count from (drop from (now (stored .entry)))) ⌝ }
 {
     let mut used = from;
     let mut left = count;
@@ -37,7 +37,7 @@ fn scan_from(stored: &[u8], from: usize, count: usize) -> Step
 
 // Where most cells are empty: two or more at a time, by the word that stands here.
 fn scan_sparse(stored: &[u8], count: usize) -> Step
-    ensures { λ r. ⌜ r ≡ placeStep 0 (readRow count 0 (now (stored .entry))) ⌝ }
+    ensures { λ r. ⌜ r ≡ placeStep 0 (readRun count 0 (now (stored .entry))) ⌝ }
 {
     let mut used: usize = 0;
     let mut left = count;
@@ -68,7 +68,7 @@ fn walk_block(lengths: &[u8], size: usize, count: usize) -> Walk
 // Where few are: the lengths of a block first, whatever its bytes are, so that from one cell to the next it is one load. A block whose
 // last cell is cut is tried again one by one, for its place.
 fn scan_dense(stored: &[u8], count: usize) -> Step
-    ensures { λ r. ⌜ r ≡ placeStep 0 (readRow count 0 (now (stored .entry))) ⌝ }
+    ensures { λ r. ⌜ r ≡ placeStep 0 (readRun count 0 (now (stored .entry))) ⌝ }
 {
     let mut lengths = [0u8; 64];
     let mut used: usize = 0;
@@ -87,9 +87,9 @@ fn scan_dense(stored: &[u8], count: usize) -> Step
     scan_from(stored, used, left)
 }
 
-// `count` cells in a row: dense if they take more than two bytes each.
+// A run of `count` cells: dense if they take more than two bytes each.
 fn scan_cells(stored: &[u8], count: usize) -> Step
-    ensures { λ r. ⌜ r ≡ placeStep 0 (readRow count 0 (now (stored .entry))) ⌝ }
+    ensures { λ r. ⌜ r ≡ placeStep 0 (readRun count 0 (now (stored .entry))) ⌝ }
 {
     if count < stored.len() / 2 {
         return scan_dense(stored, count);

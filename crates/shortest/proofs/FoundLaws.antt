@@ -10,28 +10,28 @@ use Rattle.xm.specs.Got.{accepted, listIn}
 use Rattle.xm.specs.Format.{joined}
 use Rattle.xm.specs.Answer.{inFront}
 use Rattle.xm.specs.Cell.{lengthBy, cellAt, writeCell}
-use Rattle.xm.specs.Stored.{Pattern, emptyRows, readRow, readCells, readStored, writeStored}
-use Rattle.xm.specs.Row.{cellsIn}
+use Rattle.xm.specs.Stored.{Pattern, emptyRows, readRun, readCells, readStored, writeStored}
+use Rattle.xm.specs.Run.{cellsIn}
 use Rattle.xm.proofs.Got.{accepted-got, got-accepted, passed, bind-got, got-value}
 use Rattle.xm.proofs.Format.{cons-path}
 use Rattle.xm.proofs.Cell.{length-some}
 use Rattle.xm.proofs.Lay.{Laid, laid-none, laid-done, laid-long}
 use Rattle.xm.proofs.Stored.{rows-none, write-none}
-use Rattle.xm.proofs.Row.{row-read, in-length, in-fives, cells-least, stored-cells}
+use Rattle.xm.proofs.Run.{run-read, in-length, in-fives, cells-least, stored-cells}
 use Rattle.cell.specs.Over.{overMost, Over}
 use Rattle.cell.proofs.ReadLaws.{empty-length, empty-cell}
-use Rattle.cell.proofs.ReadRows.{First, row-first, cells-first}
+use Rattle.cell.proofs.ReadRuns.{First, run-first, cells-first}
 use Rattle.cell.proofs.WriteLaws.{empty-written}
-use Rattle.cell.proofs.WriteRows.{writing-room, writing-part, writing-over, writing-empty}
+use Rattle.cell.proofs.WriteRuns.{writing-room, writing-part, writing-over, writing-empty}
 use Rattle.shortest.specs.Found.{storedPressed}
 
 -- The state of the loop: `left` cells are still to be written again, from `place` on
 pub record Rewriting (stored lent goal out : List ℕ) (place to left : ℕ) : Type 0 where
   pub inside : place ≤ length stored
-  pub fine : accepted (readRow left place (drop place stored)) ≡ true
+  pub fine : accepted (readRun left place (drop place stored)) ≡ true
   pub writing : Laid lent goal out to (joined writeCell (cellsIn left (drop place stored)))
 
-pub rewriting-none : (stored lent : List ℕ) (from count : ℕ) → from ≤ length stored → accepted (readRow count from (drop from stored)) ≡ true
+pub rewriting-none : (stored lent : List ℕ) (from count : ℕ) → from ≤ length stored → accepted (readRun count from (drop from stored)) ≡ true
     → length (joined writeCell (cellsIn count (drop from stored))) ≤ length lent
     → Rewriting stored lent (joined writeCell (cellsIn count (drop from stored))) lent from 0 count
 rewriting-none stored lent from count h g r = record { inside = h; fine = g; writing = laid-none lent (joined writeCell (cellsIn count (drop from stored))) r }
@@ -46,8 +46,8 @@ module _ {stored lent goal out : List ℕ} {place to left : ℕ} (f : Rewriting 
   -- as many bytes as cells are left to read, and to write
   pub rewriting-stored : place + left ≤ length stored
   rewriting-stored =
-      accepted-got (readRow left place (drop place stored)) (f .fine) λ cells used e.
-      let r = row-read left place (drop place stored) cells used e in
+      accepted-got (readRun left place (drop place stored)) (f .fine) λ cells used e.
+      let r = run-read left place (drop place stored) cells used e in
       omega (arith, r .least, r .inside, length-drop place stored, f .inside)
 
   rewriting-more : left ≤ length (joined writeCell (cellsIn left (drop place stored)))
@@ -58,7 +58,7 @@ module _ {stored lent goal out : List ℕ} {place to left : ℕ} (f : Rewriting 
 
   module _ (h : 0 < left) where
     first : First stored place left
-    first = row-first stored place left h (f .inside) (f .fine)
+    first = run-first stored place left h (f .inside) (f .fine)
 
     pub rewriting-fits : place + lengthBy (getD stored place 0) ≤ length stored
     rewriting-fits = first .fits
@@ -102,7 +102,7 @@ module _ {stored lent goal out : List ℕ} {place to left : ℕ} (f : Rewriting 
 
 -- A stored form that takes some bytes in its shortest form: its cells
 pub record CellsOf (rows channels : ℕ) (stored : List ℕ) : Type 0 where
-  pub fine : accepted (readRow (rows * channels) 0 stored) ≡ true
+  pub fine : accepted (readRun (rows * channels) 0 stored) ≡ true
   pub same : storedPressed rows channels stored ≡ joined writeCell (cellsIn (rows * channels) stored)
 
 pub stored-pressed : (rows channels : ℕ) (stored : List ℕ) → accepted (readStored channels rows 0 stored) ≡ true
@@ -111,11 +111,11 @@ pub stored-pressed : (rows channels : ℕ) (stored : List ℕ) → accepted (rea
 unfolding readStored readCells
 stored-pressed rows channels [] g h = absurd (omega (arith, ap length (write-none (emptyRows channels rows) (rows-none channels rows))))
 stored-pressed rows channels (b ∷ d) g h =
-    accepted-got (readStored channels rows 0 (b ∷ d)) g λ p n e. bind-got (readRow (rows * channels) 0 (b ∷ d)) _ e λ cells m ec e′. passed _ _ e′ λ t e′.
+    accepted-got (readStored channels rows 0 (b ∷ d)) g λ p n e. bind-got (readRun (rows * channels) 0 (b ∷ d)) _ e λ cells m ec e′. passed _ _ e′ λ t e′.
     let w = ap (listIn writeStored) e in
     record {
       fine = got-accepted ec;
       same =
           w ∙ stored-cells p (omega (arith, ap length w)) ∙ ap (λ (q : Pattern). joined writeCell (q .cells)) (sym (got-value e′))
-          ∙ ap (joined writeCell) (row-read (rows * channels) 0 (b ∷ d) cells m ec .same);
+          ∙ ap (joined writeCell) (run-read (rows * channels) 0 (b ∷ d) cells m ec .same);
     }

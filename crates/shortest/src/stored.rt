@@ -12,14 +12,14 @@ ghost use Rattle.xm.specs.Got.{accepted};
 ghost use Rattle.xm.specs.Format.{joined};
 ghost use Rattle.xm.specs.Answer.{inFront};
 ghost use Rattle.xm.specs.Cell.{writeCell};
-ghost use Rattle.xm.specs.Stored.{readRow};
-ghost use Rattle.xm.specs.Row.{cellsIn};
+ghost use Rattle.xm.specs.Stored.{readRun};
+ghost use Rattle.xm.specs.Run.{cellsIn};
 ghost use Rattle.shortest.specs.Found.{storedPressed, Known};
 
 // Stored cells that were accepted, from a place on, one by one, each in its shortest form at the front of out; how many bytes these take.
 fn press_each(stored: &[u8], from: usize, count: usize, out: &mut [u8]) -> usize
     requires { ⌜ from ≤ length (now stored) ⌝ }
-    requires { ⌜ accepted (readRow count from (drop from (now stored))) ≡ true ⌝ }
+    requires { ⌜ accepted (readRun count from (drop from (now stored))) ≡ true ⌝ }
     requires { ⌜ length (joined writeCell (cellsIn count (drop from (now stored)))) ≤ length (now out) ⌝ }
     ensures { λ r. ⌜ r ≡ length (joined writeCell (cellsIn count (drop from (now (stored .entry))))) ⌝ }
     ensures { λ _. ⌜ now (out .exit) ≡ inFront (joined writeCell (cellsIn count (drop from (now (stored .entry))))) (now (out .entry)) ⌝ }
@@ -39,7 +39,7 @@ fn press_each(stored: &[u8], from: usize, count: usize, out: &mut [u8]) -> usize
 // All of them. The lead byte 128 alone is an empty cell, as most are. A cell takes a byte at least, here and there: five behind this one
 // leave room for six bytes.
 fn press_cells(stored: &[u8], count: usize, out: &mut [u8]) -> usize
-    requires { ⌜ accepted (readRow count 0 (now stored)) ≡ true ⌝ }
+    requires { ⌜ accepted (readRun count 0 (now stored)) ≡ true ⌝ }
     requires { ⌜ length (joined writeCell (cellsIn count (now stored))) ≤ length (now out) ⌝ }
     ensures { λ r. ⌜ r ≡ length (joined writeCell (cellsIn count (now (stored .entry)))) ⌝ }
     ensures { λ _. ⌜ now (out .exit) ≡ inFront (joined writeCell (cellsIn count (now (stored .entry)))) (now (out .entry)) ⌝ }

@@ -13,7 +13,7 @@ use Rattle.xm.specs.PatternInFile.{patternHeadSizeAt, rowsAt, dataSizeAt, patte
 use Rattle.xm.proofs.Number.{bytes-drop, bytes-take, word-small, long-small}
 use Rattle.xm.proofs.Got.{pass, step, step-refused}
 use Rattle.xm.proofs.Fault.{stored-faults}
-use Rattle.xm.proofs.Row.{shifted, stored-shifted}
+use Rattle.xm.proofs.Run.{shifted, stored-shifted}
 use Rattle.refusal.specs.Fault.{refusalIn, placeStep}
 use Rattle.refusal.specs.declared.Fault.{Fault}
 use Rattle.refusal.specs.declared.Step.the-variants.{Next}

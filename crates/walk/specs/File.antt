@@ -22,7 +22,7 @@ use Rattle.walk.specs.declared.WalkStep.the-variants as walked
 use Rattle.walk.specs.declared.Verdict.{Verdict}
 use Rattle.walk.specs.declared.Verdict.the-variants as verdict
 
--- Structures in a row, as they are written within a format.
+-- A run of structures, as they are written within a format.
 abbrev pub runStep : {H I A : Type 0} → Format H I A → (place : ℕ) → Got (List I) → RunStep
 runStep F place (got is used) = run.Read (record { next = place + used; pressed = length (each F .write (each F .view is)) })
 runStep F place (refused r) = run.Refused (faultOf r)
@@ -41,7 +41,7 @@ abbrev pub runFault : RunStep → Fault
 runFault (run.Read part) = noFault
 runFault (run.Refused fault) = fault
 
--- Instruments in a row, and how many samples they have.
+-- A run of instruments, and how many samples they have.
 abbrev pub countStep : (place : ℕ) → Got (List InstrumentFound) → CountStep
 countStep place (got is used) = count.Read (record { next = place + used; samples = length (joined sampleRowsIn is) })
 countStep place (refused r) = count.Refused (faultOf r)

@@ -35,10 +35,10 @@ ghost use Rattle.mark.specs.Mark.{Marks};
 ghost use Rattle.steps.specs.Step.{headerStep};
 ghost use Rattle.walk.specs.File.{patternsStep, instrumentsStep, runFault, runPressed, countStep, countFault, walkStep, walkFault, verdictOf};
 
-// "A file is at most 16,777,216 bytes"
+// "2 | file over 16,777,216 bytes"
 const FILE_MOST: usize = 16777216;
 
-// Structures in a row: where they end, and the bytes of their pressed forms.
+// A run of structures, one after the other: where they end, and the bytes of their pressed forms.
 struct Run {
     next: usize,
     pressed: usize,
@@ -49,7 +49,7 @@ enum RunStep {
     Refused(Fault),
 }
 
-// Instruments in a row: where they end, and how many samples they have.
+// A run of instruments: where they end, and how many samples they have.
 struct Count {
     next: usize,
     samples: usize,
@@ -80,7 +80,7 @@ pub enum Verdict {
     Refused(Fault),
 }
 
-// The refusal of structures in a row, to be passed on.
+// The refusal of a run, to be passed on.
 fn fault_of_run(step: RunStep) -> Fault
     ensures { λ r. ⌜ r ≡ runFault step ⌝ }
 {

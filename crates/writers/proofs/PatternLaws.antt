@@ -18,7 +18,7 @@ use Rattle.xm.specs.PatternInFile.{dataMost, patternTests, PatternFound, readPa
 use Rattle.xm.proofs.Number.{bytes-drop, bytes-take, word-small, part-drop}
 use Rattle.xm.proofs.Got.{passed, bind-got, got-value, got-used, got-accepted}
 use Rattle.xm.proofs.Stored.{stored-keeps, stored-rows}
-use Rattle.xm.proofs.Row.{stored-anywhere, stored-nothing}
+use Rattle.xm.proofs.Run.{stored-anywhere, stored-nothing}
 use Rattle.shortest.specs.Found.{storedPressed, Known}
 use Rattle.mark.specs.Mark.{copied, nothing, Marked}
 use Rattle.mark.proofs.MarkLaws.{marked-nothing, marked-copied}

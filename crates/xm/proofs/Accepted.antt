@@ -33,7 +33,7 @@ use Rattle.xm.proofs.Got.{pass}
 use Rattle.xm.proofs.Answer.{answer-gives, answer-refuses, tests-fail}
 use Rattle.xm.proofs.Format.{joined-length, all-append, each-length}
 use Rattle.xm.proofs.Packing.{unpack-gives}
-use Rattle.xm.proofs.Row.{stored-anywhere}
+use Rattle.xm.proofs.Run.{stored-anywhere}
 use Rattle.xm.proofs.PatternInFile.{PatternTold}
 use Rattle.xm.proofs.Sample.{HeadTold, DataTold, Sized, SamplesTold}
 use Rattle.xm.proofs.Instrument.{normal-wide}

@@ -8,7 +8,7 @@ pub mod Cut
 pub mod Cell
 pub mod Stored
 pub mod Short
-pub mod Row
+pub mod Run
 pub mod Packing
 pub mod Delta
 pub mod Adpcm

@@ -24,7 +24,7 @@ use Rattle.xm.proofs.Cell.{five-bytes}
 use Rattle.xm.proofs.Stored.{pattern-path, Fives, Full, flat-length, cells-flat, flat-cells, cells-length, cells-fives, good-count}
 use Rattle.xm.proofs.Stored.{good-fives, empty-flat, rows-good, rows-none, none-rows, write-none, write-cells, product-some}
 use Rattle.xm.proofs.Stored.{stored-none, stored-plain, stored-back, StoredKept, stored-keeps, stored-rows, stored-most, stored-full}
-use Rattle.xm.proofs.Row.{cells-least}
+use Rattle.xm.proofs.Run.{cells-least}
 use Rattle.xm.proofs.Fault.{fault-numbered, stored-faults}
 use Rattle.xm.proofs.Answer.{answer-gives, answer-refuses, gives-passed, gives-bound, gives-same, refuses-refused, gives-refuses, tests-fail}
 use Rattle.xm.proofs.Answer.{refused-passed, SoundRefusal, read-sound, promise-kept, loader-tells, accepted-gives, reported-written}

@@ -39,7 +39,7 @@ numbers fs answer = numberOf answer ∷ placeOf answer ∷ map (λ f. result f a
 abbrev pub inFront : {B : Type 0} → (written lent : List B) → List B
 inFront written lent = written ++ drop (length written) lent
 
--- "A refused call changes nothing in the memory it was lent."
+-- A refused call changes nothing: "All lent memory holds what it held."
 abbrev pub after : {A B : Type 0} → (A → List B) → Answer A → (lent : List B) → List B
 after written (gives a) lent = inFront (written a) lent
 after written (refuses r) lent = lent

@@ -11,7 +11,7 @@ pub mod Module
 pub mod Cell
 pub mod Stored
 pub mod Short
-pub mod Row
+pub mod Run
 pub mod Packing
 pub mod Delta
 pub mod Adpcm

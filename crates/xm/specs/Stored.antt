@@ -25,13 +25,13 @@ abbrev pub emptyRows : (channels rows : ℕ) → Pattern
 emptyRows channels rows = record { rows = rows; cells = replicate (rows * channels) (replicate cellSize 0) }
 
 -- So many cells, one after the other.
-abbrev pub readRow : (count : ℕ) → Reader (List (List ℕ))
-readRow count place d = each cellFormat .read (replicate count tt) place d
+abbrev pub readRun : (count : ℕ) → Reader (List (List ℕ))
+readRun count place d = each cellFormat .read (replicate count tt) place d
 
 -- "With S above 0 the cells must fill S exactly": 8 at "the first byte left over".
 unfoldable pub readCells : (channels rows : ℕ) → Reader Pattern
 readCells channels rows place d = do
-  (cells, used) ← readRow (rows * channels) place d
+  (cells, used) ← readRun (rows * channels) place d
   checked (atMost 0 (length d - used) (8 at (place + used)) ∷ [])
   got (record { rows = rows; cells = cells }) used
 

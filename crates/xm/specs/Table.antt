@@ -154,7 +154,7 @@ roomTests room found =
     ∷ present (length (sampleRows found)) (room .samples) (14 at 0)
     ∷ []
 
--- "14 is tried last of all."
+-- "14 is tried last of all".
 unfoldable pub checkingInto : Room → (file : List ℕ) → Answer CheckReport
 checkingInto room file = answered checkedAs (do
   (found, end) ← readFile file

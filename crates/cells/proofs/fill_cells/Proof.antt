@@ -10,7 +10,7 @@ use lib.ListN.{length, take, drop, length-drop, length-append}
 use denote.Ref.{now}
 use Rattle.xm.specs.Format.{flat}
 use Rattle.xm.specs.Answer.{inFront}
-use Rattle.xm.specs.Row.{cellsIn}
+use Rattle.xm.specs.Run.{cellsIn}
 use Rattle.xm.proofs.Lay.{part-all}
 use Rattle.cell.specs.Read.{cellFields}
 use Rattle.cell.proofs.ReadLaws.{fields-of}

@@ -5,12 +5,12 @@ use native.Mathlib.Omega.{arith}
 use lib.ListN.{getD, drop, length-drop}
 use denote.Ref.{now}
 use Rattle.xm.specs.Format.{flat}
-use Rattle.xm.specs.Row.{cellsIn}
+use Rattle.xm.specs.Run.{cellsIn}
 use Rattle.xm.proofs.Cell.{length-some}
 use Rattle.xm.proofs.Lay.{part-all}
 use Rattle.cell.specs.Read.{cellFields}
 use Rattle.cell.proofs.ReadLaws.{fields-of}
-use Rattle.cell.proofs.ReadRows.{First, row-first}
+use Rattle.cell.proofs.ReadRuns.{First, run-first}
 use Rattle.cells.proofs.Fill.{Filling, filling-none, filling-more, filling-done}
 use borrow.Author.Needs.{needs}
 use Rattle.cells.proofs.fill_each.Statement.{statement}
@@ -25,7 +25,7 @@ abbrev μ-loop : tie.MeasureT-loop
 first-cell : (c : tie.In-loop Inv-loop μ-loop) → First (now (c .before .before .before .before .args .stored)) (c .before .loop .at) (c .before .loop .left)
 first-cell c =
     let l = c .before .loop in
-    row-first (now (c .before .before .before .before .args .stored)) (l .at) (l .left) (c .loop-test .taken) (l .inv .inside) (l .inv .fine)
+    run-first (now (c .before .before .before .before .args .stored)) (l .at) (l .left) (c .loop-test .taken) (l .inv .inside) (l .inv .fine)
 
 loop-holds : tie.Need-loop-holds Inv-loop μ-loop
 loop-holds c =

@@ -9,7 +9,7 @@ use borrow.Author.Tests.{ltb-true}
 use denote.Ref.{now}
 use lib.Dec.{eqb}
 use lib.ListN.{length, drop}
-use Rattle.xm.specs.Stored.{readRow}
+use Rattle.xm.specs.Stored.{readRun}
 use Rattle.ahead.specs.Ahead.{blockSize}
 use Rattle.measure.specs.Measure.{measuredOn}
 use Rattle.measure.proofs.Weighing.{Weighing, skip-start, weighing-block, weighed-less}
@@ -18,7 +18,7 @@ use Rattle.measure.proofs.measure_cells.Tie as tie
 
 abbrev Inv-loop : tie.InvT-loop
 Inv-loop stored count lengths₀ weights₀ used₀ left₀ extra₀ odd₀ lengths weights used left extra odd =
-    Weighing stored (measuredOn 0 0 true stored (readRow count 0 stored)) count used left extra odd
+    Weighing stored (measuredOn 0 0 true stored (readRun count 0 stored)) count used left extra odd
     × (length lengths ≡ blockSize)
     × (length weights ≡ blockSize)
 
@@ -133,7 +133,7 @@ returns c =
     let n = short (c .before .before) in
     let s = now (c .before .before .before .before .before .before .before .before .args .stored) in
     c .measure-from .ensures
-    ∙ ap₂ (λ (n : ℕ) (same : Bool). measuredOn (l .used) n same (drop (l .used) s) (readRow (l .left) (l .used) (drop (l .used) s))) n
+    ∙ ap₂ (λ (n : ℕ) (same : Bool). measuredOn (l .used) n same (drop (l .used) s) (readRun (l .left) (l .used) (drop (l .used) s))) n
     (c .before .stands .ensures ∙ ap (λ (n : ℕ). eqb (l .odd) 0 && eqb n (l .used)) n ∙ sym (v .even))
     ∙ sym (v .measuring .rest)
 

@@ -4,7 +4,7 @@ use native.Mathlib.Omega.{arith}
 use lib.ListN.{getD, drop}
 use denote.Ref.{now}
 use Rattle.xm.specs.Short.{shortestBy}
-use Rattle.xm.specs.Stored.{readRow}
+use Rattle.xm.specs.Stored.{readRun}
 use Rattle.xm.proofs.Cell.{length-some}
 use Rattle.refusal.proofs.Steps.{place-refused}
 use Rattle.cell.specs.declared.read.Cell.{Cell}
@@ -17,7 +17,7 @@ use Rattle.measure.proofs.measure_from.Tie as tie
 
 abbrev Inv-loop : tie.InvT-loop
 Inv-loop stored from count before alike used₀ shortest₀ same₀ left₀ used shortest same left =
-    Measuring stored (measuredOn from before alike (drop from stored) (readRow count from (drop from stored))) used shortest same left
+    Measuring stored (measuredOn from before alike (drop from stored) (readRun count from (drop from stored))) used shortest same left
 
 abbrev μ-loop : tie.MeasureT-loop
 μ-loop stored from count before alike used₀ shortest₀ same₀ left₀ used shortest same left = left

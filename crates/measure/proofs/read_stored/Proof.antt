@@ -1,7 +1,7 @@
 -- `measure::read_stored` meets its contract: a law for each exit. Assumes nothing.
 use native.Mathlib.Omega.{arith}
 use denote.Ref.{now}
-use Rattle.cell.proofs.ReadRows.{count-most}
+use Rattle.cell.proofs.ReadRuns.{count-most}
 use Rattle.measure.proofs.Stored.{measured-none, measured-refused, measured-left, measured-nothing, measured-whole}
 use borrow.Author.Needs.{needs}
 use Rattle.measure.proofs.read_stored.Statement.{statement}

@@ -8,7 +8,7 @@ use borrow.Author.Needs.{needs}
 use borrow.Author.Tests.{leb-true}
 use denote.Ref.{now}
 use lib.ListN.{length}
-use Rattle.xm.specs.Stored.{readRow}
+use Rattle.xm.specs.Stored.{readRun}
 use Rattle.ahead.specs.Ahead.{WordAt}
 use Rattle.measure.specs.Measure.{measuredOn}
 use Rattle.measure.proofs.Weighing.{Weighing, weighing-start, weighing-turn, skip-end}
@@ -17,7 +17,7 @@ use Rattle.measure.proofs.skip_short.Tie as tie
 
 abbrev Inv-loop : tie.InvT-loop
 Inv-loop stored count used₀ left₀ word₀ used left word =
-    Weighing stored (measuredOn 0 0 true stored (readRow count 0 stored)) count used left (count - left) 0 × WordAt stored used word
+    Weighing stored (measuredOn 0 0 true stored (readRun count 0 stored)) count used left (count - left) 0 × WordAt stored used word
 
 abbrev μ-loop : tie.MeasureT-loop
 μ-loop stored count used₀ left₀ word₀ used left word = left

@@ -7,7 +7,7 @@ use Rattle.xm.specs.Got.{AllHold}
 use Rattle.xm.specs.Packing.{argumentTests}
 use Rattle.xm.proofs.Got.{no-true, all-pass, all-hold}
 use Rattle.xm.proofs.Packing.{PackRange}
-use Rattle.cell.proofs.ReadRows.{count-most}
+use Rattle.cell.proofs.ReadRuns.{count-most}
 use Rattle.packing.proofs.Exits.{form-path, CellsSized, sized, sized-cells, packs-argument, packs-large, packs-narrow, packs-nothing, packs-cells}
 use Rattle.packing.proofs.pack.Statement.{statement}
 use Rattle.packing.proofs.pack.Tie as tie

@@ -11,7 +11,7 @@ use Rattle.xm.specs.Stored.{cellsOf}
 use Rattle.xm.proofs.Lay.{part-all, Laid, laid-none, laid-last}
 use Rattle.cell.specs.Over.{overMost}
 use Rattle.cell.proofs.WriteLaws.{empty-written}
-use Rattle.cell.proofs.WriteRows.{writing-room, writing-over, writing-empty}
+use Rattle.cell.proofs.WriteRuns.{writing-room, writing-over, writing-empty}
 use Rattle.packing.proofs.Lent.{lent-first, lent-least}
 use Rattle.packing.proofs.write_cells.Statement.{statement}
 use Rattle.packing.proofs.write_cells.Tie as tie

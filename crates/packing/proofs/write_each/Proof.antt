@@ -8,7 +8,7 @@ use Rattle.xm.specs.Format.{joined}
 use Rattle.xm.specs.Cell.{five, writeCell}
 use Rattle.xm.specs.Stored.{cellsOf}
 use Rattle.xm.proofs.Lay.{part-all, Laid, laid-none, laid-done}
-use Rattle.cell.proofs.WriteRows.{writing-room, writing-part}
+use Rattle.cell.proofs.WriteRuns.{writing-room, writing-part}
 use Rattle.packing.proofs.Lent.{lent-first, lent-none}
 use Rattle.packing.proofs.write_each.Statement.{statement}
 use Rattle.packing.proofs.write_each.Tie as tie

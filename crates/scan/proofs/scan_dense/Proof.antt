@@ -3,7 +3,7 @@ use mathlib.Core.Path.{_≡_, refl, sym, _∙_}
 use native.Mathlib.Omega.{arith}
 use borrow.Author.Tests.{ltb-true}
 use lib.ListN.{length}
-use Rattle.xm.specs.Stored.{readRow}
+use Rattle.xm.specs.Stored.{readRun}
 use Rattle.refusal.specs.Fault.{placeStep}
 use Rattle.ahead.specs.Ahead.{blockSize}
 use Rattle.scan.proofs.BlockLaws.{Scanning, scanning-block, block-less}
@@ -12,7 +12,7 @@ use Rattle.scan.proofs.scan_dense.Statement.{statement}
 use Rattle.scan.proofs.scan_dense.Tie as tie
 
 abbrev Inv-loop : tie.InvT-loop
-Inv-loop stored count lengths₀ used₀ left₀ lengths used left = Scanning stored (placeStep 0 (readRow count 0 stored)) used left × (length lengths ≡ blockSize)
+Inv-loop stored count lengths₀ used₀ left₀ lengths used left = Scanning stored (placeStep 0 (readRun count 0 stored)) used left × (length lengths ≡ blockSize)
 
 abbrev μ-loop : tie.MeasureT-loop
 μ-loop stored count lengths₀ used₀ left₀ lengths used left = left

@@ -2,7 +2,7 @@
 use mathlib.Core.Path.{refl}
 use native.Mathlib.Omega.{arith}
 use lib.ListN.{drop}
-use Rattle.xm.specs.Stored.{readRow}
+use Rattle.xm.specs.Stored.{readRun}
 use Rattle.refusal.specs.Fault.{placeStep}
 use Rattle.scan.proofs.BlockLaws.{Scanning, scanning-next, scanning-stop, scanning-done}
 use borrow.Author.Needs.{needs}
@@ -10,7 +10,7 @@ use Rattle.scan.proofs.scan_from.Statement.{statement}
 use Rattle.scan.proofs.scan_from.Tie as tie
 
 abbrev Inv-loop : tie.InvT-loop
-Inv-loop stored from count used₀ left₀ used left = Scanning stored (placeStep from (readRow count from (drop from stored))) used left
+Inv-loop stored from count used₀ left₀ used left = Scanning stored (placeStep from (readRun count from (drop from stored))) used left
 
 abbrev μ-loop : tie.MeasureT-loop
 μ-loop stored from count used₀ left₀ used left = left

@@ -6,7 +6,7 @@ use native.Mathlib.Omega.{arith}
 use borrow.Author.Tests.{leb-true}
 use lib.ListN.{length}
 use denote.Ref.{now}
-use Rattle.xm.specs.Stored.{readRow}
+use Rattle.xm.specs.Stored.{readRun}
 use Rattle.refusal.specs.Fault.{placeStep}
 use Rattle.ahead.specs.Ahead.{WordAt}
 use Rattle.scan.proofs.BlockLaws.{Scanning, scanning-turn}
@@ -15,7 +15,7 @@ use Rattle.scan.proofs.scan_sparse.Statement.{statement}
 use Rattle.scan.proofs.scan_sparse.Tie as tie
 
 abbrev Inv-loop : tie.InvT-loop
-Inv-loop stored count used₀ left₀ word₀ used left word = Scanning stored (placeStep 0 (readRow count 0 stored)) used left × WordAt stored used word
+Inv-loop stored count used₀ left₀ word₀ used left word = Scanning stored (placeStep 0 (readRun count 0 stored)) used left × WordAt stored used word
 
 abbrev μ-loop : tie.MeasureT-loop
 μ-loop stored count used₀ left₀ word₀ used left word = left

@@ -1,7 +1,7 @@
 -- `cell::pattern::stored_size` meets its contract. Assumes nothing.
 use native.Mathlib.Omega.{arith}
 use borrow.Author.Tests.{eq-eqb, ne-eqb}
-use Rattle.xm.specs.Row.{sizeBy}
+use Rattle.xm.specs.Run.{sizeBy}
 use Rattle.cell.proofs.pattern.stored_size.Statement.{statement}
 use Rattle.cell.proofs.pattern.stored_size.Tie as tie
 

@@ -1,4 +1,4 @@
--- `cell::write::copy_plain` meets its contract: five stores in a row. Assumes nothing.
+-- `cell::write::copy_plain` meets its contract: five stores. Assumes nothing.
 use Prim.Native.Nat.{ℕ}
 use mathlib.Core.Path.{sym, ap, _∙_}
 use mathlib.Core.List.{List}

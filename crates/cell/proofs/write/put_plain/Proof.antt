@@ -1,4 +1,4 @@
--- `cell::write::put_plain` meets its contract: five stores in a row. Assumes nothing.
+-- `cell::write::put_plain` meets its contract: five stores. Assumes nothing.
 use borrow.Author.Needs.{needs}
 use native.Mathlib.Omega.{arith}
 use lib.ListN.{length-set}

@@ -4,8 +4,8 @@ use native.Mathlib.Omega.{arith}
 use lib.ListN.{length-drop}
 use Rattle.xm.specs.ModuleKind.{kindBy}
 use Rattle.xm.proofs.Lay.{part-all}
-use Rattle.press.proofs.RowLaws.{InstrumentsLeft, instruments-none, instrument-inside, instrument-room, instrument-never, instruments-more}
-use Rattle.press.proofs.RowLaws.{instruments-done}
+use Rattle.press.proofs.LoopLaws.{InstrumentsLeft, instruments-none, instrument-inside, instrument-room, instrument-never, instruments-more}
+use Rattle.press.proofs.LoopLaws.{instruments-done}
 use borrow.Author.Needs.{needs}
 use Rattle.press.proofs.module.write_instruments.Statement.{statement}
 use Rattle.press.proofs.module.write_instruments.Tie as tie

@@ -5,7 +5,7 @@ use native.Mathlib.Omega.{arith}
 use lib.ListN.{length-drop}
 use Rattle.xm.proofs.Lay.{part-all}
 use Rattle.writers.proofs.PatternLaws.{head-inside, pattern-inside}
-use Rattle.press.proofs.RowLaws.{PatternsLeft, patterns-none, pattern-told, pattern-room, patterns-more, patterns-done}
+use Rattle.press.proofs.LoopLaws.{PatternsLeft, patterns-none, pattern-told, pattern-room, patterns-more, patterns-done}
 use borrow.Author.Needs.{needs}
 use Rattle.press.proofs.module.write_patterns.Statement.{statement}
 use Rattle.press.proofs.module.write_patterns.Tie as tie

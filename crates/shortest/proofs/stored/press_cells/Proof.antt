@@ -5,7 +5,7 @@ use borrow.Author.Needs.{needs}
 use lib.ListN.{length-drop}
 use Rattle.xm.specs.Format.{joined}
 use Rattle.xm.specs.Cell.{writeCell}
-use Rattle.xm.specs.Row.{cellsIn}
+use Rattle.xm.specs.Run.{cellsIn}
 use Rattle.xm.proofs.Lay.{part-all, laid-last}
 use Rattle.shortest.proofs.FoundLaws.{Rewriting, rewriting-none, rewriting-stored, rewriting-lent, rewriting-here, rewriting-room, rewriting-over}
 use Rattle.shortest.proofs.FoundLaws.{empty-room, rewriting-empty}

@@ -5,7 +5,7 @@ use native.Mathlib.Omega.{arith}
 use lib.ListN.{drop, length-drop}
 use Rattle.xm.specs.Format.{joined}
 use Rattle.xm.specs.Cell.{writeCell}
-use Rattle.xm.specs.Row.{cellsIn}
+use Rattle.xm.specs.Run.{cellsIn}
 use Rattle.xm.proofs.Lay.{part-all}
 use Rattle.shortest.proofs.FoundLaws.{Rewriting, rewriting-none, rewriting-done, rewriting-here, rewriting-fits, rewriting-room, rewriting-part}
 use Rattle.shortest.proofs.stored.press_each.Statement.{statement}

@@ -1,4 +1,4 @@
--- Cells in a row, of which the first is written next. Assumes nothing.
+-- A run of cells, of which the first is written next. Assumes nothing.
 use Prim.Native.Nat.{ℕ, _+_, _-_, _≤_}
 use mathlib.Core.Path.{_≡_, refl, ap, _∙_}
 use mathlib.Core.List.{List, [], _∷_, _++_}

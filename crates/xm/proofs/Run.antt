@@ -1,4 +1,4 @@
--- Laws of stored cells in a row: what an accepted row says, that its place does not matter, and that cells are all empty exactly if
+-- Laws of a run of stored cells: what an accepted run says, that its place does not matter, and that cells are all empty exactly if
 -- they take a byte each. Assumes nothing.
 use Prim.Native.Nat.{ℕ, zero, suc, _+_, _-_, _*_, _≤_}
 use mathlib.Core.Bool.{Bool, true, false, cond, _&&_}
@@ -12,33 +12,33 @@ use lib.ListN.{length, getD, drop, length-append, length-drop}
 use Rattle.xm.specs.Got.{Got, got, refused, _>>=_, _>>_, ensure, checked, atMost, accepted, _at_}
 use Rattle.xm.specs.Format.{joined, flat}
 use Rattle.xm.specs.Cell.{needed, cellAt, readCell, bit, kepts, goesPlain, writeCell}
-use Rattle.xm.specs.Stored.{Pattern, readRow, readCells, readStored, allZero, needsNoData, writeStored}
-use Rattle.xm.specs.Row.{cellsIn, sizeBy}
+use Rattle.xm.specs.Stored.{Pattern, readRun, readCells, readStored, allZero, needsNoData, writeStored}
+use Rattle.xm.specs.Run.{cellsIn, sizeBy}
 use Rattle.xm.proofs.Got.{not-both, accepted-got, got-accepted, bind-got, got-value, got-used}
 use Rattle.xm.proofs.Format.{cons-path}
 use Rattle.xm.proofs.Cell.{bit-none, bit-some, kept-length, marked-length, length-some, cell-length}
 use Rattle.xm.proofs.Cell.{cell-read, write-plain, write-marked, write-some, write-short, plain-many}
 use Rattle.xm.proofs.Stored.{Fives, zero-append, write-none, write-cells}
 
--- What an accepted row says: which cells it has, that each takes a byte or more, and that they are written in no more bytes
-pub record RowRead (count : ℕ) (s : List ℕ) (cells : List (List ℕ)) (used : ℕ) : Type 0 where
+-- What an accepted run says: which cells it has, that each takes a byte or more, and that they are written in no more bytes
+pub record RunRead (count : ℕ) (s : List ℕ) (cells : List (List ℕ)) (used : ℕ) : Type 0 where
   pub same : cells ≡ cellsIn count s
   pub least : count ≤ used
   pub inside : used ≤ length s
   pub short : length (joined writeCell cells) ≤ used
 
-pub row-read : (count place : ℕ) (s : List ℕ) (cells : List (List ℕ)) (used : ℕ) → readRow count place s ≡ got cells used → RowRead count s cells used
+pub run-read : (count place : ℕ) (s : List ℕ) (cells : List (List ℕ)) (used : ℕ) → readRun count place s ≡ got cells used → RunRead count s cells used
 unfolding cellsIn
-row-read zero place s cells used e = record {
+run-read zero place s cells used e = record {
   same = sym (got-value e);
   least = omega arith;
   inside = omega (arith, got-used e);
   short = rw (← got-value e) (omega arith);
 }
-row-read (suc count) place s cells used e =
-    bind-got (readCell place s) _ e λ c k ec e. bind-got (readRow count (place + k) (drop k s)) _ e λ cs m es e.
+run-read (suc count) place s cells used e =
+    bind-got (readCell place s) _ e λ c k ec e. bind-got (readRun count (place + k) (drop k s)) _ e λ cs m es e.
     let c = cell-read place s c k ec in
-    let r = row-read count (place + k) (drop k s) cs m es in
+    let r = run-read count (place + k) (drop k s) cs m es in
     let same : cells ≡ cellAt s ∷ cs = sym (got-value e) ∙ cons-path (c .same) refl in
     record {
       same = same ∙ cons-path refl (r .same ∙ ap (λ (n : ℕ). cellsIn count (drop n s)) (c .long));
@@ -85,15 +85,15 @@ module _ (base : ℕ) where
       go true = refl
       go false = refl
 
-  pub row-shifted : (count place : ℕ) (s : List ℕ) → readRow count (base + place) s ≡ shifted base (readRow count place s)
+  pub run-shifted : (count place : ℕ) (s : List ℕ) → readRun count (base + place) s ≡ shifted base (readRun count place s)
   unfolding shifted
-  row-shifted zero place s = refl
-  row-shifted (suc count) place s =
-      ap (λ (g : Got (List ℕ)). g >>= (λ (i, n). readRow count (base + place + n) (drop n s) >>= (λ (is, m). got (i ∷ is) (n + m)))) (cell-shifted place s)
+  run-shifted zero place s = refl
+  run-shifted (suc count) place s =
+      ap (λ (g : Got (List ℕ)). g >>= (λ (i, n). readRun count (base + place + n) (drop n s) >>= (λ (is, m). got (i ∷ is) (n + m)))) (cell-shifted place s)
       ∙ shifted-bind (readCell place s) _ _ λ i n.
-      ap (λ (p : ℕ). readRow count p (drop n s) >>= (λ (is, m). got (i ∷ is) (n + m))) (add-assoc base place n)
-      ∙ ap (λ (g : Got (List (List ℕ))). g >>= (λ (is, m). got (i ∷ is) (n + m))) (row-shifted count (place + n) (drop n s))
-      ∙ shifted-bind (readRow count (place + n) (drop n s)) _ _ (λ is m. refl)
+      ap (λ (p : ℕ). readRun count p (drop n s) >>= (λ (is, m). got (i ∷ is) (n + m))) (add-assoc base place n)
+      ∙ ap (λ (g : Got (List (List ℕ))). g >>= (λ (is, m). got (i ∷ is) (n + m))) (run-shifted count (place + n) (drop n s))
+      ∙ shifted-bind (readRun count (place + n) (drop n s)) _ _ (λ is m. refl)
 
   module _ (rows : ℕ) (d : List ℕ) where
     rest : (place : ℕ) → List (List ℕ) × ℕ → Got Pattern
@@ -113,9 +113,9 @@ module _ (base : ℕ) where
     cells-shifted : (channels : ℕ) → readCells channels rows base d ≡ shifted base (readCells channels rows 0 d)
     unfolding readCells rest
     cells-shifted channels =
-        ap (λ (p : ℕ). readRow (rows * channels) p d >>= rest base) (sym (add-zero base))
-        ∙ ap (λ (g : Got (List (List ℕ))). g >>= rest base) (row-shifted (rows * channels) 0 d)
-        ∙ shifted-bind (readRow (rows * channels) 0 d) (rest 0) (rest base) (λ cells used. rest-shifted cells used)
+        ap (λ (p : ℕ). readRun (rows * channels) p d >>= rest base) (sym (add-zero base))
+        ∙ ap (λ (g : Got (List (List ℕ))). g >>= rest base) (run-shifted (rows * channels) 0 d)
+        ∙ shifted-bind (readRun (rows * channels) 0 d) (rest 0) (rest base) (λ cells used. rest-shifted cells used)
 
   pub stored-shifted : (channels rows : ℕ) (d : List ℕ) → readStored channels rows base d ≡ shifted base (readStored channels rows 0 d)
   unfolding readStored shifted
@@ -123,14 +123,14 @@ module _ (base : ℕ) where
   stored-shifted channels rows (b ∷ d) = cells-shifted rows (b ∷ d) channels
 
 -- So an accepted reading is accepted anywhere
-pub row-anywhere : (count place other : ℕ) (s : List ℕ) (cells : List (List ℕ)) (used : ℕ) → readRow count place s ≡ got cells used
-    → readRow count other s ≡ got cells used
+pub run-anywhere : (count place other : ℕ) (s : List ℕ) (cells : List (List ℕ)) (used : ℕ) → readRun count place s ≡ got cells used
+    → readRun count other s ≡ got cells used
 unfolding shifted
-row-anywhere count place other s cells used e =
-    from other ∙ ap (shifted other) (shifted-got place (readRow count 0 s) (sym (from place) ∙ e))
+run-anywhere count place other s cells used e =
+    from other ∙ ap (shifted other) (shifted-got place (readRun count 0 s) (sym (from place) ∙ e))
   where
-    from : (base : ℕ) → readRow count base s ≡ shifted base (readRow count 0 s)
-    from base = ap (λ (p : ℕ). readRow count p s) (sym (add-zero base)) ∙ row-shifted base count 0 s
+    from : (base : ℕ) → readRun count base s ≡ shifted base (readRun count 0 s)
+    from base = ap (λ (p : ℕ). readRun count p s) (sym (add-zero base)) ∙ run-shifted base count 0 s
 
 pub stored-anywhere : (channels rows place other : ℕ) (d : List ℕ) (p : Pattern) (used : ℕ) → readStored channels rows place d ≡ got p used
     → readStored channels rows other d ≡ got p used

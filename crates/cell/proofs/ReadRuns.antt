@@ -1,4 +1,4 @@
--- Laws of stored cells in a row: the first one, and the rest from behind it; and a stored pattern by its cells. Assumes nothing.
+-- Laws of a run of stored cells: the first one, and the rest from behind it; and a stored pattern by its cells. Assumes nothing.
 use Prim.Native.Nat.{ℕ, zero, suc, _+_, _-_, _*_, _≤_, _<_}
 use mathlib.Core.Bool.{true}
 use mathlib.Core.List.{List, _∷_}
@@ -9,8 +9,8 @@ use lib.ListN.{length, getD, drop, length-drop}
 use lib.Seq.{drop-drop}
 use Rattle.xm.specs.Got.{Refusal, Got, got, refused, _>>=_, accepted, AllHold, _at_}
 use Rattle.xm.specs.Cell.{lengthBy, cellAt, readCell}
-use Rattle.xm.specs.Stored.{Pattern, readRow, readCells, readStored}
-use Rattle.xm.specs.Row.{cellsIn}
+use Rattle.xm.specs.Stored.{Pattern, readRun, readCells, readStored}
+use Rattle.xm.specs.Run.{cellsIn}
 use Rattle.xm.specs.Packing.{argumentTests}
 use Rattle.xm.proofs.Got.{test-fails, pass, step, step-refused, accepted-got, got-accepted, bind-got}
 use Rattle.xm.proofs.Cell.{cell-read}
@@ -28,27 +28,27 @@ onto-bind cell used (got cells n) = refl
 onto-bind cell used (refused r) = refl
 
 module _ (s : List ℕ) (place : ℕ) where
-  pub row-more : (left : ℕ) → 0 < left → {cell : List ℕ} {used : ℕ} → readCell place (drop place s) ≡ got cell used
-      → readRow left place (drop place s) ≡ cellOnto cell used (readRow (left - 1) (place + used) (drop (place + used) s))
-  row-more zero some e = absurd (omega arith)
-  row-more (suc left) some {cell} {used} e =
+  pub run-more : (left : ℕ) → 0 < left → {cell : List ℕ} {used : ℕ} → readCell place (drop place s) ≡ got cell used
+      → readRun left place (drop place s) ≡ cellOnto cell used (readRun (left - 1) (place + used) (drop (place + used) s))
+  run-more zero some e = absurd (omega arith)
+  run-more (suc left) some {cell} {used} e =
       let one : suc left - 1 ≡ left = omega arith in
-      step _ e (onto-bind cell used (readRow left (place + used) (drop used (drop place s)))) ∙ rw (drop-drop, one)
+      step _ e (onto-bind cell used (readRun left (place + used) (drop used (drop place s)))) ∙ rw (drop-drop, one)
 
-  pub row-stop : (left : ℕ) → 0 < left → {r : Refusal} → readCell place (drop place s) ≡ refused r → readRow left place (drop place s) ≡ refused r
-  row-stop zero some e = absurd (omega arith)
-  row-stop (suc left) some e = step-refused _ e
+  pub run-stop : (left : ℕ) → 0 < left → {r : Refusal} → readCell place (drop place s) ≡ refused r → readRun left place (drop place s) ≡ refused r
+  run-stop zero some e = absurd (omega arith)
+  run-stop (suc left) some e = step-refused _ e
 
   -- What an accepted row says of its first cell and of the rest
   pub record First (left : ℕ) : Type 0 where
     pub fits : place + lengthBy (getD s place 0) ≤ length s
-    pub rest : accepted (readRow (left - 1) (place + lengthBy (getD s place 0)) (drop (place + lengthBy (getD s place 0)) s)) ≡ true
+    pub rest : accepted (readRun (left - 1) (place + lengthBy (getD s place 0)) (drop (place + lengthBy (getD s place 0)) s)) ≡ true
 
-  pub row-first : (left : ℕ) → 0 < left → place ≤ length s → accepted (readRow left place (drop place s)) ≡ true → First left
-  row-first zero some inside e = absurd (omega arith)
-  row-first (suc left) some inside e =
-      accepted-got (readRow (suc left) place (drop place s)) e λ cells used e. bind-got (readCell place (drop place s)) _ e λ c k ec e.
-      bind-got (readRow left (place + k) (drop k (drop place s))) _ e λ cs m es e.
+  pub run-first : (left : ℕ) → 0 < left → place ≤ length s → accepted (readRun left place (drop place s)) ≡ true → First left
+  run-first zero some inside e = absurd (omega arith)
+  run-first (suc left) some inside e =
+      accepted-got (readRun (suc left) place (drop place s)) e λ cells used e. bind-got (readCell place (drop place s)) _ e λ c k ec e.
+      bind-got (readRun left (place + k) (drop k (drop place s))) _ e λ cs m es e.
       let one : suc left - 1 ≡ left = omega arith in
       let r = cell-read place (drop place s) c k ec in
       let long : k ≡ lengthBy (getD s place 0) = r .long ∙ ap lengthBy (head-at place s 0) in
@@ -66,11 +66,11 @@ module _ (s : List ℕ) (place : ℕ) where
 
 -- A stored pattern with some data, by its cells
 module _ (channels rows : ℕ) (d : List ℕ) (some : 1 ≤ length d) where
-  pub stored-refused : {r : Refusal} → readRow (rows * channels) 0 d ≡ refused r → readStored channels rows 0 d ≡ refused r
+  pub stored-refused : {r : Refusal} → readRun (rows * channels) 0 d ≡ refused r → readStored channels rows 0 d ≡ refused r
   unfolding readCells
   stored-refused e = stored-some channels rows 0 d some ∙ step-refused _ e
 
-  module _ {cells : List (List ℕ)} {used : ℕ} (e : readRow (rows * channels) 0 d ≡ got cells used) where
+  module _ {cells : List (List ℕ)} {used : ℕ} (e : readRun (rows * channels) 0 d ≡ got cells used) where
     pub stored-left : used < length d → readStored channels rows 0 d ≡ refused (8 at used)
     unfolding readCells
     stored-left h =

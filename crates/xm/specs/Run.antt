@@ -1,4 +1,4 @@
--- For contracts inside the library: stored cells in a row, and a pattern's data by the length of its cells.
+-- For contracts inside the library: stored cells one after the other, a run, and a pattern's data by the length of its cells.
 use Prim.Native.Nat.{ℕ, zero, suc}
 use mathlib.Core.Bool.{cond}
 use mathlib.Core.List.{List, [], _∷_}
@@ -6,7 +6,7 @@ use lib.Dec.{eqb}
 use lib.ListN.{drop}
 use Rattle.xm.specs.Cell.{needed, cellAt}
 
--- The cells in a row, refused or not.
+-- The cells of a run, refused or not.
 unfoldable pub cellsIn : (count : ℕ) → List ℕ → List (List ℕ)
 cellsIn zero s = []
 cellsIn (suc count) s = cellAt s ∷ cellsIn count (drop (needed s) s)
