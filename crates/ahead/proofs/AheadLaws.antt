@@ -1,4 +1,4 @@
--- Laws of what a word has ahead: its bytes, a run of empty cells, and the cell behind them. Assumes nothing.
+-- Laws of what an eight has ahead: its bytes, a run of empty cells, and the cell behind them. Assumes nothing.
 use Prim.Native.Nat.{ℕ, zero, suc, _+_, _*_, _/_, _%_, _^_, _≤_, _<_}
 use mathlib.Core.Bool.{Bool, true, false}
 use mathlib.Core.List.{List}
@@ -30,9 +30,9 @@ trailing-times (suc j) (suc k) n h = go (trailing-times j k (n / 2)) (n % 2) ref
         (r .0, a ∙ ap (λ (x : ℕ). 2 * x) (r .1) ∙ sym (mul-assoc 2 (2 ^ j) (r .0)) ∙ ap (λ (x : ℕ). x * r .0) (sym (pow-succ' 2 j)))
     go ih (suc d) e p = absurd (omega arith)
 
--- The bytes of a word
-pub byte-at : (s : List ℕ) (place word : ℕ) → ((i : ℕ) → getD s i 0 ≤ 255) → word ≡ eightAt s place → (i : ℕ) → i ≤ 7 → byteIn word i ≡ getD s (place + i) 0
-byte-at s place word small e zero h =
+-- The bytes of an eight
+pub byte-at : (s : List ℕ) (place eight : ℕ) → ((i : ℕ) → getD s i 0 ≤ 255) → eight ≡ eightAt s place → (i : ℕ) → i ≤ 7 → byteIn eight i ≡ getD s (place + i) 0
+byte-at s place eight small e zero h =
     rw add-zero (omega (
       arith,
       small place,
@@ -44,7 +44,7 @@ byte-at s place word small e zero h =
       small (place + 6),
       small (place + 7),
     ))
-byte-at s place word small e (suc zero) h =
+byte-at s place eight small e (suc zero) h =
     omega (
       arith,
       small place,
@@ -56,7 +56,7 @@ byte-at s place word small e (suc zero) h =
       small (place + 6),
       small (place + 7),
     )
-byte-at s place word small e (suc (suc zero)) h =
+byte-at s place eight small e (suc (suc zero)) h =
     omega (
       arith,
       small place,
@@ -68,7 +68,7 @@ byte-at s place word small e (suc (suc zero)) h =
       small (place + 6),
       small (place + 7),
     )
-byte-at s place word small e (suc (suc (suc zero))) h =
+byte-at s place eight small e (suc (suc (suc zero))) h =
     omega (
       arith,
       small place,
@@ -80,7 +80,7 @@ byte-at s place word small e (suc (suc (suc zero))) h =
       small (place + 6),
       small (place + 7),
     )
-byte-at s place word small e (suc (suc (suc (suc zero)))) h =
+byte-at s place eight small e (suc (suc (suc (suc zero)))) h =
     omega (
       arith,
       small place,
@@ -92,7 +92,7 @@ byte-at s place word small e (suc (suc (suc (suc zero)))) h =
       small (place + 6),
       small (place + 7),
     )
-byte-at s place word small e (suc (suc (suc (suc (suc zero))))) h =
+byte-at s place eight small e (suc (suc (suc (suc (suc zero))))) h =
     omega (
       arith,
       small place,
@@ -104,7 +104,7 @@ byte-at s place word small e (suc (suc (suc (suc (suc zero))))) h =
       small (place + 6),
       small (place + 7),
     )
-byte-at s place word small e (suc (suc (suc (suc (suc (suc zero)))))) h =
+byte-at s place eight small e (suc (suc (suc (suc (suc (suc zero)))))) h =
     omega (
       arith,
       small place,
@@ -116,7 +116,7 @@ byte-at s place word small e (suc (suc (suc (suc (suc (suc zero)))))) h =
       small (place + 6),
       small (place + 7),
     )
-byte-at s place word small e (suc (suc (suc (suc (suc (suc (suc zero))))))) h =
+byte-at s place eight small e (suc (suc (suc (suc (suc (suc (suc zero))))))) h =
     omega (
       arith,
       small place,
@@ -128,11 +128,11 @@ byte-at s place word small e (suc (suc (suc (suc (suc (suc (suc zero))))))) h =
       small (place + 6),
       small (place + 7),
     )
-byte-at s place word small e (suc (suc (suc (suc (suc (suc (suc (suc i)))))))) h = absurd (omega arith)
+byte-at s place eight small e (suc (suc (suc (suc (suc (suc (suc (suc i)))))))) h = absurd (omega arith)
 
 -- Those of a number, less seven times 128, below its lowest digit that is set
-pub run-of : (word x : ℕ) → x ≡ word % 72057594037927936 + 9187201950435737472 → Empties word (trailingZeros 64 x / 8)
-run-of word x e = record { few = few (ltb (trailingZeros 64 x) 64) refl; all = byte }
+pub run-of : (eight x : ℕ) → x ≡ eight % 72057594037927936 + 9187201950435737472 → Empties eight (trailingZeros 64 x / 8)
+run-of eight x e = record { few = few (ltb (trailingZeros 64 x) 64) refl; all = byte }
   where
     few : (t : Bool) → ltb (trailingZeros 64 x) 64 ≡ t → trailingZeros 64 x / 8 ≤ 7
     few true p = let l = ltb-true (trailingZeros 64 x) 64 p in omega arith
@@ -141,7 +141,7 @@ run-of word x e = record { few = few (ltb (trailingZeros 64 x) 64) refl; all = b
         let p : x ≡ 18446744073709551616 * q .0 = q .1 in
         absurd (omega arith)
 
-    byte : (i : ℕ) → i < trailingZeros 64 x / 8 → byteIn word i ≡ 128
+    byte : (i : ℕ) → i < trailingZeros 64 x / 8 → byteIn eight i ≡ 128
     byte zero h =
         let q = trailing-times 8 64 x (omega arith) in
         let p : x ≡ 256 * q .0 = q .1 in
@@ -172,14 +172,14 @@ run-of word x e = record { few = few (ltb (trailingZeros 64 x) 64) refl; all = b
         omega arith
     byte (suc (suc (suc (suc (suc (suc (suc i))))))) h = absurd (omega (arith, few (ltb (trailingZeros 64 x) 64) refl))
 
-run-at : (s : List ℕ) (place word count : ℕ) → ((i : ℕ) → getD s i 0 ≤ 255) → word ≡ eightAt s place → Empties word count → EmptyRun s place count
-run-at s place word count small e r =
+run-at : (s : List ℕ) (place eight count : ℕ) → ((i : ℕ) → getD s i 0 ≤ 255) → eight ≡ eightAt s place → Empties eight count → EmptyRun s place count
+run-at s place eight count small e r =
     let few = r .few in
-    record { few = few; all = λ i h. sym (byte-at s place word small e i (omega arith)) ∙ r .all i h }
+    record { few = few; all = λ i h. sym (byte-at s place eight small e i (omega arith)) ∙ r .all i h }
 
--- What a word has ahead
-module _ (s : List ℕ) (place word : ℕ) (small : (i : ℕ) → getD s i 0 ≤ 255) (e : word ≡ eightAt s place) where
-  pub lead-at : word % 256 ≡ getD s place 0
+-- What an eight has ahead
+module _ (s : List ℕ) (place eight : ℕ) (small : (i : ℕ) → getD s i 0 ≤ 255) (e : eight ≡ eightAt s place) where
+  pub lead-at : eight % 256 ≡ getD s place 0
   lead-at =
       omega (
         arith,
@@ -194,33 +194,33 @@ module _ (s : List ℕ) (place word : ℕ) (small : (i : ℕ) → getD s i 0 ≤
       )
 
   last-at : (k bits : ℕ) → k ≤ 7 → bits ≡ 8 * k
-      → place + bits / 8 + lengthBy (word / 2 ^ bits % 256) ≡ place + bits / 8 + lengthBy (getD s (place + bits / 8) 0)
+      → place + bits / 8 + lengthBy (eight / 2 ^ bits % 256) ≡ place + bits / 8 + lengthBy (getD s (place + bits / 8) 0)
   last-at k bits h b =
       let p : place + k ≡ place + bits / 8 = omega arith in
-      ap (λ (x : ℕ). place + bits / 8 + lengthBy x) (ap (λ (x : ℕ). word / 2 ^ x % 256) b ∙ byte-at s place word small e k h ∙ ap (λ (x : ℕ). getD s x 0) p)
+      ap (λ (x : ℕ). place + bits / 8 + lengthBy x) (ap (λ (x : ℕ). eight / 2 ^ x % 256) b ∙ byte-at s place eight small e k h ∙ ap (λ (x : ℕ). getD s x 0) p)
 
-  pub ahead-run : (k bits : ℕ) → word % 256 ≡ 128 → Empties word k → bits ≡ 8 * k → AheadOf s place (cellBehind word place k bits)
+  pub ahead-run : (k bits : ℕ) → eight % 256 ≡ 128 → Empties eight k → bits ≡ 8 * k → AheadOf s place (cellBehind eight place k bits)
   ahead-run k bits l r b =
       let few = r .few in
       record {
-        empties = λ h. (run-at s place word k small e r, omega arith);
+        empties = λ h. (run-at s place eight k small e r, omega arith);
         one = λ h. absurd (h (sym lead-at ∙ l));
         few = few;
         near = omega arith;
         next = last-at k bits few b;
-        reach = omega (arith, length-six (word / 2 ^ bits % 256));
+        reach = omega (arith, length-six (eight / 2 ^ bits % 256));
       }
 
-  pub ahead-one : (bits : ℕ) → (word % 256 ≡ 128 → ⊥) → bits ≡ 8 * lengthBy (word % 256) → AheadOf s place (cellBehind word place 1 bits)
+  pub ahead-one : (bits : ℕ) → (eight % 256 ≡ 128 → ⊥) → bits ≡ 8 * lengthBy (eight % 256) → AheadOf s place (cellBehind eight place 1 bits)
   ahead-one bits l b =
-      let six = length-six (word % 256) in
+      let six = length-six (eight % 256) in
       record {
         empties = λ h. absurd (l (lead-at ∙ h));
         one = λ h. (refl, omega (arith, ap lengthBy lead-at));
         few = omega arith;
         near = omega arith;
-        next = last-at (lengthBy (word % 256)) bits (omega arith) b;
-        reach = omega (arith, length-six (word / 2 ^ bits % 256));
+        next = last-at (lengthBy (eight % 256)) bits (omega arith) b;
+        reach = omega (arith, length-six (eight / 2 ^ bits % 256));
       }
 
 -- An empty cell is accepted

@@ -40,21 +40,21 @@ high-lengths : (k : ℕ) → k < 16 → 0x6554544354434332 / 2 ^ (k * 4) % 16 �
 unfolding tabulate ones onesIn
 high-lengths k h = same-table (λ k. 0x6554544354434332 / 2 ^ (k * 4) % 16) (λ k. 1 + ones (16 + k)) 16 k refl h
 
-pub lengths-at : (word : ℕ) → lengthsBy word / 2 ^ (word % 16 * 4) % 16 ≡ lengthBy (word % 256)
+pub lengths-at : (eight : ℕ) → lengthsBy eight / 2 ^ (eight % 16 * 4) % 16 ≡ lengthBy (eight % 256)
 unfolding lengthsBy lengthBy
-lengths-at word = go (ltb (word % 256) 128) refl (eqb (word / 16 % 2) 0) refl
+lengths-at eight = go (ltb (eight % 256) 128) refl (eqb (eight / 16 % 2) 0) refl
   where
-    go : (t : Bool) → ltb (word % 256) 128 ≡ t → (u : Bool) → eqb (word / 16 % 2) 0 ≡ u
-        → cond t 0x5555555555555555 (cond u 0x5443433243323221 0x6554544354434332) / 2 ^ (word % 16 * 4) % 16 ≡ cond t 5 (1 + ones (word % 256 % 32))
-    go true p u q = plain-lengths (word % 16) (omega arith)
+    go : (t : Bool) → ltb (eight % 256) 128 ≡ t → (u : Bool) → eqb (eight / 16 % 2) 0 ≡ u
+        → cond t 0x5555555555555555 (cond u 0x5443433243323221 0x6554544354434332) / 2 ^ (eight % 16 * 4) % 16 ≡ cond t 5 (1 + ones (eight % 256 % 32))
+    go true p u q = plain-lengths (eight % 16) (omega arith)
     go false p true q =
-        let z = eqb-true (word / 16 % 2) 0 q in
-        let k : word % 16 ≡ word % 256 % 32 = omega arith in
-        low-lengths (word % 16) (omega arith) ∙ ap (λ (n : ℕ). 1 + ones n) k
+        let z = eqb-true (eight / 16 % 2) 0 q in
+        let k : eight % 16 ≡ eight % 256 % 32 = omega arith in
+        low-lengths (eight % 16) (omega arith) ∙ ap (λ (n : ℕ). 1 + ones n) k
     go false p false q =
-        let z = eqb-false (word / 16 % 2) 0 q in
-        let k : 16 + word % 16 ≡ word % 256 % 32 = omega (arith, z) in
-        high-lengths (word % 16) (omega arith) ∙ ap (λ (n : ℕ). 1 + ones n) k
+        let z = eqb-false (eight / 16 % 2) 0 q in
+        let k : 16 + eight % 16 ≡ eight % 256 % 32 = omega (arith, z) in
+        high-lengths (eight % 16) (omega arith) ∙ ap (λ (n : ℕ). 1 + ones n) k
 
 pub length-six : (lead : ℕ) → lengthBy lead ≤ 6
 unfolding lengthBy

@@ -15,32 +15,32 @@ eightAt s place =
     + 4294967296 * getD s (place + 4) 0 + 1099511627776 * getD s (place + 5) 0 + 281474976710656 * getD s (place + 6) 0
     + 72057594037927936 * getD s (place + 7) 0
 
--- A word that stands at a place, where there are so many bytes.
-pub record WordAt (s : List ℕ) (place word : ℕ) : Type 0 where
-  pub right : place + 8 ≤ length s → word ≡ eightAt s place
+-- An eight that stands at a place, where there are so many bytes.
+pub record EightRead (s : List ℕ) (place eight : ℕ) : Type 0 where
+  pub right : place + 8 ≤ length s → eight ≡ eightAt s place
 
--- A byte of a word.
-abbrev pub byteIn : (word offset : ℕ) → ℕ
-byteIn word offset = word / 2 ^ (8 * offset) % 256
+-- A byte of an eight.
+abbrev pub byteIn : (eight offset : ℕ) → ℕ
+byteIn eight offset = eight / 2 ^ (8 * offset) % 256
 
--- So many bytes of a word, from the first on, are empty cells, and its eighth isn't one of them.
-pub record Empties (word count : ℕ) : Type 0 where
+-- So many bytes of an eight, from the first on, are empty cells, and its eighth isn't one of them.
+pub record Empties (eight count : ℕ) : Type 0 where
   pub few : count ≤ 7
-  pub all : (i : ℕ) → i < count → byteIn word i ≡ 128
+  pub all : (i : ℕ) → i < count → byteIn eight i ≡ 128
 
 -- So many bytes, from a place on, are empty cells.
 pub record EmptyRun (s : List ℕ) (place count : ℕ) : Type 0 where
   pub few : count ≤ 7
   pub all : (i : ℕ) → i < count → getD s (place + i) 0 ≡ 128
 
--- Sixteen lengths of cells, four bits each, by a word's first byte.
-unfoldable pub lengthsBy : (word : ℕ) → ℕ
-lengthsBy word = cond (ltb (word % 256) markedFrom) 0x5555555555555555 (cond (eqb (word / 16 % 2) 0) 0x5443433243323221 0x6554544354434332)
+-- Sixteen lengths of cells, four bits each, by an eight's first byte.
+unfoldable pub lengthsBy : (eight : ℕ) → ℕ
+lengthsBy eight = cond (ltb (eight % 256) markedFrom) 0x5555555555555555 (cond (eqb (eight / 16 % 2) 0) 0x5443433243323221 0x6554544354434332)
 
--- The cell behind some bits of the word that stands at a place.
-abbrev pub cellBehind : (word place cells bits : ℕ) → Ahead
-cellBehind word place cells bits =
-    record { cells = cells; last = place + bits / 8; next = place + bits / 8 + lengthBy (word / 2 ^ bits % 256) }
+-- The cell behind some bits of the eight that stands at a place.
+abbrev pub cellBehind : (eight place cells bits : ℕ) → Ahead
+cellBehind eight place cells bits =
+    record { cells = cells; last = place + bits / 8; next = place + bits / 8 + lengthBy (eight / 2 ^ bits % 256) }
 
 -- From a place on: empty cells, or else one cell; and a last one behind.
 pub record AheadOf (s : List ℕ) (place : ℕ) (r : Ahead) : Type 0 where

@@ -5,7 +5,7 @@ ghost use mathlib.Core.Path.{_≡_};
 ghost use Prim.Native.Nat.{_+_, _*_, _/_, _%_, _≤_};
 ghost use lib.ListN.{length};
 ghost use Rattle.xm.specs.Cell.{lengthBy};
-ghost use Rattle.ahead.specs.Ahead.{eightAt, WordAt, Empties, AheadOf, cellBehind, lengthsBy, blockSize, BlockOf, Follows, lengthsFrom};
+ghost use Rattle.ahead.specs.Ahead.{eightAt, EightRead, Empties, AheadOf, cellBehind, lengthsBy, blockSize, BlockOf, Follows, lengthsFrom};
 
 // Of cells from a place on: how many stand in front of the last one, where that stands, and what follows it.
 pub struct Ahead {
@@ -14,8 +14,8 @@ pub struct Ahead {
     pub next: usize,
 }
 
-// Eight bytes as one number, low first. A loop keeps the number from turn to turn: so it stays one load.
-pub fn word(stored: &[u8], place: usize) -> u64
+// An eight: eight bytes as one number, low first. A loop keeps the number from turn to turn: so it stays one load.
+pub fn eight_at(stored: &[u8], place: usize) -> u64
     requires { ⌜ place + 8 ≤ length (now stored) ⌝ }
     ensures { λ r. ⌜ r ≡ eightAt (now (stored .entry)) place ⌝ }
 {
@@ -38,53 +38,53 @@ pub fn word(stored: &[u8], place: usize) -> u64
 }
 
 // The first eight bytes, where there are so many.
-pub fn first_word(stored: &[u8]) -> u64
-    ensures { λ r. ⌜ WordAt (now (stored .entry)) 0 r ⌝ }
+pub fn first_eight(stored: &[u8]) -> u64
+    ensures { λ r. ⌜ EightRead (now (stored .entry)) 0 r ⌝ }
 {
     if stored.len() < 8 {
         return 0;
     }
-    word(stored, 0)
+    eight_at(stored, 0)
 }
 
-// How many of a word's first seven bytes, from the first on, are empty cells: less seven times 128, they are the zero bytes below.
-fn empty_run(word: u64) -> usize
-    ensures { λ r. ⌜ Empties word r ⌝ }
+// How many of an eight's first seven bytes, from the first on, are empty cells: less seven times 128, they are the zero bytes below.
+fn empty_run(eight: u64) -> usize
+    ensures { λ r. ⌜ Empties eight r ⌝ }
 {
-    let rest = word % 72057594037927936 + 9187201950435737472;
+    let rest = eight % 72057594037927936 + 9187201950435737472;
     let zeros = u64::trailing_zeros(rest);
     (zeros / 8) as usize
 }
 
-// Sixteen lengths, four bits each, by the lead byte's low four bits: a word's first cell is plain, or marked with no parameter or one.
-fn lengths_by(word: u64) -> u64
-    ensures { λ r. ⌜ r ≡ lengthsBy word ⌝ }
+// Sixteen lengths, four bits each, by the lead byte's low four bits: an eight's first cell is plain, or marked with no parameter or one.
+fn lengths_by(eight: u64) -> u64
+    ensures { λ r. ⌜ r ≡ lengthsBy eight ⌝ }
 {
-    if word % 256 < 128 {
+    if eight % 256 < 128 {
         return 0x5555555555555555;
     }
-    if word / 16 % 2 == 0 {
+    if eight / 16 % 2 == 0 {
         return 0x5443433243323221;
     }
     0x6554544354434332
 }
 
-// The bits that a word's first cell takes.
-fn cell_bits(word: u64) -> u64
-    ensures { λ r. ⌜ r ≡ 8 * lengthBy (word % 256) ⌝ }
+// The bits that an eight's first cell takes.
+fn cell_bits(eight: u64) -> u64
+    ensures { λ r. ⌜ r ≡ 8 * lengthBy (eight % 256) ⌝ }
 {
-    let lengths = lengths_by(word);
-    (lengths >> (word % 16 * 4)) % 16 * 8
+    let lengths = lengths_by(eight);
+    (lengths >> (eight % 16 * 4)) % 16 * 8
 }
 
-// The cell behind some bits of a word, and what follows it.
-fn ahead_by(word: u64, place: usize, cells: usize, bits: u64) -> Ahead
+// The cell behind some bits of an eight, and what follows it.
+fn ahead_by(eight: u64, place: usize, cells: usize, bits: u64) -> Ahead
     requires { ⌜ place + 13 ≤ 18446744073709551615 ⌝ }
     requires { ⌜ bits ≤ 56 ⌝ }
-    ensures { λ r. ⌜ r ≡ cellBehind word place cells bits ⌝ }
+    ensures { λ r. ⌜ r ≡ cellBehind eight place cells bits ⌝ }
 {
     let last = place + (bits / 8) as usize;
-    let length = cell_bits(word >> bits) / 8;
+    let length = cell_bits(eight >> bits) / 8;
     Ahead {
         cells: cells,
         last: last,
@@ -92,17 +92,17 @@ fn ahead_by(word: u64, place: usize, cells: usize, bits: u64) -> Ahead
     }
 }
 
-// Two cells, or empty cells and another one, by the word that stands at a place.
-pub fn look_ahead(stored: &[u8], place: usize, word: u64) -> Ahead
+// Two cells, or empty cells and another one, by the eight that stands at a place.
+pub fn look_ahead(stored: &[u8], place: usize, eight: u64) -> Ahead
     requires { ⌜ place + 13 ≤ length (now stored) ⌝ }
-    requires { ⌜ word ≡ eightAt (now stored) place ⌝ }
+    requires { ⌜ eight ≡ eightAt (now stored) place ⌝ }
     ensures { λ r. ⌜ AheadOf (now (stored .entry)) place r ⌝ }
 {
-    if word % 256 == 128 {
-        let empty = empty_run(word);
-        return ahead_by(word, place, empty, (8 * empty) as u64);
+    if eight % 256 == 128 {
+        let empty = empty_run(eight);
+        return ahead_by(eight, place, empty, (8 * empty) as u64);
     }
-    ahead_by(word, place, 1, cell_bits(word))
+    ahead_by(eight, place, 1, cell_bits(eight))
 }
 
 // The bytes of a block, of which there are not always so many.

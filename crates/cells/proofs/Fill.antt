@@ -178,14 +178,14 @@ module _ {s goal lent out : List ℕ} {at to left : ℕ} (f : Filling s goal len
       }
 
   -- A turn's cells in front of its last one
-  pub filling-front : {r : Ahead} (word : ℕ) → AheadOf s at r → word % 256 ≡ getD s at 0 → {written : List ℕ}
-      → written ≡ inFront (firstFields word (drop at s)) (take (length out - to) (drop to out))
+  pub filling-front : {r : Ahead} (eight : ℕ) → AheadOf s at r → eight % 256 ≡ getD s at 0 → {written : List ℕ}
+      → written ≡ inFront (firstFields eight (drop at s)) (take (length out - to) (drop to out))
       → Filling s goal lent (putMid to (length out - to) out written) (r .last) (to + r .cells * 5) (left - r .cells)
-  filling-front {r} word a lead {written} en = go (eqb (word % 256) 128) refl en
+  filling-front {r} eight a lead {written} en = go (eqb (eight % 256) 128) refl en
     where
-      go : (t : Bool) → eqb (word % 256) 128 ≡ t → written ≡ inFront (cond t (replicate 40 0) (cellAt (drop at s))) (take (length out - to) (drop to out))
+      go : (t : Bool) → eqb (eight % 256) 128 ≡ t → written ≡ inFront (cond t (replicate 40 0) (cellAt (drop at s))) (take (length out - to) (drop to out))
           → Filling s goal lent (putMid to (length out - to) out written) (r .last) (to + r .cells * 5) (left - r .cells)
-      go true p en = let e = a .empties (sym lead ∙ eqb-true (word % 256) 128 p) in move (filling-run (r .cells) (e .0) en) (e .1) refl refl
+      go true p en = let e = a .empties (sym lead ∙ eqb-true (eight % 256) 128 p) in move (filling-run (r .cells) (e .0) en) (e .1) refl refl
       go false p en =
-          let e = a .one (λ h. eqb-false (word % 256) 128 p (lead ∙ h)) in
+          let e = a .one (λ h. eqb-false (eight % 256) 128 p (lead ∙ h)) in
           move (filling-more f (cellAt (drop at s)) en (omega arith) refl refl refl) (e .1) (omega (arith, e .0)) (omega (arith, e .0))

@@ -1,4 +1,4 @@
--- What unpacking answers; and for a contract inside the crate, what a word's first cell is written as.
+-- What unpacking answers; and for a contract inside the crate, what an eight's first cell is written as.
 use Prim.Native.Nat.{ℕ, _%_}
 use mathlib.Core.Bool.{cond}
 use mathlib.Core.List.{List, [], _∷_}
@@ -22,5 +22,5 @@ unpackedNumbers (Rows rows) = 0 ∷ 0 ∷ rows ∷ []
 unpackedNumbers (Refused fault) = fault .number ∷ fault .place ∷ 0 ∷ []
 
 -- If it is empty, as many zeros as eight cells have.
-abbrev pub firstFields : (word : ℕ) → List ℕ → List ℕ
-firstFields word s = cond (eqb (word % 256) 128) (replicate 40 0) (cellAt s)
+abbrev pub firstFields : (eight : ℕ) → List ℕ → List ℕ
+firstFields eight s = cond (eqb (eight % 256) 128) (replicate 40 0) (cellAt s)

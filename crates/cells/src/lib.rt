@@ -42,13 +42,13 @@ fn fill_each(stored: &[u8], from: usize, count: usize, out: &mut [u8])
     }
 }
 
-// The first cell of a word at the front; of empty ones as many as there may be, for those that follow are written over.
-fn fill_first(stored: &[u8], place: usize, word: u64, out: &mut [u8])
+// The first cell of an eight at the front; of empty ones as many as there may be, for those that follow are written over.
+fn fill_first(stored: &[u8], place: usize, eight: u64, out: &mut [u8])
     requires { ⌜ place + 6 ≤ length (now stored) ⌝ }
     requires { ⌜ 40 ≤ length (now out) ⌝ }
-    ensures { λ _. ⌜ now (out .exit) ≡ inFront (firstFields word (drop place (now (stored .entry)))) (now (out .entry)) ⌝ }
+    ensures { λ _. ⌜ now (out .exit) ≡ inFront (firstFields eight (drop place (now (stored .entry)))) (now (out .entry)) ⌝ }
 {
-    if word % 256 == 128 {
+    if eight % 256 == 128 {
         clear(40, out);
     } else {
         put_plain(read::take_over(stored, place), out);
@@ -64,17 +64,17 @@ fn fill_cells(stored: &[u8], count: usize, out: &mut [u8])
     let mut at: usize = 0;
     let mut to: usize = 0;
     let mut left = count; // all are still to come
-    let mut word = ahead::first_word(stored);
+    let mut eight = ahead::first_eight(stored);
     while 9 <= left && 21 <= stored.len() - at {
-        let turn = ahead::look_ahead(stored, at, word);
-        let next = ahead::word(stored, turn.next);
-        fill_first(stored, at, word, &mut out[to..]);
+        let turn = ahead::look_ahead(stored, at, eight);
+        let next = ahead::eight_at(stored, turn.next);
+        fill_first(stored, at, eight, &mut out[to..]);
         to += turn.cells * 5;
         put_plain(read::take_over(stored, turn.last), &mut out[to..]);
         to += 5;
         at = turn.next;
         left -= turn.cells + 1;
-        word = next;
+        eight = next;
     }
     fill_each(stored, at, left, &mut out[to..]);
 }

@@ -109,12 +109,12 @@ pub numbered-few : (ns : List ℕ) → All (λ (n : ℕ). n < 2 ^ 64) ns → len
 numbered-few [] h = omega arith
 numbered-few (n ∷ ns) h = omega (arith, length-append (decimal n) (numbered ns), decimal-few n (h .0), numbered-few ns (h .1))
 
--- A word in front, and numbers behind it
-pub put-whole : (held word numbers : List ℕ) {at end : ℕ} {mid out : List ℕ} → length (word ++ numbered numbers) ≤ length held
-    → at ≡ length word → mid ≡ inFront word held
-    → PieceStands mid at (numbered numbers) end out → LineFills (word ++ numbered numbers) held end out
-put-whole held word numbers {end = end} {out = out} h n m s =
-    let t = put-more held 0 word (numbered numbers) (omega (arith, length-append word (numbered numbers))) (omega arith, m ∙ sym (lay-front held word)) s in
-    let kept : length out ≡ length held = ap length (t .1) ∙ length-lay held 0 (word ++ numbered numbers) (omega arith) in
+-- A text in front, and numbers behind it
+pub put-whole : (held text numbers : List ℕ) {at end : ℕ} {mid out : List ℕ} → length (text ++ numbered numbers) ≤ length held
+    → at ≡ length text → mid ≡ inFront text held
+    → PieceStands mid at (numbered numbers) end out → LineFills (text ++ numbered numbers) held end out
+put-whole held text numbers {end = end} {out = out} h n m s =
+    let t = put-more held 0 text (numbered numbers) (omega (arith, length-append text (numbered numbers))) (omega arith, m ∙ sym (lay-front held text)) s in
+    let kept : length out ≡ length held = ap length (t .1) ∙ length-lay held 0 (text ++ numbered numbers) (omega arith) in
     let inside : end ≤ length out = omega (arith, t .0) in
-    (omega (arith, t .0), (t .1 ∙ lay-front held (word ++ numbered numbers), (inside, sym (length-take-le end out inside))))
+    (omega (arith, t .0), (t .1 ∙ lay-front held (text ++ numbered numbers), (inside, sym (length-take-le end out inside))))

@@ -57,15 +57,15 @@ fn put_numbers(numbers: &[usize], line: &mut [u8], at: usize) -> usize
     next + 1
 }
 
-// A word and numbers: a whole line, and how many bytes it has.
-fn put_line(word: &[u8], numbers: &[usize], line: &mut [u8]) -> usize
-    requires { ⌜ length (now word ++ numbered (now numbers)) ≤ length (now line) ⌝ }
-    ensures size { λ r. ⌜ r ≡ length (now (word .entry) ++ numbered (now (numbers .entry))) ⌝ }
-    ensures memory { λ _. ⌜ now (line .exit) ≡ inFront (now (word .entry) ++ numbered (now (numbers .entry))) (now (line .entry)) ⌝ }
+// A text and numbers: a whole line, and how many bytes it has.
+fn put_line(text: &[u8], numbers: &[usize], line: &mut [u8]) -> usize
+    requires { ⌜ length (now text ++ numbered (now numbers)) ≤ length (now line) ⌝ }
+    ensures size { λ r. ⌜ r ≡ length (now (text .entry) ++ numbered (now (numbers .entry))) ⌝ }
+    ensures memory { λ _. ⌜ now (line .exit) ≡ inFront (now (text .entry) ++ numbered (now (numbers .entry))) (now (line .entry)) ⌝ }
     ensures front { λ r. ⌜ Front r (now (line .exit)) ⌝ }
 {
-    copy(word, line);
-    put_numbers(numbers, line, word.len())
+    copy(text, line);
+    put_numbers(numbers, line, text.len())
 }
 
 fn put_accepted(end: usize, channels: usize, counts: Counts, line: &mut [u8; 128]) -> usize

@@ -70,28 +70,28 @@ pub mark-told : (file : List ℕ) (i : PatternFound) {shortest mark : ℕ} {same
     → same ≡ sameBytes (part (i .dataPlace) (i .dataSize) file) (writeStored (i .content)) → mark ≡ markBy shortest same → Marked file i mark
 mark-told file i q r m = record { is = m ∙ ap₂ markBy q r }
 
--- A word's two bits are put; the others of the word stay, and so do the other words
+-- An eight's two bits are put; the others of the eight stay, and so do the other eights
 module _ (marks : List ℕ) (number mark : ℕ) (small : mark < 4) (inside : number / 32 < length marks) where
-  abbrev word : ℕ
-  word = withTwo (getD marks (number / 32) 0) (bitsOf number) mark
+  abbrev eight : ℕ
+  eight = withTwo (getD marks (number / 32) 0) (bitsOf number) mark
 
-  there : getD (set marks (number / 32) word) (number / 32) 0 ≡ word
-  there = getD-set-same marks (number / 32) word 0 inside
+  there : getD (set marks (number / 32) eight) (number / 32) 0 ≡ eight
+  there = getD-set-same marks (number / 32) eight 0 inside
 
-  kept : (other : ℕ) → (other ≡ number → ⊥) → patternMark (set marks (number / 32) word) other ≡ patternMark marks other
+  kept : (other : ℕ) → (other ≡ number → ⊥) → patternMark (set marks (number / 32) eight) other ≡ patternMark marks other
   kept other apart = go (eqb (other / 32) (number / 32)) refl
     where
       stays : (below : Bool) → ltb other number ≡ below → other / 32 ≡ number / 32
-          → twoAt word (bitsOf other) ≡ twoAt (getD marks (number / 32) 0) (bitsOf other)
+          → twoAt eight (bitsOf other) ≡ twoAt (getD marks (number / 32) 0) (bitsOf other)
       stays true l q = two-lower _ _ _ small (bitsOf other) (omega (arith, ltb-true other number l))
       stays false l q = two-higher _ _ _ small (bitsOf other) (omega (arith, ltb-false other number l, apart))
 
-      go : (same : Bool) → eqb (other / 32) (number / 32) ≡ same → patternMark (set marks (number / 32) word) other ≡ patternMark marks other
-      go false e = ap (λ (n : ℕ). twoAt n (bitsOf other)) (getD-set-other marks (number / 32) (other / 32) word 0 (eqb-false _ _ e))
+      go : (same : Bool) → eqb (other / 32) (number / 32) ≡ same → patternMark (set marks (number / 32) eight) other ≡ patternMark marks other
+      go false e = ap (λ (n : ℕ). twoAt n (bitsOf other)) (getD-set-other marks (number / 32) (other / 32) eight 0 (eqb-false _ _ e))
       go true e = let q = eqb-true (other / 32) (number / 32) e in rw (q, there) (stays (ltb other number) refl q)
 
-  pub mark-put : Put marks number mark (set marks (number / 32) word)
-  mark-put = record { size = length-set marks (number / 32) word; put = ap (λ (n : ℕ). twoAt n (bitsOf number)) there ∙ two-put _ _ _ small; kept = kept }
+  pub mark-put : Put marks number mark (set marks (number / 32) eight)
+  mark-put = record { size = length-set marks (number / 32) eight; put = ap (λ (n : ℕ). twoAt n (bitsOf number)) there ∙ two-put _ _ _ small; kept = kept }
 
 -- One more mark, behind those of the patterns that were read
 pub marks-more : (file : List ℕ) (first : ℕ) (done : List PatternFound) {marks after : List ℕ} {i : PatternFound} {number mark : ℕ}

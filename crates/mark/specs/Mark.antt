@@ -28,14 +28,14 @@ markBy shortest same = cond (eqb shortest 0) nothing (cond same copied again)
 pub record Marked (file : List ℕ) (i : PatternFound) (mark : ℕ) : Type 0 where
   pub is : mark ≡ markBy (length (writeStored (i .content))) (sameBytes (part (i .dataPlace) (i .dataSize) file) (writeStored (i .content)))
 
--- Two bits of a word, by the bits that stand below them; and a word whose two bits there are others.
-abbrev pub twoAt : (word bits : ℕ) → ℕ
-twoAt word bits = word / 2 ^ bits % 4
+-- An eight is a number of eight bytes. Two bits of it, by the bits that stand below them; and an eight whose two bits there are others.
+abbrev pub twoAt : (eight bits : ℕ) → ℕ
+twoAt eight bits = eight / 2 ^ bits % 4
 
-abbrev pub withTwo : (word bits two : ℕ) → ℕ
-withTwo word bits two = word - twoAt word bits * 2 ^ bits + two * 2 ^ bits
+abbrev pub withTwo : (eight bits two : ℕ) → ℕ
+withTwo eight bits two = eight - twoAt eight bits * 2 ^ bits + two * 2 ^ bits
 
--- A mark takes two bits: 32 of them a word, the first in its low bits, and 256, the most patterns of a file, 8 words.
+-- A mark takes two bits: 32 of them an eight, the first in its low bits, and 256, the most patterns of a file, 8 eights.
 abbrev pub bitsOf : (number : ℕ) → ℕ
 bitsOf number = number % 32 * 2
 

@@ -24,7 +24,7 @@ pub fn mark_of(shortest: usize, same: bool) -> u64
     AGAIN
 }
 
-// How many bits of its word stand below a pattern's mark.
+// How many bits of its eight stand below a pattern's mark.
 fn bits_of(number: usize) -> u64
     ensures { λ r. ⌜ r ≡ bitsOf number ⌝ }
 {
@@ -39,14 +39,14 @@ pub fn mark_at(marks: &[u64; 8], number: usize) -> u64
     (marks[number / 32] >> bits_of(number)) % 4
 }
 
-// A word with a mark behind so many bits.
-fn with_mark(word: u64, bits: u64, mark: u64) -> u64
+// An eight with a mark behind so many bits.
+fn with_mark(eight: u64, bits: u64, mark: u64) -> u64
     requires { ⌜ bits ≤ 62 ⌝ }
     requires { ⌜ mark < 4 ⌝ }
-    ensures { λ r. ⌜ r ≡ withTwo word bits mark ⌝ }
+    ensures { λ r. ⌜ r ≡ withTwo eight bits mark ⌝ }
 {
-    let found = (word >> bits) % 4;
-    word - (found << bits) + (mark << bits)
+    let found = (eight >> bits) % 4;
+    eight - (found << bits) + (mark << bits)
 }
 
 // A pattern is marked, and the other marks stay.

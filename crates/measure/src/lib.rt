@@ -257,9 +257,9 @@ fn skip_short(stored: &[u8], count: usize) -> Skip
 {
     let mut used: usize = 0;
     let mut left = count;
-    let mut word = ahead::first_word(stored);
+    let mut eight = ahead::first_eight(stored);
     while 9 <= left && 21 <= stored.len() - used {
-        let turn = ahead::look_ahead(stored, used, word);
+        let turn = ahead::look_ahead(stored, used, eight);
         let last = turn.last;
         if is_longer(stored[used], stored[used + 1]) {
             break;
@@ -269,7 +269,7 @@ fn skip_short(stored: &[u8], count: usize) -> Skip
         }
         used = turn.next;
         left -= turn.cells + 1;
-        word = ahead::word(stored, used);
+        eight = ahead::eight_at(stored, used);
     }
     Skip {
         used: used,

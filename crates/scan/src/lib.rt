@@ -35,18 +35,18 @@ fn scan_from(stored: &[u8], from: usize, count: usize) -> Step
     Step::Next(used)
 }
 
-// Where most cells are empty: two or more at a time, by the word that stands here.
+// Where most cells are empty: two or more at a time, by the eight that stands here.
 fn scan_sparse(stored: &[u8], count: usize) -> Step
     ensures { λ r. ⌜ r ≡ placeStep 0 (readRun count 0 (now (stored .entry))) ⌝ }
 {
     let mut used: usize = 0;
     let mut left = count;
-    let mut word = ahead::first_word(stored);
+    let mut eight = ahead::first_eight(stored);
     while 9 <= left && 21 <= stored.len() - used {
-        let turn = ahead::look_ahead(stored, used, word);
+        let turn = ahead::look_ahead(stored, used, eight);
         used = turn.next;
         left -= turn.cells + 1;
-        word = ahead::word(stored, used);
+        eight = ahead::eight_at(stored, used);
     }
     scan_from(stored, used, left)
 }

@@ -20,12 +20,12 @@ cell-bits-requires c κs = search needs
 add-t10 : tie.Need-add-t10
 add-t10 c =
     let a = c .before .args in
-    omega (arith, c .cell-bits .ensures, length-six (a .word / 2 ^ a .bits % 256))
+    omega (arith, c .cell-bits .ensures, length-six (a .eight / 2 ^ a .bits % 256))
 
 returns : tie.Need-returns
 returns c =
     let a = c .before .args in
-    let n : c .cell-bits .result / 8 ≡ lengthBy (a .word / 2 ^ a .bits % 256) = omega (arith, c .cell-bits .ensures) in
+    let n : c .cell-bits .result / 8 ≡ lengthBy (a .eight / 2 ^ a .bits % 256) = omega (arith, c .cell-bits .ensures) in
     ap (λ (n : ℕ). record { cells = a .cells; last = a .place + a .bits / 8; next = a .place + a .bits / 8 + n }) n
 
 pub ahead-by-spec : {M : Type 1} → statement M

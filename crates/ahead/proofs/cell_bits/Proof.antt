@@ -21,8 +21,8 @@ mul-result-2 c = search needs
 
 returns : tie.Need-returns
 returns c =
-    let word = c .before .args .word in
-    omega (arith, ap (λ (n : ℕ). n / 2 ^ (word % 16 * 4) % 16) (c .lengths-by .ensures) ∙ lengths-at word)
+    let eight = c .before .args .eight in
+    omega (arith, ap (λ (n : ℕ). n / 2 ^ (eight % 16 * 4) % 16) (c .lengths-by .ensures) ∙ lengths-at eight)
 
 pub cell-bits-spec : {M : Type 1} → statement M
 cell-bits-spec =

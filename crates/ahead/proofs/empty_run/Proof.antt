@@ -12,7 +12,7 @@ add-rest : tie.Need-add-rest
 add-rest c = search needs
 
 cast-result : tie.Need-cast-result
-cast-result c = omega (arith, trailing-le 64 (c .args .word % 72057594037927936 + 9187201950435737472))
+cast-result c = omega (arith, trailing-le 64 (c .args .eight % 72057594037927936 + 9187201950435737472))
 
 returns : tie.Need-returns
 returns c = run-of _ _ refl

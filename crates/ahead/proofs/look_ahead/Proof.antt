@@ -23,21 +23,21 @@ returns c =
     let b = c .before .before .before in
     let a = b .before .args in
     rw (c .ahead-by .ensures)
-    (ahead-run (now (a .stored)) (a .place) (a .word) (λ i. omega (arith, b .shared-slice-known .given i)) (b .before .pre .1) _ _
+    (ahead-run (now (a .stored)) (a .place) (a .eight) (λ i. omega (arith, b .shared-slice-known .given i)) (b .before .pre .1) _ _
     (c .before .before .if1 .taken) (c .before .empty-run .ensures) refl)
 
 cell-bits-requires : tie.Need-cell-bits-requires
 cell-bits-requires c κs = search needs
 
 ahead-by-requires-2 : tie.Need-ahead-by-requires-2
-ahead-by-requires-2 c κs = omega (arith, c .cell-bits .ensures, length-six (c .before .before .before .args .word % 256))
+ahead-by-requires-2 c κs = omega (arith, c .cell-bits .ensures, length-six (c .before .before .before .args .eight % 256))
 
 returns-2 : tie.Need-returns-2
 returns-2 c =
     let b = c .before .before .before in
     let a = b .before .args in
     rw (c .ahead-by2 .ensures)
-    (ahead-one (now (a .stored)) (a .place) (a .word) (λ i. omega (arith, b .shared-slice-known .given i)) (b .before .pre .1) _ (c .before .before .if1 .left)
+    (ahead-one (now (a .stored)) (a .place) (a .eight) (λ i. omega (arith, b .shared-slice-known .given i)) (b .before .pre .1) _ (c .before .before .if1 .left)
     (c .before .cell-bits .ensures))
 
 pub look-ahead-spec : {M : Type 1} → statement M

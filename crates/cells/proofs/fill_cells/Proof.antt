@@ -1,4 +1,4 @@
--- `cells::fill_cells` meets its contract: what is written so far and what is still to come make the whole, and the word is the one that
+-- `cells::fill_cells` meets its contract: what is written so far and what is still to come make the whole, and the eight is the one that
 -- stands here. Assumes nothing.
 use Prim.Native.Nat.{ℕ, _+_, _*_, _-_, _≤_}
 use mathlib.Core.List.{List}
@@ -14,7 +14,7 @@ use Rattle.xm.specs.Run.{cellsIn}
 use Rattle.xm.proofs.Lay.{part-all}
 use Rattle.cell.specs.Read.{cellFields}
 use Rattle.cell.proofs.ReadLaws.{fields-of}
-use Rattle.ahead.specs.Ahead.{WordAt}
+use Rattle.ahead.specs.Ahead.{EightRead}
 use Rattle.ahead.proofs.AheadLaws.{lead-at}
 use Rattle.cells.specs.Unpacked.{firstFields}
 use Rattle.cells.proofs.Fill.{filled-length, Filling, filling-none, filling-more, filling-front, filling-rest}
@@ -23,10 +23,10 @@ use Rattle.cells.proofs.fill_cells.Statement.{statement}
 use Rattle.cells.proofs.fill_cells.Tie as tie
 
 abbrev Inv-loop : tie.InvT-loop
-Inv-loop stored count out₀ at₀ to₀ left₀ word₀ out at to left word = Filling stored (flat (cellsIn count stored)) out₀ out at to left × WordAt stored at word
+Inv-loop stored count out₀ at₀ to₀ left₀ word₀ out at to left eight = Filling stored (flat (cellsIn count stored)) out₀ out at to left × EightRead stored at eight
 
 abbrev μ-loop : tie.MeasureT-loop
-μ-loop stored count out₀ at₀ to₀ left₀ word₀ out at to left word = left
+μ-loop stored count out₀ at₀ to₀ left₀ word₀ out at to left eight = left
 
 -- In a turn: 21 bytes stand from here on; and what is written once the first cells are
 wide : (c : tie.Then1 Inv-loop μ-loop) → c .before .before .loop .at + 21 ≤ length (now (c .before .before .before .before .before .before .args .stored))
@@ -40,14 +40,14 @@ front : (c : tie.After-fill-first Inv-loop μ-loop) {written : List ℕ} →
     let a = from c .before .before .before .before .args in
     let s = now (a .stored) in
     let seen = c .before .before .before .look-ahead .result in
-    written ≡ inFront (firstFields (l .word) (drop (l .at) s)) (take (length (l .out) - l .to) (drop (l .to) (l .out)))
+    written ≡ inFront (firstFields (l .eight) (drop (l .at) s)) (take (length (l .out) - l .to) (drop (l .to) (l .out)))
     → Filling s (flat (cellsIn (a .count) s)) (now (a .out)) (putMid (l .to) (length (l .out) - l .to) (l .out) written)
     (seen .last) (l .to + seen .cells * 5) (l .left - seen .cells)
 front c e =
     let l = from c .loop in
     let right = l .inv .1 .right (omega (arith, wide (c .before .before .before .before))) in
-    filling-front (l .inv .0) (omega arith) (l .word) (c .before .before .before .look-ahead .ensures)
-    (lead-at (now (from c .before .before .before .before .args .stored)) (l .at) (l .word)
+    filling-front (l .inv .0) (omega arith) (l .eight) (c .before .before .before .look-ahead .ensures)
+    (lead-at (now (from c .before .before .before .before .args .stored)) (l .at) (l .eight)
     (λ i. omega (arith, from c .before .before .before .shared-slice-known .given i)) right) e
 
 filled : tie.Need-returns Inv-loop μ-loop
@@ -56,14 +56,14 @@ filled c =
     let s = now (c .before .before .before .before .before .before .before .before .before .args .stored) in
     filling-rest (l .inv .0) (flat (cellsIn (l .left) (drop (l .at) s))) (c .before .before .fill-each .ensures) refl
 
-first-word-requires : tie.Need-first-word-requires Inv-loop μ-loop
-first-word-requires c κs = search needs
+first-eight-requires : tie.Need-first-eight-requires Inv-loop μ-loop
+first-eight-requires c κs = search needs
 
 loop-holds : tie.Need-loop-holds Inv-loop μ-loop
 loop-holds c =
     let c₃ = c .before .before .before in
     let a = c₃ .args in
-    (filling-none (now (a .stored)) 0 (a .count) (omega arith) (c₃ .pre .0) (c₃ .pre .1) (omega arith), c .first-word .ensures)
+    (filling-none (now (a .stored)) 0 (a .count) (omega arith) (c₃ .pre .0) (c₃ .pre .1) (omega arith), c .first-eight .ensures)
 
 sub-if1 : tie.Need-sub-if1 Inv-loop μ-loop
 sub-if1 c = omega (arith, c .before .loop .inv .0 .inside)
@@ -71,8 +71,8 @@ sub-if1 c = omega (arith, c .before .loop .inv .0 .inside)
 look-ahead-requires : tie.Need-look-ahead-requires Inv-loop μ-loop
 look-ahead-requires c κs = (omega (arith, wide c), c .before .before .loop .inv .1 .right (omega (arith, wide c)))
 
-word-requires : tie.Need-word-requires Inv-loop μ-loop
-word-requires c κs = omega (arith, wide (c .before), c .look-ahead .ensures .reach)
+eight-at-requires : tie.Need-eight-at-requires Inv-loop μ-loop
+eight-at-requires c κs = omega (arith, wide (c .before), c .look-ahead .ensures .reach)
 
 sub-fill-first : tie.Need-sub-fill-first Inv-loop μ-loop
 sub-fill-first c = omega (arith, c .before .before .before .before .loop .inv .0 .room)
@@ -147,7 +147,7 @@ loop-again c =
     let f = front c₉ (c₉ .fill-first .ensures) in (
       filling-more f (cellFields (c₅ .take-over .result)) (c .before .before .before .put-plain .ensures) (omega arith) (fields-of _ (c₅ .take-over .ensures))
           (c₁₂ .look-ahead .ensures .next) (omega arith),
-      record { right = λ h. c₁₁ .word .ensures },
+      record { right = λ h. c₁₁ .eight-at .ensures },
     )
 
 sub-fill-each : tie.Need-sub-fill-each Inv-loop μ-loop
@@ -179,11 +179,11 @@ fill-cells-spec =
     (tie.spec
     Inv-loop
     μ-loop
-    first-word-requires
+    first-eight-requires
     loop-holds
     sub-if1
     look-ahead-requires
-    word-requires
+    eight-at-requires
     sub-fill-first
     part-fill-first-start
     part-fill-first-end

@@ -1,4 +1,4 @@
--- `measure::skip_short` meets its contract. The loop's invariant: each cell passed has the weight 1, and the word is the one that stands here.
+-- `measure::skip_short` meets its contract. The loop's invariant: each cell passed has the weight 1, and the eight is the one that stands here.
 -- Assumes nothing.
 use Prim.Native.Nat.{_+_, _-_, _≤_}
 use mathlib.Core.Bool.{true}
@@ -9,28 +9,28 @@ use borrow.Author.Tests.{leb-true}
 use denote.Ref.{now}
 use lib.ListN.{length}
 use Rattle.xm.specs.Stored.{readRun}
-use Rattle.ahead.specs.Ahead.{WordAt}
+use Rattle.ahead.specs.Ahead.{EightRead}
 use Rattle.measure.specs.Measure.{measuredOn}
 use Rattle.measure.proofs.Weighing.{Weighing, weighing-start, weighing-turn, skip-end}
 use Rattle.measure.proofs.skip_short.Statement.{statement}
 use Rattle.measure.proofs.skip_short.Tie as tie
 
 abbrev Inv-loop : tie.InvT-loop
-Inv-loop stored count used₀ left₀ word₀ used left word =
-    Weighing stored (measuredOn 0 0 true stored (readRun count 0 stored)) count used left (count - left) 0 × WordAt stored used word
+Inv-loop stored count used₀ left₀ word₀ used left eight =
+    Weighing stored (measuredOn 0 0 true stored (readRun count 0 stored)) count used left (count - left) 0 × EightRead stored used eight
 
 abbrev μ-loop : tie.MeasureT-loop
-μ-loop stored count used₀ left₀ word₀ used left word = left
+μ-loop stored count used₀ left₀ word₀ used left eight = left
 
 -- In a turn 21 bytes stand from here on
 wide : (c : tie.Then1 Inv-loop μ-loop) → c .before .before .loop .used + 21 ≤ length (now (c .before .before .before .before .before .args .stored))
 wide c = omega (arith, leb-true)
 
-first-word-requires : tie.Need-first-word-requires Inv-loop μ-loop
-first-word-requires c κs = search needs
+first-eight-requires : tie.Need-first-eight-requires Inv-loop μ-loop
+first-eight-requires c κs = search needs
 
 loop-holds : tie.Need-loop-holds Inv-loop μ-loop
-loop-holds c = (weighing-start _ _, c .first-word .ensures)
+loop-holds c = (weighing-start _ _, c .first-eight .ensures)
 
 sub-if1 : tie.Need-sub-if1 Inv-loop μ-loop
 sub-if1 c = c .before .loop .inv .0 .measuring .inside
@@ -68,8 +68,8 @@ add-left c = omega (arith, c .before .before .before .before .before .before .be
 sub-left : tie.Need-sub-left Inv-loop μ-loop
 sub-left c = omega (arith, c .before .before .before .before .before .before .before .before .before .look-ahead .ensures .few)
 
-word-requires : tie.Need-word-requires Inv-loop μ-loop
-word-requires c κs =
+eight-at-requires : tie.Need-eight-at-requires Inv-loop μ-loop
+eight-at-requires c κs =
     let l = c .before .before .before .before .before .before .before .before .before in
     omega (arith, wide (l .before), l .look-ahead .ensures .reach)
 
@@ -86,7 +86,7 @@ loop-again c =
           (l .before .before .before .before .before .before .pre) (i .inv .0) (omega arith) (wide (l .before))
           (l .look-ahead .ensures) (sym (c₇ .is-longer .ensures) ∙ c₆ .if2 .left)
           (sym (c .before .before .before .is-longer2 .ensures) ∙ c .before .before .if3 .left),
-      record { right = λ h. c .word .ensures },
+      record { right = λ h. c .eight-at .ensures },
     )
 
 returns : tie.Need-returns Inv-loop μ-loop
@@ -114,7 +114,7 @@ skip-short-spec =
     (tie.spec
     Inv-loop
     μ-loop
-    first-word-requires
+    first-eight-requires
     loop-holds
     sub-if1
     look-ahead-requires
@@ -128,7 +128,7 @@ skip-short-spec =
     is-longer-requires-2
     add-left
     sub-left
-    word-requires
+    eight-at-requires
     loop-less
     loop-again
     returns

@@ -1,4 +1,4 @@
--- `scan::scan_sparse` meets its contract. The loop's invariant: the answer is where the cells from here on end, and the word is the one that
+-- `scan::scan_sparse` meets its contract. The loop's invariant: the answer is where the cells from here on end, and the eight is the one that
 -- stands here. Assumes nothing.
 use Prim.Native.Nat.{_+_, _≤_}
 use mathlib.Core.Path.{refl, sym, _∙_}
@@ -8,27 +8,27 @@ use lib.ListN.{length}
 use denote.Ref.{now}
 use Rattle.xm.specs.Stored.{readRun}
 use Rattle.refusal.specs.Fault.{placeStep}
-use Rattle.ahead.specs.Ahead.{WordAt}
+use Rattle.ahead.specs.Ahead.{EightRead}
 use Rattle.scan.proofs.BlockLaws.{Scanning, scanning-turn}
 use borrow.Author.Needs.{needs}
 use Rattle.scan.proofs.scan_sparse.Statement.{statement}
 use Rattle.scan.proofs.scan_sparse.Tie as tie
 
 abbrev Inv-loop : tie.InvT-loop
-Inv-loop stored count used₀ left₀ word₀ used left word = Scanning stored (placeStep 0 (readRun count 0 stored)) used left × WordAt stored used word
+Inv-loop stored count used₀ left₀ word₀ used left eight = Scanning stored (placeStep 0 (readRun count 0 stored)) used left × EightRead stored used eight
 
 abbrev μ-loop : tie.MeasureT-loop
-μ-loop stored count used₀ left₀ word₀ used left word = left
+μ-loop stored count used₀ left₀ word₀ used left eight = left
 
 -- In a turn 21 bytes stand from here on
 wide : (c : tie.Then1 Inv-loop μ-loop) → c .before .before .loop .used + 21 ≤ length (now (c .before .before .before .before .before .args .stored))
 wide c = omega (arith, leb-true)
 
-first-word-requires : tie.Need-first-word-requires Inv-loop μ-loop
-first-word-requires c κs = search needs
+first-eight-requires : tie.Need-first-eight-requires Inv-loop μ-loop
+first-eight-requires c κs = search needs
 
 loop-holds : tie.Need-loop-holds Inv-loop μ-loop
-loop-holds c = (record { inside = omega arith; rest = refl }, c .first-word .ensures)
+loop-holds c = (record { inside = omega arith; rest = refl }, c .first-eight .ensures)
 
 sub-if1 : tie.Need-sub-if1 Inv-loop μ-loop
 sub-if1 c = omega (arith, c .before .loop .inv .0 .inside)
@@ -42,8 +42,8 @@ add-left c = omega (arith, c .before .look-ahead .ensures .few)
 sub-left : tie.Need-sub-left Inv-loop μ-loop
 sub-left c = omega (arith, c .before .look-ahead .ensures .few)
 
-word-requires : tie.Need-word-requires Inv-loop μ-loop
-word-requires c κs = omega (arith, wide (c .before .before), c .before .look-ahead .ensures .reach)
+eight-at-requires : tie.Need-eight-at-requires Inv-loop μ-loop
+eight-at-requires c κs = omega (arith, wide (c .before .before), c .before .look-ahead .ensures .reach)
 
 loop-less : tie.Need-loop-less Inv-loop μ-loop
 loop-less c = omega arith
@@ -53,7 +53,7 @@ loop-again c =
     let d = c .before .before in
     let l = d .before .before .before .loop in (
       scanning-turn (l .inv .0) (omega arith) (wide (d .before)) (d .look-ahead .ensures),
-      record { right = λ h. c .word .ensures },
+      record { right = λ h. c .eight-at .ensures },
     )
 
 scan-from-requires : tie.Need-scan-from-requires Inv-loop μ-loop
@@ -68,13 +68,13 @@ scan-sparse-spec =
     (tie.spec
     Inv-loop
     μ-loop
-    first-word-requires
+    first-eight-requires
     loop-holds
     sub-if1
     look-ahead-requires
     add-left
     sub-left
-    word-requires
+    eight-at-requires
     loop-less
     loop-again
     scan-from-requires
