@@ -4,13 +4,13 @@ use mathlib.Core.List.{List}
 use mathlib.Core.Path.{_≡_, refl, sym, ap}
 use lib.IntN.{ℤ}
 use lib.ListN.{length}
-use Rattle.xm.specs.Got.{Refusal}
+use Rattle.xm.specs.Got as paper
 use Rattle.xm.specs.Answer.{refuses, inFront}
 use Rattle.xm.specs.Sample.{adpcmSize}
 use Rattle.xm.specs.Adpcm.{adpcmDecoded, adpcmDecoding, adpcmAfter}
 use Rattle.xm.proofs.Adpcm.{adpcm-length, adpcm-given}
-use Rattle.refusal.specs.Fault.{faultOf}
-use Rattle.refusal.specs.declared.Fault.{Fault}
+use Rattle.refusal.specs.Refusal.{codeRefusal}
+use Rattle.refusal.specs.declared.Refusal.{Refusal}
 use Rattle.samples.specs.Answers.{decodeAnswer}
 use Rattle.samples.specs.declared.Decoded.{Decoded}
 use Rattle.samples.specs.declared.Decoded.the-variants as decodes
@@ -20,8 +20,8 @@ abbrev pub AdpcmDecodes : (count : ℕ) (bytes : List ℕ) (lent : List ℤ) (an
 AdpcmDecodes count bytes lent answer held = (answer ≡ decodeAnswer (adpcmDecoding count bytes (length lent))) × (held ≡ adpcmAfter count bytes lent)
 
 module _ (count : ℕ) (bytes : List ℕ) (lent : List ℤ) where
-  pub decode-refused : {refusal : Refusal} {fault : Fault} → fault ≡ faultOf refusal → adpcmDecoding count bytes (length lent) ≡ refuses refusal
-      → AdpcmDecodes count bytes lent (decodes.Refused fault) lent
+  pub decode-refused : {r : paper.Refusal} {refusal : Refusal} → refusal ≡ codeRefusal r → adpcmDecoding count bytes (length lent) ≡ refuses r
+      → AdpcmDecodes count bytes lent (decodes.Refused refusal) lent
   decode-refused f e = rw (e, f) (refl, refl)
 
   pub decode-done : {held : List ℤ} → length bytes ≡ adpcmSize count → count ≤ length lent → held ≡ inFront (adpcmDecoded count bytes) lent

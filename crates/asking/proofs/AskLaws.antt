@@ -9,7 +9,7 @@ use Rattle.xm.specs.Answer.{Answer, gives, refuses, numberOf}
 use Rattle.xm.specs.Asking.{Lies, asking, stretchOf}
 use Rattle.xm.proofs.Answer.{gives-passed, gives-same}
 use Rattle.xm.proofs.Accepted.{asks-exactly}
-use Rattle.refusal.specs.Fault.{faultOf}
+use Rattle.refusal.specs.Refusal.{codeRefusal}
 use Rattle.asking.specs.Ask.{askedOf, liesIn, AskedInside, stretchAsked, refusalAsked}
 use Rattle.asking.specs.declared.Stretch.{Stretch}
 use Rattle.asking.specs.declared.Asked.{Asked}
@@ -21,7 +21,7 @@ module _ (file : List ℕ) (rows number : ℕ) (row : Stretch) where
   ask-lies h = sym (ap askedOf (asks-exactly file rows number (liesIn row) .0 h))
 
   pub ask-refused : ((number < rows) × (row .place + row .length ≤ length file) → ⊥)
-      → asked.Refused (faultOf (16 at 0)) ≡ askedOf (asking file rows number (liesIn row))
+      → asked.Refused (codeRefusal (16 at 0)) ≡ askedOf (asking file rows number (liesIn row))
   ask-refused h = sym (ap askedOf (asks-exactly file rows number (liesIn row) .1 h))
 
 -- A number at or above the rows: whatever the row says

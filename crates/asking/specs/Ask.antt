@@ -5,19 +5,19 @@ use lib.ListN.{length}
 use Rattle.xm.specs.Number.{part}
 use Rattle.xm.specs.Answer.{Answer, gives, refuses}
 use Rattle.xm.specs.Asking.{Lies}
-use Rattle.refusal.specs.Fault.{faultOf}
+use Rattle.refusal.specs.Refusal.{codeRefusal}
 use Rattle.asking.specs.declared.Stretch.{Stretch}
 use Rattle.asking.specs.declared.Asked.{Asked}
 use Rattle.asking.specs.declared.Asked.the-variants as asked
 
 abbrev pub askedOf : Answer Lies → Asked
 askedOf (gives lies) = asked.Lies (record { place = lies .place; length = lies .size })
-askedOf (refuses r) = asked.Refused (faultOf r)
+askedOf (refuses r) = asked.Refused (codeRefusal r)
 
 -- The paper's numbers for each case: number, place of the refusal, place, length.
 abbrev pub askedNumbers : Asked → List ℕ
 askedNumbers (asked.Lies stretch) = 0 ∷ 0 ∷ stretch .place ∷ stretch .length ∷ []
-askedNumbers (asked.Refused fault) = fault .number ∷ fault .place ∷ 0 ∷ 0 ∷ []
+askedNumbers (asked.Refused refusal) = refusal .number ∷ refusal .place ∷ 0 ∷ 0 ∷ []
 
 -- The data that a row speaks of.
 abbrev pub liesIn : Stretch → Lies
@@ -26,12 +26,12 @@ liesIn row = record { place = row .place; size = row .length }
 -- What an answer speaks of is inside the file; as its very stretch; and 0 or the refusal's number.
 abbrev pub AskedInside : (file : List ℕ) → Asked → Type 0
 AskedInside file (asked.Lies stretch) = stretch .place + stretch .length ≤ length file
-AskedInside file (asked.Refused fault) = Unit {0}
+AskedInside file (asked.Refused refusal) = Unit {0}
 
 abbrev pub stretchAsked : (file : List ℕ) → Asked → List ℕ
 stretchAsked file (asked.Lies stretch) = part (stretch .place) (stretch .length) file
-stretchAsked file (asked.Refused fault) = []
+stretchAsked file (asked.Refused refusal) = []
 
 abbrev pub refusalAsked : Asked → ℕ
 refusalAsked (asked.Lies stretch) = 0
-refusalAsked (asked.Refused fault) = fault .number
+refusalAsked (asked.Refused refusal) = refusal .number

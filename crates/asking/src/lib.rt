@@ -1,5 +1,5 @@
 // A sample asked for by number, of a table over flat numbers, or by the numbers of its row.
-use refusal::Fault;
+use refusal::Refusal;
 ghost use mathlib.Core.Path.{_≡_};
 ghost use Rattle.xm.specs.Answer.{numberOf};
 ghost use Rattle.xm.specs.Asking.{asking, stretchOf, askingFlat};
@@ -16,7 +16,7 @@ pub struct Stretch {
 
 pub enum Asked {
     Lies(Stretch),
-    Refused(Fault),
+    Refused(Refusal),
 }
 
 // The data that a row speaks of, `rows` being lent: 16 for a number at or above them, or if the data isn't inside the file.
@@ -30,7 +30,7 @@ pub fn ask_row(file: &[u8], rows: usize, number: usize, row: Stretch) -> Asked
             }
         }
     }
-    Asked::Refused(Fault {
+    Asked::Refused(Refusal {
         number: 16,
         place: 0,
     })
@@ -55,7 +55,7 @@ pub fn asked_refusal(asked: Asked) -> u32
 {
     match asked {
         Asked::Lies(stretch) => 0,
-        Asked::Refused(fault) => fault.number,
+        Asked::Refused(refusal) => refusal.number,
     }
 }
 

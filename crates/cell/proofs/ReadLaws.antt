@@ -19,7 +19,7 @@ use Rattle.xm.proofs.Lay.{head-at}
 use Rattle.xm.proofs.Got.{got-both}
 use Rattle.refusal.specs.declared.Step.{Step}
 use Rattle.refusal.specs.declared.Step.the-variants.{Next}
-use Rattle.refusal.specs.Fault.{placeStep}
+use Rattle.refusal.specs.Refusal.{placeStep}
 use Rattle.refusal.proofs.Steps.{next-got}
 use Rattle.cell.specs.declared.read.Cell.{Cell}
 use Rattle.cell.specs.declared.read.Field.{Field}

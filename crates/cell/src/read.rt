@@ -1,5 +1,5 @@
 // One stored cell: its length and its fields by its lead byte, where it ends or why it is refused, and how short it can be.
-use refusal::Fault;
+use refusal::Refusal;
 use refusal::Step;
 ghost use mathlib.Core.Path.{_≡_};
 ghost use Prim.Native.Nat.{_+_, _%_, _<_, _≤_};
@@ -7,7 +7,7 @@ ghost use mathlib.Core.Bool.{cond};
 ghost use lib.ListN.{length, getD, drop};
 ghost use Rattle.xm.specs.Cell.{five, lengthBy, fieldBy, cellAt, readCell, bit, kepts, plainBy};
 ghost use Rattle.xm.specs.Short.{shortestBy};
-ghost use Rattle.refusal.specs.Fault.{placeStep};
+ghost use Rattle.refusal.specs.Refusal.{placeStep};
 ghost use Rattle.cell.specs.Read.{bitsBy, fieldsFrom, FirstField, NextField, cellOf, keptCount};
 
 pub struct Cell {
@@ -156,7 +156,7 @@ pub fn try_cell(stored: &[u8], place: usize) -> Step
 {
     let left = stored.len() - place;
     if left == 0 {
-        return Step::Refused(Fault {
+        return Step::Refused(Refusal {
             number: 7,
             place: place,
         });
@@ -164,7 +164,7 @@ pub fn try_cell(stored: &[u8], place: usize) -> Step
     let lead = stored[place];
     let used = cell_length(lead);
     if left < used {
-        return Step::Refused(Fault {
+        return Step::Refused(Refusal {
             number: 7,
             place: place,
         });

@@ -6,7 +6,8 @@ use mathlib.Core.List.{List, [], _∷_}
 use mathlib.Core.Path.{_≡_, refl, sym, ap, _∙_}
 use native.Mathlib.Omega.{arith}
 use lib.ListN.{length, replicate, length-replicate}
-use Rattle.xm.specs.Got.{Refusal, got, accepted, allPass}
+use Rattle.xm.specs.Got.{got, accepted, allPass}
+use Rattle.xm.specs.Got as paper
 use Rattle.xm.specs.Format.{flat}
 use Rattle.xm.specs.Answer.{Answer, gives, refuses, numbers, inFront, after}
 use Rattle.xm.specs.Stored.{Pattern, readRun, readCells, readStored}
@@ -17,10 +18,10 @@ use Rattle.xm.proofs.Got.{no-true, all-pass, all-hold, passed, bind-got, got-ca
 use Rattle.xm.proofs.Stored.{empty-flat, stored-empty, stored-some, stored-rows}
 use Rattle.xm.proofs.Run.{run-read}
 use Rattle.xm.proofs.Packing.{UnpackRange}
-use Rattle.refusal.specs.declared.Fault.{Fault}
+use Rattle.refusal.specs.declared.Refusal.{Refusal}
 use Rattle.refusal.specs.declared.Step.{Step}
 use Rattle.refusal.specs.declared.Step.the-variants.{Next}
-use Rattle.refusal.specs.Fault.{faultOf, placeStep}
+use Rattle.refusal.specs.Refusal.{codeRefusal, placeStep}
 use Rattle.refusal.proofs.Steps.{next-got}
 use Rattle.cells.specs.declared.Unpacked.{Unpacked}
 use Rattle.cells.specs.declared.Unpacked.the-variants.{Rows, Refused as RefusedUnpacked}
@@ -89,8 +90,8 @@ module _ (rows channels : ℕ) (stored lent : List ℕ) where
   abbrev pub Answers : (answer : Unpacked) (left : List ℕ) → Type 0
   Answers answer left = (answer ≡ unpackedOf (unpacking rows channels stored (length lent))) × (left ≡ unpackAfter rows channels stored lent)
 
-  pub answers-refusal : {r : Refusal} {fault : Fault} → unpacking rows channels stored (length lent) ≡ refuses r → fault ≡ faultOf r
-      → Answers (RefusedUnpacked fault) lent
+  pub answers-refusal : {r : paper.Refusal} {refusal : Refusal} → unpacking rows channels stored (length lent) ≡ refuses r → refusal ≡ codeRefusal r
+      → Answers (RefusedUnpacked refusal) lent
   answers-refusal e f = (rw e (ap RefusedUnpacked f), rw e)
 
   pub answers-pattern : {p : Pattern} {reported : ℕ} {left : List ℕ} → unpacking rows channels stored (length lent) ≡ gives p → reported ≡ p .rows
@@ -102,12 +103,12 @@ module _ (rows channels : ℕ) (stored lent : List ℕ) where
   unpack-once one other left kept a b = (a .0 ∙ sym (b .0), a .1 ∙ sym (b .1))
 
 -- A refusal leaves the memory as it was
-refused-kept : (answer : Answer Pattern) (lent : List ℕ) {fault : Fault} → RefusedUnpacked fault ≡ unpackedOf answer → after cellBytes answer lent ≡ lent
+refused-kept : (answer : Answer Pattern) (lent : List ℕ) {refusal : Refusal} → RefusedUnpacked refusal ≡ unpackedOf answer → after cellBytes answer lent ≡ lent
 refused-kept (gives p) lent e = absurd (let z : _≡_ {A = ℕ} 0 1 = cc in omega arith)
 refused-kept (refuses r) lent e = refl
 
-pub unpack-unchanged : (rows channels : ℕ) (stored lent : List ℕ) {fault : Fault} {held : List ℕ}
-    → RefusedUnpacked fault ≡ unpackedOf (unpacking rows channels stored (length lent))
+pub unpack-unchanged : (rows channels : ℕ) (stored lent : List ℕ) {refusal : Refusal} {held : List ℕ}
+    → RefusedUnpacked refusal ≡ unpackedOf (unpacking rows channels stored (length lent))
     → held ≡ unpackAfter rows channels stored lent → held ≡ lent
 unpack-unchanged rows channels stored lent told met = met ∙ refused-kept (unpacking rows channels stored (length lent)) lent told
 

@@ -7,19 +7,19 @@ use lib.ListN.{replicate}
 use Rattle.xm.specs.Answer.{Answer, gives, refuses}
 use Rattle.xm.specs.Cell.{cellAt}
 use Rattle.xm.specs.Stored.{Pattern}
-use Rattle.refusal.specs.Fault.{faultOf}
+use Rattle.refusal.specs.Refusal.{codeRefusal}
 use Rattle.cells.specs.declared.Unpacked.{Unpacked}
 use Rattle.cells.specs.declared.Unpacked.the-variants.{Rows, Refused}
 
 -- "It reports the rows"
 abbrev pub unpackedOf : Answer Pattern → Unpacked
 unpackedOf (gives p) = Rows (p .rows)
-unpackedOf (refuses r) = Refused (faultOf r)
+unpackedOf (refuses r) = Refused (codeRefusal r)
 
 -- The paper's numbers for each case: number, place, rows.
 abbrev pub unpackedNumbers : Unpacked → List ℕ
 unpackedNumbers (Rows rows) = 0 ∷ 0 ∷ rows ∷ []
-unpackedNumbers (Refused fault) = fault .number ∷ fault .place ∷ 0 ∷ []
+unpackedNumbers (Refused refusal) = refusal .number ∷ refusal .place ∷ 0 ∷ []
 
 -- If it is empty, as many zeros as eight cells have.
 abbrev pub firstFields : (eight : ℕ) → List ℕ → List ℕ

@@ -2,9 +2,9 @@
 use cell::pattern;
 use cell::read;
 use cell::write::put_plain;
-use refusal::Fault;
+use refusal::Refusal;
 use refusal::Step;
-use refusal::fault_of;
+use refusal::refusal_of;
 use slices::write::clear;
 ghost use mathlib.Core.Path.{_≡_};
 ghost use Prim.Native.Nat.{_+_, _*_, _≤_};
@@ -20,7 +20,7 @@ ghost use Rattle.cells.specs.Unpacked.{firstFields, unpackedOf};
 
 pub enum Unpacked {
     Rows(usize),
-    Refused(Fault),
+    Refused(Refusal),
 }
 
 // The cells from a place on, which were accepted, five bytes each, at the front, one by one.
@@ -86,24 +86,24 @@ pub fn unpack(rows: usize, channels: usize, stored: &[u8], cells: &mut [u8]) -> 
 {
     let fits = pattern::in_range(rows, channels);
     if !fits {
-        return Unpacked::Refused(Fault {
+        return Unpacked::Refused(Refusal {
             number: 16,
             place: 0,
         });
     }
     if 65535 < stored.len() {
-        return Unpacked::Refused(Fault {
+        return Unpacked::Refused(Refusal {
             number: 16,
             place: 0,
         });
     }
     let step = scan::scan_stored(stored, rows, channels);
     let Step::Next(_) = step else {
-        return Unpacked::Refused(fault_of(step));
+        return Unpacked::Refused(refusal_of(step));
     };
     let count = rows * channels;
     if cells.len() < count * 5 {
-        return Unpacked::Refused(Fault {
+        return Unpacked::Refused(Refusal {
             number: 14,
             place: 0,
         });

@@ -21,16 +21,16 @@ use Rattle.xm.proofs.Cut.{padded-length, take-padded, front-padded, padded-zero
 use Rattle.xm.proofs.Got.{pass, step, test-holds, test-fails, step-refused, passed, bind-got, got-value, got-used, got-carry}
 use Rattle.xm.proofs.Format.{cons-path, read-length}
 use Rattle.xm.proofs.Instrument.{heads-used}
-use Rattle.refusal.specs.Fault.{faultOf, placeStep}
-use Rattle.refusal.specs.declared.Fault.{Fault}
+use Rattle.refusal.specs.Refusal.{codeRefusal, placeStep}
+use Rattle.refusal.specs.declared.Refusal.{Refusal}
 use Rattle.refusal.specs.declared.Step.{Step}
 use Rattle.refusal.specs.declared.Step.the-variants.{Next, Refused}
 use Rattle.refusal.proofs.Steps.{next-got}
 use Rattle.slices.specs.Number.{Byte, Long}
-use Rattle.refusal.specs.Test.{firstFault}
+use Rattle.refusal.specs.Test.{firstRefusal}
 use Rattle.heads.specs.Sample.{fieldsEnd, HeadAt, headTestsOf, headsFrom}
 use Rattle.heads.specs.declared.SampleHead.{SampleHead}
-use Rattle.refusal.proofs.TestLaws.{fault-holds, fault-refuses}
+use Rattle.refusal.proofs.TestLaws.{refusal-holds, refusal-refuses}
 use Rattle.refusal.proofs.Walking.{refused-on, Reached, reached-start, reached-on, reached-out, reached-place}
 
 -- A header's fields are the numbers at their offsets
@@ -97,9 +97,9 @@ cut-filled file place size few e =
     ∙ padded-zeros fieldsEnd (take size (drop place file)) (omega (arith, length-take size (drop place file)))
 
 -- A header's tests, by the fields that the code has
-same-fault : (place : ℕ) (head : SampleHead) → firstFault (headTestsOf 0 head) ≡ firstFault (headTestsOf place head)
-unfolding firstFault
-same-fault place head = refl
+same-refusal : (place : ℕ) (head : SampleHead) → firstRefusal (headTestsOf 0 head) ≡ firstRefusal (headTestsOf place head)
+unfolding firstRefusal
+same-refusal place head = refl
 
 module _ (file : List ℕ) (place size : ℕ) {head : SampleHead} (v : HeadAt (headBytes size (drop place file)) head) (there : place + size ≤ length file) where
   abbrev found : Got Stretch
@@ -110,14 +110,14 @@ module _ (file : List ℕ) (place size : ℕ) {head : SampleHead} (v : HeadAt (h
   read-by =
       test-holds _ _ found (omega (arith, length-drop place file)) ∙ ap (λ (h : SampleHead). checked (headTestsOf place h) >> found) (sym (v .value))
 
-  module _ {fault : ℕ} (e : fault ≡ firstFault (headTestsOf 0 head)) where
-    pub head-faulty : (fault ≡ 0 → ⊥) → readHead size place (drop place file) ≡ refused (fault at place)
-    head-faulty f = read-by ∙ fault-refuses place (headTestsOf place head) found (omega arith) (e ∙ same-fault place head) f
+  module _ {refusal : ℕ} (e : refusal ≡ firstRefusal (headTestsOf 0 head)) where
+    pub head-fails : (refusal ≡ 0 → ⊥) → readHead size place (drop place file) ≡ refused (refusal at place)
+    head-fails f = read-by ∙ refusal-refuses place (headTestsOf place head) found (omega arith) (e ∙ same-refusal place head) f
 
-    pub head-passed : fault ≡ 0 → Next (place + size) ≡ placeStep place (readHead size place (drop place file))
+    pub head-passed : refusal ≡ 0 → Next (place + size) ≡ placeStep place (readHead size place (drop place file))
     head-passed z =
         sym (ap (placeStep place)
-        (read-by ∙ pass (headTestsOf place head) (fault-holds place (headTestsOf place head) (omega arith) (e ∙ same-fault place head) z) refl))
+        (read-by ∙ pass (headTestsOf place head) (refusal-holds place (headTestsOf place head) (omega arith) (e ∙ same-refusal place head) z) refl))
 
 -- Sample data: as many bytes as the header says, which are no more than a length can say
 module _ {bytes : List ℕ} {head : SampleHead} (v : HeadAt bytes head) where
@@ -139,7 +139,7 @@ module _ (file : List ℕ) (headPlace size place : ℕ) {head : SampleHead} (v :
   same-size = said ∙ head-size v
 
   pub data-cut : length file < place + bytes → place ≤ length file
-      → Refused (faultOf (1 at place)) ≡ placeStep place (readData (headBytes size (drop headPlace file)) place (drop place file))
+      → Refused (codeRefusal (1 at place)) ≡ placeStep place (readData (headBytes size (drop headPlace file)) place (drop place file))
   unfolding readData
   data-cut h l = sym (ap (placeStep place) (test-fails _ _ _ (λ q. omega (arith, same-size, length-drop place file))))
 
@@ -175,7 +175,7 @@ module _ (file : List ℕ) (start size count : ℕ) where
       there = omega (arith, w .there, head-used size place (drop place file) ei .1);
     }
 
-    pub heads-out : j < count → {step : Step} {f : Fault} → step ≡ placeStep place (readHead size place (drop place file)) → step ≡ Refused f
+    pub heads-out : j < count → {step : Step} {f : Refusal} → step ≡ placeStep place (readHead size place (drop place file)) → step ≡ Refused f
         → step ≡ placeStep start (each headFormat .read (replicate count size) start (drop start file))
     heads-out h e told =
         refused-on place start _ _ e told λ r er.
@@ -231,7 +231,7 @@ module _ (file : List ℕ) (heads size count start : ℕ) where
         inside = omega (arith, w .inside, data-inside _ place (drop place file) ei, length-drop place file);
       }
 
-      pub data-out : {step : Step} {f : Fault} → step ≡ placeStep place (readData (headBytes size (drop head file)) place (drop place file)) → step ≡ Refused f
+      pub data-out : {step : Step} {f : Refusal} → step ≡ placeStep place (readData (headBytes size (drop head file)) place (drop place file)) → step ≡ Refused f
           → step ≡ placeStep start (each dataFormat .read (headsFrom count size (drop heads file)) start (drop start file))
       data-out e told = refused-on place start _ _ e told λ r er.
           reached-out dataFormat _ file start (w .reached) (headBytes size (drop head file)) (rw length-heads h) (same-head _) er
@@ -262,7 +262,7 @@ module _ (file : List ℕ) (start size count : ℕ) where
   abbrev samples : Got SamplesFound
   samples = samplesFormat .read (replicate count size) start (drop start file)
 
-  pub samples-out : {step : Step} {f : Fault} → step ≡ placeStep start heads → step ≡ Refused f → step ≡ placeStep start samples
+  pub samples-out : {step : Step} {f : Refusal} → step ≡ placeStep start heads → step ≡ Refused f → step ≡ placeStep start samples
   samples-out e told = refused-on start start heads samples e told λ r er. step-refused _ er
 
   pub samples-on : {next : ℕ} → Next next ≡ placeStep start heads

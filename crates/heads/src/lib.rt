@@ -1,6 +1,6 @@
 // Sample headers and sample data. Data are never read, only stepped over.
 use adpcm::adpcm_size;
-use refusal::Fault;
+use refusal::Refusal;
 use refusal::Step;
 use slices::read::byte;
 use slices::read::long;
@@ -13,8 +13,8 @@ ghost use Rattle.xm.specs.ModuleKind.{padded};
 ghost use Rattle.xm.specs.Got.{passes};
 ghost use Rattle.xm.specs.Format.{each};
 ghost use Rattle.xm.specs.Sample.{headBytes, loopsBy, dataSizeBy, readHead, readData, headFormat, dataFormat, samplesFormat};
-ghost use Rattle.refusal.specs.Fault.{placeStep};
-ghost use Rattle.refusal.specs.Test.{firstFault};
+ghost use Rattle.refusal.specs.Refusal.{placeStep};
+ghost use Rattle.refusal.specs.Test.{firstRefusal};
 ghost use Rattle.heads.specs.Sample.{fieldsEnd, HeadAt, kindTest, wideTest, loopTest, wholeTest, headTestsOf, headsFrom};
 
 // "Kind AD"
@@ -143,11 +143,11 @@ fn whole_fits(form: usize, looped: usize, number: usize) -> bool
     true
 }
 
-// The number of a header's first fault, or 0: 12, then the causes of 13.
-fn head_fault(head: SampleHead) -> u32
+// The number of a header's first refusal, or 0: 12, then the causes of 13.
+fn head_refusal(head: SampleHead) -> u32
     requires { ⌜ head .«loop_start» < 4294967296 ⌝ }
     requires { ⌜ head .«loop_length» < 4294967296 ⌝ }
-    ensures { λ r. ⌜ r ≡ firstFault (headTestsOf 0 head) ⌝ }
+    ensures { λ r. ⌜ r ≡ firstRefusal (headTestsOf 0 head) ⌝ }
 {
     let storable = kind_fits(head.form, head.kind);
     if !storable {
@@ -176,10 +176,10 @@ fn read_head(file: &[u8], at: usize, size: usize) -> Step
     ensures { λ r. ⌜ r ≡ placeStep at (readHead size at (drop at (now (file .entry)))) ⌝ }
 {
     let head = sample_head(file, at, size);
-    let fault = head_fault(head);
-    if fault != 0 {
-        return Step::Refused(Fault {
-            number: fault,
+    let refusal = head_refusal(head);
+    if refusal != 0 {
+        return Step::Refused(Refusal {
+            number: refusal,
             place: at,
         });
     }
@@ -195,7 +195,7 @@ fn read_data(file: &[u8], head: usize, size: usize, at: usize) -> Step
     let sample = sample_head(file, head, size);
     let bytes = data_size(sample.kind, sample.length);
     if file.len() - at < bytes {
-        return Step::Refused(Fault {
+        return Step::Refused(Refusal {
             number: 1,
             place: at,
         });

@@ -12,8 +12,8 @@ use Rattle.xm.specs.Module.{Found, readFile}
 use Rattle.xm.specs.Table.{CheckReport, checkedAs, checking}
 use Rattle.xm.specs.Structure.{structures}
 use Rattle.xm.proofs.Format.{cons-path}
-use Rattle.refusal.specs.Fault.{faultOf}
-use Rattle.refusal.specs.declared.Fault.{Fault}
+use Rattle.refusal.specs.Refusal.{codeRefusal}
+use Rattle.refusal.specs.declared.Refusal.{Refusal}
 use Rattle.walk.specs.declared.Module.{Module}
 use Rattle.walk.specs.declared.Verdict.{Verdict}
 use Rattle.walk.specs.declared.Verdict.the-variants as verdict
@@ -28,13 +28,13 @@ use Rattle.line.specs.Filled.{refusedLine, countedLine, LineFills}
 pub filled-as : (text lent : List ℕ) {other held : List ℕ} {size : ℕ} → text ≡ other → LineFills text lent size held → LineFills other lent size held
 filled-as text lent e f = (f .0 ∙ ap length e, (f .1 .0 ∙ ap (λ (text : List ℕ). inFront text lent) e, f .1 .1))
 
-never-accepted : {A : Type 0} {found : Module} {fault : Fault} → verdict.Accepted found ≡ verdict.Refused fault → A
+never-accepted : {A : Type 0} {found : Module} {refusal : Refusal} → verdict.Accepted found ≡ verdict.Refused refusal → A
 never-accepted e = absurd (let z : _≡_ {A = ℕ} 0 1 = cc in omega arith)
 
 same-module : {a b : Module} → verdict.Accepted a ≡ verdict.Accepted b → a ≡ b
 same-module e = cc
 
-refused-text : (x : Answer CheckReport) {fault : Fault} → verdict.Refused fault ≡ verdictOf x → refusedLine fault ≡ lineOf x
+refused-text : (x : Answer CheckReport) {refusal : Refusal} → verdict.Refused refusal ≡ verdictOf x → refusedLine refusal ≡ lineOf x
 refused-text (gives c) e = never-accepted (sym e)
 refused-text (refuses r) e = ap refusedLine (cc)
 
@@ -48,7 +48,7 @@ counted-text (got f end) e n =
 counted-text (refused r) e n = never-accepted e
 
 module _ (input : List ℕ) where
-  pub over-line : listedMost < length input → refusedLine (faultOf (2 at 0)) ≡ lineOf (listing input)
+  pub over-line : listedMost < length input → refusedLine (codeRefusal (2 at 0)) ≡ lineOf (listing input)
   unfolding listing
   over-line h = rw (lt-leb (length input) listedMost h)
 
@@ -57,7 +57,7 @@ module _ (input : List ℕ) where
     unfolding listing
     listed = rw (le-leb (length input) listedMost h)
 
-    pub refused-line : {fault : Fault} → answer ≡ verdict.Refused fault → refusedLine fault ≡ lineOf (listing input)
+    pub refused-line : {refusal : Refusal} → answer ≡ verdict.Refused refusal → refusedLine refusal ≡ lineOf (listing input)
     refused-line e = refused-text (checking input) (sym e ∙ met) ∙ listed
 
     pub counted-line : Bytes input → {found : Module} → answer ≡ verdict.Accepted found → {counted : Counted} → counted ≡ countedOf (counting input)

@@ -4,7 +4,7 @@ use mathlib.Core.List.{List, [], _∷_, _++_}
 use mathlib.Core.Path.{_≡_}
 use lib.ListN.{length, take}
 use Rattle.xm.specs.Answer.{inFront}
-use Rattle.refusal.specs.declared.Fault.{Fault}
+use Rattle.refusal.specs.declared.Refusal.{Refusal}
 use Rattle.reader.specs.declared.count.Counts.{Counts}
 use Rattle.reader.specs.declared.count.Counted.{Counted}
 use Rattle.reader.specs.declared.count.Counted.the-variants.{Accepted, Refused}
@@ -14,12 +14,12 @@ use Rattle.line.specs.Line.{okWord, refusedWord, numbered}
 abbrev pub acceptedLine : (end channels : ℕ) → Counts → List ℕ
 acceptedLine end channels counts = okWord ++ numbered (end ∷ channels ∷ counts .patterns ∷ counts .instruments ∷ counts .samples ∷ [])
 
-abbrev pub refusedLine : Fault → List ℕ
-refusedLine fault = refusedWord ++ numbered (fault .number ∷ fault .place ∷ [])
+abbrev pub refusedLine : Refusal → List ℕ
+refusedLine refusal = refusedWord ++ numbered (refusal .number ∷ refusal .place ∷ [])
 
 abbrev pub countedLine : (end channels : ℕ) → Counted → List ℕ
 countedLine end channels (Accepted counts) = acceptedLine end channels counts
-countedLine end channels (Refused fault) = refusedLine fault
+countedLine end channels (Refused refusal) = refusedLine refusal
 
 -- So many bytes stand at the front: what whoever lends just them on has to know.
 abbrev pub Front : (count : ℕ) (held : List ℕ) → Type 0

@@ -2,7 +2,7 @@
 use reader::count::Counted;
 use reader::count::Counts;
 use reader::count::count_from;
-use refusal::Fault;
+use refusal::Refusal;
 use slices::write::copy;
 use structures::start_checked;
 use walk::Verdict;
@@ -83,12 +83,12 @@ fn put_accepted(end: usize, channels: usize, counts: Counts, line: &mut [u8; 128
     put_line(b"ok", &numbers, line)
 }
 
-fn put_refused(fault: Fault, line: &mut [u8; 128]) -> usize
-    ensures size { λ r. ⌜ r ≡ length (refusedLine fault) ⌝ }
-    ensures memory { λ _. ⌜ now (line .exit) ≡ inFront (refusedLine fault) (now (line .entry)) ⌝ }
+fn put_refused(refusal: Refusal, line: &mut [u8; 128]) -> usize
+    ensures size { λ r. ⌜ r ≡ length (refusedLine refusal) ⌝ }
+    ensures memory { λ _. ⌜ now (line .exit) ≡ inFront (refusedLine refusal) (now (line .entry)) ⌝ }
     ensures front { λ r. ⌜ Front r (now (line .exit)) ⌝ }
 {
-    let numbers = [fault.number as usize, fault.place];
+    let numbers = [refusal.number as usize, refusal.place];
     put_line(b"refused", &numbers, line)
 }
 
@@ -100,7 +100,7 @@ fn put_counted(end: usize, channels: usize, counted: Counted, line: &mut [u8; 12
 {
     match counted {
         Counted::Accepted(counts) => put_accepted(end, channels, counts, line),
-        Counted::Refused(fault) => put_refused(fault, line),
+        Counted::Refused(refusal) => put_refused(refusal, line),
     }
 }
 
@@ -112,7 +112,7 @@ pub fn fill_line(input: &[u8], line: &mut [u8; 128]) -> usize
     ensures front { λ r. ⌜ Front r (now (line .exit)) ⌝ }
 {
     if LISTED_MOST < input.len() {
-        let over = Fault {
+        let over = Refusal {
             number: 2,
             place: 0,
         };
@@ -125,6 +125,6 @@ pub fn fill_line(input: &[u8], line: &mut [u8; 128]) -> usize
             let counted = count_from(input, place);
             put_counted(found.end, found.channels, counted, line)
         }
-        Verdict::Refused(fault) => put_refused(fault, line),
+        Verdict::Refused(refusal) => put_refused(refusal, line),
     }
 }

@@ -6,7 +6,7 @@ use cells::Unpacked;
 use packing::Packed;
 use periods::Tuned;
 use press::Pressed;
-use refusal::Fault;
+use refusal::Refusal;
 use samples::Coded;
 use samples::Decoded;
 use walk::Verdict;
@@ -14,11 +14,11 @@ ghost use mathlib.Core.Path.{_≡_};
 ghost use Prim.Native.Nat.{_^_, _<_};
 ghost use Rattle.loader.specs.Number.{refusalNumber, checkNumber, unpackNumber, packNumber, pressNumber, decodeNumber, codeNumber, periodNumber};
 
-fn refusal_number(fault: Fault) -> u64
-    requires { ⌜ refusalNumber fault < 2 ^ 64 ⌝ }
-    ensures { λ r. ⌜ r ≡ refusalNumber fault ⌝ }
+fn refusal_number(refusal: Refusal) -> u64
+    requires { ⌜ refusalNumber refusal < 2 ^ 64 ⌝ }
+    ensures { λ r. ⌜ r ≡ refusalNumber refusal ⌝ }
 {
-    (fault.number as u64) * 4294967296 + (fault.place as u64)
+    (refusal.number as u64) * 4294967296 + (refusal.place as u64)
 }
 
 pub fn check_number(verdict: Verdict) -> u64
@@ -27,7 +27,7 @@ pub fn check_number(verdict: Verdict) -> u64
 {
     match verdict {
         Verdict::Accepted(module) => module.end as u64,
-        Verdict::Refused(fault) => refusal_number(fault),
+        Verdict::Refused(refusal) => refusal_number(refusal),
     }
 }
 
@@ -37,7 +37,7 @@ pub fn unpack_number(unpacked: Unpacked) -> u64
 {
     match unpacked {
         Unpacked::Rows(rows) => rows as u64,
-        Unpacked::Refused(fault) => refusal_number(fault),
+        Unpacked::Refused(refusal) => refusal_number(refusal),
     }
 }
 
@@ -47,7 +47,7 @@ pub fn pack_number(packed: Packed) -> u64
 {
     match packed {
         Packed::Stored(form) => (form.length as u64) + 65536 * (form.rows as u64),
-        Packed::Refused(fault) => refusal_number(fault),
+        Packed::Refused(refusal) => refusal_number(refusal),
     }
 }
 
@@ -57,7 +57,7 @@ pub fn press_number(pressed: Pressed) -> u64
 {
     match pressed {
         Pressed::Length(length) => length as u64,
-        Pressed::Refused(fault) => refusal_number(fault),
+        Pressed::Refused(refusal) => refusal_number(refusal),
     }
 }
 
@@ -67,7 +67,7 @@ pub fn decode_number(decoded: Decoded) -> u64
 {
     match decoded {
         Decoded::Values(count) => count as u64,
-        Decoded::Refused(fault) => refusal_number(fault),
+        Decoded::Refused(refusal) => refusal_number(refusal),
     }
 }
 
@@ -77,7 +77,7 @@ pub fn code_number(coded: Coded) -> u64
 {
     match coded {
         Coded::Bytes(count) => count as u64,
-        Coded::Refused(fault) => refusal_number(fault),
+        Coded::Refused(refusal) => refusal_number(refusal),
     }
 }
 
@@ -87,6 +87,6 @@ pub fn period_number(tuned: Tuned) -> u64
 {
     match tuned {
         Tuned::Period(period) => (period.dividend as u64) + 65536 * (period.divisor as u64),
-        Tuned::Refused(fault) => refusal_number(fault),
+        Tuned::Refused(refusal) => refusal_number(refusal),
     }
 }

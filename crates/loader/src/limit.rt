@@ -1,6 +1,6 @@
 // The loader's limits: more than 16,777,216 bytes to decode or values to code get 16, and so does an ADPCM length above 33,554,432. So
 // a count is always told from a refusal.
-use refusal::Fault;
+use refusal::Refusal;
 use samples::Coded;
 use samples::Decoded;
 ghost use mathlib.Core.Path.{_≡_};
@@ -8,17 +8,17 @@ ghost use lib.ListN.{length};
 ghost use Rattle.xm.specs.Got.{_at_};
 ghost use Rattle.xm.specs.Delta.{decodingLimited, decodeLimitedAfter, codingLimited, codeLimitedAfter};
 ghost use Rattle.xm.specs.Adpcm.{adpcmLimited, adpcmLimitedAfter};
-ghost use Rattle.refusal.specs.Fault.{faultOf};
+ghost use Rattle.refusal.specs.Refusal.{codeRefusal};
 ghost use Rattle.samples.specs.Answers.{decodeAnswer, codeAnswer};
 
 const DELTA_MOST: usize = 16777216;
 
 const ADPCM_MOST: usize = 33554432;
 
-fn above_limit() -> Fault
-    ensures { λ r. ⌜ r ≡ faultOf (16 at 0) ⌝ }
+fn above_limit() -> Refusal
+    ensures { λ r. ⌜ r ≡ codeRefusal (16 at 0) ⌝ }
 {
-    Fault {
+    Refusal {
         number: 16,
         place: 0,
     }

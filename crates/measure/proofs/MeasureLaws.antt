@@ -20,7 +20,7 @@ use Rattle.xm.proofs.Cell.{kepts-most, cell-length, CellRead, cell-read, write-
 use Rattle.xm.proofs.Lay.{head-at}
 use Rattle.xm.proofs.Short.{shortest-by, short-by, short-exact}
 use Rattle.xm.proofs.Run.{run-read}
-use Rattle.refusal.specs.Fault.{faultOf}
+use Rattle.refusal.specs.Refusal.{codeRefusal}
 use Rattle.cell.proofs.ReadRuns.{cellOnto, run-more, run-stop}
 use Rattle.measure.specs.declared.StoredStep.{StoredStep}
 use Rattle.measure.specs.declared.StoredStep.the-variants.{Read, Refused}
@@ -128,7 +128,7 @@ module _ {s : List ℕ} {answer : StoredStep} where
           rest = v .rest ∙ measured-more s left used shortest same some e ∙ rw (en, ec, es);
         }
 
-    pub measuring-stop : 0 < left → {r : Refusal} → readCell used (drop used s) ≡ refused r → Refused (faultOf r) ≡ answer
+    pub measuring-stop : 0 < left → {r : Refusal} → readCell used (drop used s) ≡ refused r → Refused (codeRefusal r) ≡ answer
     measuring-stop some e = sym (v .rest ∙ ap (measuredOn used shortest same (drop used s)) (run-stop s used left some e))
 
     pub measuring-done : left ≡ 0 → Read (record { used = used; shortest = shortest; same = same }) ≡ answer

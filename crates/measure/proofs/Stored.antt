@@ -14,7 +14,7 @@ use Rattle.xm.specs.Run.{sizeBy}
 use Rattle.xm.proofs.Got.{no-true}
 use Rattle.xm.proofs.Stored.{Fives, rows-none, write-none, stored-none}
 use Rattle.xm.proofs.Run.{run-read, in-length, in-fives, stored-nothing, stored-cells, size-by}
-use Rattle.refusal.specs.declared.Fault.{Fault}
+use Rattle.refusal.specs.declared.Refusal.{Refusal}
 use Rattle.cell.proofs.ReadRuns.{stored-refused, stored-left, stored-whole}
 use Rattle.measure.specs.declared.StoredSize.{StoredSize}
 use Rattle.measure.specs.declared.StoredStep.{StoredStep}
@@ -38,7 +38,7 @@ same-nothing (x ∷ d) h = refl
 
 -- Some data
 module _ (channels rows : ℕ) (d : List ℕ) (some : 1 ≤ length d) {step : StoredStep} (e : step ≡ measuredOn 0 0 true d (readRun (rows * channels) 0 d)) where
-  pub measured-refused : {f : Fault} → step ≡ Refused f → step ≡ storedOf d (readStored channels rows 0 d)
+  pub measured-refused : {f : Refusal} → step ≡ Refused f → step ≡ storedOf d (readStored channels rows 0 d)
   measured-refused {f} told = go (readRun (rows * channels) 0 d) refl (sym told ∙ e)
     where
       go : (g : Got (List (List ℕ))) → readRun (rows * channels) 0 d ≡ g → Refused f ≡ measuredOn 0 0 true d g

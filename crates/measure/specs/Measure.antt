@@ -8,7 +8,7 @@ use Rattle.xm.specs.Got.{Got, got, refused}
 use Rattle.xm.specs.Format.{joined}
 use Rattle.xm.specs.Cell.{writeCell}
 use Rattle.xm.specs.Stored.{Pattern, writeStored}
-use Rattle.refusal.specs.Fault.{faultOf}
+use Rattle.refusal.specs.Refusal.{codeRefusal}
 use Rattle.measure.specs.declared.StoredStep.{StoredStep}
 use Rattle.measure.specs.declared.StoredStep.the-variants.{Read, Refused}
 
@@ -26,9 +26,9 @@ measuredOn used shortest same s (got cells n) = Read (record {
   shortest = shortest + length (joined writeCell cells);
   same = same && sameBytes (take n s) (joined writeCell cells);
 })
-measuredOn used shortest same s (refused r) = Refused (faultOf r)
+measuredOn used shortest same s (refused r) = Refused (codeRefusal r)
 
 -- A stored pattern.
 abbrev pub storedOf : (stored : List ℕ) → Got Pattern → StoredStep
 storedOf stored (got p used) = Read (record { used = used; shortest = length (writeStored p); same = sameBytes stored (writeStored p) })
-storedOf stored (refused r) = Refused (faultOf r)
+storedOf stored (refused r) = Refused (codeRefusal r)

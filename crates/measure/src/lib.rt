@@ -2,9 +2,9 @@
 use cell::pattern;
 use cell::read;
 use cell::read::chosen;
-use refusal::Fault;
+use refusal::Refusal;
 use refusal::Step;
-use refusal::fault_of;
+use refusal::refusal_of;
 ghost use mathlib.Core.Path.{_≡_};
 ghost use Prim.Native.Nat.{_+_, _*_, _≤_};
 ghost use mathlib.Core.Bool.{true, _&&_};
@@ -43,7 +43,7 @@ struct Skip {
 
 pub enum StoredStep {
     Read(StoredSize),
-    Refused(Fault),
+    Refused(Refusal),
 }
 
 // 1 for a byte that isn't 0, in a byte: so that many are counted at once.
@@ -222,7 +222,7 @@ fn measure_from(stored: &[u8], from: usize, count: usize, before: usize, alike: 
     while 0 < left {
         let step = read::try_cell(stored, used);
         let Step::Next(next) = step else {
-            return StoredStep::Refused(fault_of(step));
+            return StoredStep::Refused(refusal_of(step));
         };
         let cell = read::take_cell(stored, used);
         let kept = read::kept_count(cell);
@@ -341,7 +341,7 @@ pub fn read_stored(stored: &[u8], rows: usize, channels: usize) -> StoredStep
     };
     let used = size.used;
     if used < stored.len() {
-        return StoredStep::Refused(Fault {
+        return StoredStep::Refused(Refusal {
             number: 8,
             place: used,
         });

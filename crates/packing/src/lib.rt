@@ -5,7 +5,7 @@ use cell::read::kept_in;
 use cell::read::shortest_by;
 use cell::write::write_cell;
 use cell::write::write_over;
-use refusal::Fault;
+use refusal::Refusal;
 use slices::read::wide;
 ghost use mathlib.Core.Path.{_≡_};
 ghost use Prim.Native.Nat.{_+_, _*_, _≤_};
@@ -26,7 +26,7 @@ pub struct Form {
 
 pub enum Packed {
     Stored(Form),
-    Refused(Fault),
+    Refused(Refusal),
 }
 
 // The first pass over lent cells: how many bytes they take in their shortest form. Above what data can be, the rest are not measured.
@@ -104,7 +104,7 @@ fn write_cells(cells: &[u8], count: usize, out: &mut [u8])
 fn refused(number: u32) -> Packed
     ensures { λ r. ⌜ r ≡ packedOf (refuses (number at 0)) ⌝ }
 {
-    Packed::Refused(Fault {
+    Packed::Refused(Refusal {
         number: number,
         place: 0,
     })

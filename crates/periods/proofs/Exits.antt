@@ -12,8 +12,8 @@ use mir.Facts.{toZ-ofZ}
 use Rattle.xm.specs.Got.{_at_}
 use Rattle.xm.specs.Answer.{refuses}
 use Rattle.xm.specs.Delta.{fits}
-use Rattle.refusal.specs.Fault.{faultOf}
-use Rattle.refusal.specs.declared.Fault.{Fault}
+use Rattle.refusal.specs.Refusal.{codeRefusal}
+use Rattle.refusal.specs.declared.Refusal.{Refusal}
 use Rattle.periods.specs.Period.{noteMost, remaining, position, periodAt, tuning}
 use Rattle.periods.specs.Tuned.{quotientOf, tunedOf}
 use Rattle.periods.specs.declared.Quotient.{Quotient}
@@ -41,17 +41,17 @@ pub f-below : (z : ℤ) {f : ℕ} → f ≡ remaining (held z) 16 → f < 16
 f-below z e = rw e (remaining-below (held z))
 
 module _ (note : ℕ) (z : ℤ) (fit : SFits w64 z) where
-  refused : {fault : Fault} → fault ≡ faultOf (16 at 0) → tuning note z ≡ refuses (16 at 0) → tuned.Refused fault ≡ tunedOf (tuning note z)
+  refused : {refusal : Refusal} → refusal ≡ codeRefusal (16 at 0) → tuning note z ≡ refuses (16 at 0) → tuned.Refused refusal ≡ tunedOf (tuning note z)
   refused f e = rw (e, f)
 
-  pub exit-note : {fault : Fault} → fault ≡ faultOf (16 at 0) → noteMost < note → tuned.Refused fault ≡ tunedOf (tuning note z)
+  pub exit-note : {refusal : Refusal} → refusal ≡ codeRefusal (16 at 0) → noteMost < note → tuned.Refused refusal ≡ tunedOf (tuning note z)
   exit-note f h = refused f (note-refused note z h)
 
   module _ (h : note ≤ noteMost) where
-    pub exit-low : {fault : Fault} → fault ≡ faultOf (16 at 0) → ltZ (held z) (negsuc 127) ≡ true → tuned.Refused fault ≡ tunedOf (tuning note z)
+    pub exit-low : {refusal : Refusal} → refusal ≡ codeRefusal (16 at 0) → ltZ (held z) (negsuc 127) ≡ true → tuned.Refused refusal ≡ tunedOf (tuning note z)
     exit-low f t = refused f (finetune-refused note z h (low z (rw (toZ-ofZ fit) at t)))
 
-    pub exit-high : {fault : Fault} → fault ≡ faultOf (16 at 0) → ltZ (pos 127) (held z) ≡ true → tuned.Refused fault ≡ tunedOf (tuning note z)
+    pub exit-high : {refusal : Refusal} → refusal ≡ codeRefusal (16 at 0) → ltZ (pos 127) (held z) ≡ true → tuned.Refused refusal ≡ tunedOf (tuning note z)
     exit-high f t = refused f (finetune-refused note z h (high z (rw (toZ-ofZ fit) at t)))
 
     module _ (not-low : ltZ (held z) (negsuc 127) ≡ false) (not-high : ltZ (pos 127) (held z) ≡ false) {q : ℤ} (is-q : q ≡ position note (held z)) where
@@ -63,7 +63,7 @@ module _ (note : ℕ) (z : ℤ) (fit : SFits w64 z) where
           let e : q ≡ position note z = is-q ∙ ap (position note) (toZ-ofZ fit) in
           ap held e ∙ toZ-ofZ (position-fits note z h fit)
 
-      pub exit-below : {fault : Fault} → fault ≡ faultOf (16 at 0) → ltZ (held q) (pos 0) ≡ true → tuned.Refused fault ≡ tunedOf (tuning note z)
+      pub exit-below : {refusal : Refusal} → refusal ≡ codeRefusal (16 at 0) → ltZ (held q) (pos 0) ≡ true → tuned.Refused refusal ≡ tunedOf (tuning note z)
       exit-below f t = refused f (position-refused note z h inside (below (position note z) (rw q-held at t)))
 
       module _ (not-below : ltZ (held q) (pos 0) ≡ false) where

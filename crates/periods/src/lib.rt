@@ -1,11 +1,11 @@
 // The period of a note and its finetune, by document 001's table: two whole numbers.
 mod table;
 
-use refusal::Fault;
+use refusal::Refusal;
 ghost use mathlib.Core.Path.{_≡_};
 ghost use Prim.Native.Nat.{_≤_, _<_};
 ghost use Rattle.xm.specs.Got.{_at_};
-ghost use Rattle.refusal.specs.Fault.{faultOf};
+ghost use Rattle.refusal.specs.Refusal.{codeRefusal};
 ghost use Rattle.periods.specs.Period.{noteMost, roundedDown, remaining, position, periodAt, tuning};
 ghost use Rattle.periods.specs.Tuned.{quotientOf, tunedOf};
 
@@ -17,15 +17,15 @@ pub struct Quotient {
 
 pub enum Tuned {
     Period(Quotient),
-    Refused(Fault),
+    Refused(Refusal),
 }
 
 const NOTE_MOST: u64 = 118;
 
-fn out_of_range() -> Fault
-    ensures { λ r. ⌜ r ≡ faultOf (16 at 0) ⌝ }
+fn out_of_range() -> Refusal
+    ensures { λ r. ⌜ r ≡ codeRefusal (16 at 0) ⌝ }
 {
-    Fault {
+    Refusal {
         number: 16,
         place: 0,
     }

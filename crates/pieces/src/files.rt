@@ -22,7 +22,7 @@ pub fn put_verdict(verdict: Verdict) {
             put(module.instruments);
             put(module.samples);
         }
-        Verdict::Refused(fault) => put_answer(refused(fault)),
+        Verdict::Refused(refusal) => put_answer(refused(refusal)),
     }
 }
 
@@ -42,8 +42,8 @@ fn put_standing(standing: Standing) -> bool {
             say(b" end");
             false
         }
-        Standing::Refused(fault) => {
-            put_answer(refused(fault));
+        Standing::Refused(refusal) => {
+            put_answer(refused(refusal));
             false
         }
     }
@@ -73,7 +73,7 @@ pub fn put_counted(counted: Counted) {
             put_answer(accepted(counts.patterns, counts.instruments));
             put(counts.samples);
         }
-        Counted::Refused(fault) => put_answer(refused(fault)),
+        Counted::Refused(refusal) => put_answer(refused(refusal)),
     }
 }
 
@@ -88,7 +88,7 @@ pub fn put_line(file: &[u8]) {
 fn of_pressed(pressed: Pressed) -> Answer {
     match pressed {
         Pressed::Length(length) => accepted(length, 0),
-        Pressed::Refused(fault) => refused(fault),
+        Pressed::Refused(refusal) => refused(refusal),
     }
 }
 

@@ -27,7 +27,7 @@ fn stored_of<'a>(file: &'a [u8], patterns: &[u32], row: usize) -> &'a [u8] {
 fn of_unpacked(unpacked: Unpacked) -> Answer {
     match unpacked {
         Unpacked::Rows(rows) => accepted(rows, 0),
-        Unpacked::Refused(fault) => refused(fault),
+        Unpacked::Refused(refusal) => refused(refusal),
     }
 }
 

@@ -24,7 +24,7 @@ use samples::Decoded;
 fn of_asked(asked: Asked) -> Answer {
     match asked {
         Asked::Lies(stretch) => accepted(stretch.place, stretch.length),
-        Asked::Refused(fault) => refused(fault),
+        Asked::Refused(refusal) => refused(refusal),
     }
 }
 
@@ -43,7 +43,7 @@ pub fn put_ask(file: &[u8], numbers: Numbers, samples: &[u32]) {
 fn of_decoded(decoded: Decoded) -> Answer {
     match decoded {
         Decoded::Values(count) => accepted(count, 0),
-        Decoded::Refused(fault) => refused(fault),
+        Decoded::Refused(refusal) => refused(refusal),
     }
 }
 
@@ -115,7 +115,7 @@ fn put_decode(width: usize, stretch: &[u8], wanted: usize, values: &mut [i16]) -
 fn of_coded(coded: Coded) -> Answer {
     match coded {
         Coded::Bytes(count) => accepted(count, 0),
-        Coded::Refused(fault) => refused(fault),
+        Coded::Refused(refusal) => refused(refusal),
     }
 }
 

@@ -3,7 +3,7 @@ use crate::lent::least;
 use crate::lent::part;
 use crate::sum;
 use libc::STDOUT_FILENO;
-use refusal::Fault;
+use refusal::Refusal;
 
 pub fn say(words: &[u8]) {
     io::write_all(STDOUT_FILENO, words);
@@ -31,10 +31,10 @@ pub fn accepted(first: usize, second: usize) -> Answer {
     }
 }
 
-pub fn refused(fault: Fault) -> Answer {
+pub fn refused(refusal: Refusal) -> Answer {
     Answer {
-        number: fault.number as usize,
-        place: fault.place,
+        number: refusal.number as usize,
+        place: refusal.place,
         first: 0,
         second: 0,
     }

@@ -19,10 +19,10 @@ use Rattle.xm.proofs.Answer.{answer-refuses}
 use Rattle.xm.proofs.Module.{module-back, module-keeps}
 use Rattle.xm.proofs.Press.{press-gives, press-narrow, file-good}
 use Rattle.xm.proofs.Convert.{converted-good, own-refusal-first, convert-gives, convert-large, convert-narrow}
-use Rattle.refusal.specs.Fault.{refusalIn}
-use Rattle.refusal.specs.declared.Fault.{Fault}
+use Rattle.refusal.specs.Refusal.{paperRefusal}
+use Rattle.refusal.specs.declared.Refusal.{Refusal}
 use Rattle.mark.specs.Mark.{Marks}
-use Rattle.walk.specs.File.{walkStep, walkFault}
+use Rattle.walk.specs.File.{walkStep, walkRefusal}
 use Rattle.walk.specs.declared.WalkStep.{WalkStep}
 use Rattle.walk.specs.declared.WalkStep.the-variants as walked
 use Rattle.walk.proofs.FileLaws.{header-length}
@@ -40,8 +40,8 @@ accepted-got : {R : Type 0} (to : ModuleKind) (g : Got Found) {size : ℕ} → w
 accepted-got to (got found end) e k = k found end refl (cc)
 accepted-got to (refused r) e k = absurd (no-true (cc))
 
-walk-refused : (to : ModuleKind) (g : Got Found) {step : WalkStep} {f r : Fault}
-    → step ≡ walkStep to g → step ≡ walked.Refused f → r ≡ walkFault step → g ≡ refused (refusalIn r)
+walk-refused : (to : ModuleKind) (g : Got Found) {step : WalkStep} {f r : Refusal}
+    → step ≡ walkStep to g → step ≡ walked.Refused f → r ≡ walkRefusal step → g ≡ refused (paperRefusal r)
 walk-refused to (got found end) e told passed = cc
 walk-refused to (refused q) e told passed = cc
 
@@ -50,13 +50,13 @@ module _ (to : ModuleKind) (file lent : List ℕ) where
   kind = kindAt file
 
   -- Refused by the walk
-  module _ {step : WalkStep} {f r : Fault} (e : step ≡ walkStep to (readFile file)) (told : step ≡ walked.Refused f) (passed : r ≡ walkFault step) where
+  module _ {step : WalkStep} {f r : Refusal} (e : step ≡ walkStep to (readFile file)) (told : step ≡ walked.Refused f) (passed : r ≡ walkRefusal step) where
     pub press-refused : Presses file lent (Refused r) lent
     unfolding pressingAs
     press-refused = rw (answer-refuses (λ bytes used. bytes) (step-refused _ (walk-refused to (readFile file) e told passed))) (refl, refl)
 
     pub convert-refused : Converts to file lent (Refused r) lent
-    convert-refused = rw (own-refusal-first to file (length lent) (refusalIn r) (walk-refused to (readFile file) e told passed)) (refl, refl)
+    convert-refused = rw (own-refusal-first to file (length lent) (paperRefusal r) (walk-refused to (readFile file) e told passed)) (refl, refl)
 
   module _ {size : ℕ} (e : walked.Accepted size ≡ walkStep to (readFile file)) where
     pub accepted-told : (marks : List ℕ) → ((found : Found) (end : ℕ) → readFile file ≡ got found end → Marks file 0 (found .1 .0) marks)

@@ -19,7 +19,7 @@ use Rattle.steps.specs.Step.{instrumentStep, InstrumentIs}
 use Rattle.steps.specs.declared.instrument.InstrumentPart.{InstrumentPart}
 use Rattle.steps.specs.declared.instrument.InstrumentStep.{InstrumentStep}
 use Rattle.steps.specs.declared.instrument.InstrumentStep.the-variants.{Read, Refused}
-use Rattle.refusal.specs.declared.Fault.{Fault}
+use Rattle.refusal.specs.declared.Refusal.{Refusal}
 use Rattle.xm.proofs.Got.{no-true, passed, told-got, got-told}
 use Rattle.steps.proofs.InstrumentLaws.{fields-pass}
 use Rattle.writers.specs.Found.{readAt, pressedAt, endOf, instrumentAs}
@@ -97,7 +97,7 @@ instrument-there : (file : List ℕ) (kind : ModuleKind) (place : ℕ) {i : Inst
 unfolding readInstrument
 instrument-there file kind place e = passed _ _ e λ h e. omega (arith, fields-pass kind place (drop place file) h .some, length-drop place file)
 
-never-refused : {R : Type 0} (place : ℕ) (g : Got InstrumentFound) {step : InstrumentStep} {f : Fault} {i : InstrumentFound} {n : ℕ}
+never-refused : {R : Type 0} (place : ℕ) (g : Got InstrumentFound) {step : InstrumentStep} {f : Refusal} {i : InstrumentFound} {n : ℕ}
     → step ≡ instrumentStep place g → step ≡ Refused f → g ≡ got i n → R
 never-refused place g e told q = absurd (no-true (cc))
 
@@ -143,7 +143,7 @@ module _ (file lent : List ℕ) (to : ModuleKind) (at count : ℕ) where
       pub instrument-room : written + length (instrumentAs to file place) ≤ length out
       instrument-room = each-room own other tt file lent instruments last (w .writes) some
 
-      pub instrument-never : {R : Type 0} {step : InstrumentStep} {f : Fault}
+      pub instrument-never : {R : Type 0} {step : InstrumentStep} {f : Refusal}
           → step ≡ instrumentStep place (readInstrument (kindAt file) place (drop place file)) → step ≡ Refused f → R
       instrument-never e told = never-refused place _ e told (first .read)
 

@@ -1,9 +1,9 @@
 // Conversion to either kind of module.
 use crate::Pressed;
 use crate::module::write_module;
-use refusal::Fault;
+use refusal::Refusal;
 use walk::WalkStep;
-use walk::fault_of_walk;
+use walk::refusal_of_walk;
 ghost use mathlib.Core.Path.{_≡_};
 ghost use lib.ListN.{length};
 ghost use Rattle.xm.specs.ModuleKind.{kindBy};
@@ -22,16 +22,16 @@ pub fn convert(file: &[u8], to: bool, out: &mut [u8]) -> Pressed
     let mut marks: [u64; 8] = [0; 8];
     let step = walk::walk(file, to, &mut marks);
     let WalkStep::Accepted(size) = step else {
-        return Pressed::Refused(fault_of_walk(step));
+        return Pressed::Refused(refusal_of_walk(step));
     };
     if FILE_MOST < size {
-        return Pressed::Refused(Fault {
+        return Pressed::Refused(Refusal {
             number: 2,
             place: 0,
         });
     }
     if out.len() < size {
-        return Pressed::Refused(Fault {
+        return Pressed::Refused(Refusal {
             number: 14,
             place: 0,
         });

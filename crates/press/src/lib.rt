@@ -4,10 +4,10 @@ mod module;
 
 use convert::convert;
 use module::write_module;
-use refusal::Fault;
+use refusal::Refusal;
 use steps::kind::is_stripped;
 use walk::WalkStep;
-use walk::fault_of_walk;
+use walk::refusal_of_walk;
 ghost use mathlib.Core.Path.{_≡_};
 ghost use lib.ListN.{length};
 ghost use Rattle.xm.specs.ModuleKind.{normal, stripped};
@@ -18,7 +18,7 @@ ghost use Rattle.press.specs.Pressed.{pressedOf};
 pub enum Pressed {
     // How many bytes were written.
     Length(usize),
-    Refused(Fault),
+    Refused(Refusal),
 }
 
 // Presses a file. One pass over its cells checks and measures, so that nothing is written before the room is known to do; the other
@@ -31,10 +31,10 @@ pub fn press(file: &[u8], out: &mut [u8]) -> Pressed
     let stripped = is_stripped(file);
     let step = walk::walk(file, stripped, &mut marks);
     let WalkStep::Accepted(size) = step else {
-        return Pressed::Refused(fault_of_walk(step));
+        return Pressed::Refused(refusal_of_walk(step));
     };
     if out.len() < size {
-        return Pressed::Refused(Fault {
+        return Pressed::Refused(Refusal {
             number: 14,
             place: 0,
         });

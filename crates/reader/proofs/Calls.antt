@@ -63,7 +63,7 @@ no-kind (Pattern place) h = absurd (omega arith)
 no-kind (Instrument place) h = absurd (omega arith)
 no-kind (SampleHeader place) h = absurd (omega arith)
 no-kind End h = refl
-no-kind (Refused fault) h = refl
+no-kind (Refused refusal) h = refl
 
 pub next-stays : (r r′ : Reader) (answer : Standing) → Called r answer r′ → resultIn (standingNumbers answer) 0 ≡ 0 → r′ ≡ r
 next-stays r r′ answer c h = same-reader (c .1) (c .2 ∙ hand-none (now (r .file)) (r .place) (ap handsOver (sym (c .0)) ∙ no-kind answer h))

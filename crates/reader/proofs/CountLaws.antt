@@ -110,7 +110,7 @@ hand-none-of file a paper.ended e k h = hand-stays file a e
 pub hand-none : (file : List ℕ) (x : Reached) → handsOver (standingOf (called file (reachedIn x))) ≡ false → reachedOf (readOn file (reachedIn x)) ≡ x
 hand-none file (reached.Within a) h =
     ap (λ (b : Ahead). reached.Within (aheadOf b)) (hand-none-of file (aheadIn a) (handOver file (aheadIn a) .standing) refl (hand-kind file (aheadIn a)) h)
-hand-none file (reached.Refused fault) h = refl
+hand-none file (reached.Refused refusal) h = refl
 
 -- How far a reader from the start has read after i calls, and what it hands over then
 abbrev pub placeAfter : (file : List ℕ) (i : ℕ) → Reached

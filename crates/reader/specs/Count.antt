@@ -9,7 +9,7 @@ use Rattle.xm.specs.Module.{readFile}
 use Rattle.xm.specs.Table.{CheckReport, checkResults}
 use Rattle.xm.specs.Structure.{structures}
 use Rattle.xm.specs.Region.{ofKind}
-use Rattle.refusal.specs.Fault.{faultOf}
+use Rattle.refusal.specs.Refusal.{codeRefusal}
 use Rattle.structures.specs.declared.Standing.{Standing}
 use Rattle.structures.specs.declared.Standing.the-variants.{Pattern, Instrument, SampleHeader, End}
 use Rattle.structures.specs.declared.Standing.the-variants as standing
@@ -35,12 +35,12 @@ counting file = answered (λ found end. structureCounts (structures found)) (rea
 
 abbrev pub countedOf : Answer Counts → Counted
 countedOf (gives counts) = counted.Accepted counts
-countedOf (refuses r) = counted.Refused (faultOf r)
+countedOf (refuses r) = counted.Refused (codeRefusal r)
 
 -- This paper's numbers for each case: number, place, patterns, instruments, samples.
 abbrev pub countedNumbers : Counted → List ℕ
 countedNumbers (counted.Accepted counts) = 0 ∷ 0 ∷ counts .patterns ∷ counts .instruments ∷ counts .samples ∷ []
-countedNumbers (counted.Refused fault) = fault .number ∷ fault .place ∷ 0 ∷ 0 ∷ 0 ∷ []
+countedNumbers (counted.Refused refusal) = refusal .number ∷ refusal .place ∷ 0 ∷ 0 ∷ 0 ∷ []
 
 -- The results of the check that these are to equal: behind the end and the channels, patterns, instruments and samples.
 abbrev pub countResults : List (CheckReport → ℕ)
@@ -52,18 +52,18 @@ handsOver (Pattern place) = true
 handsOver (Instrument place) = true
 handsOver (SampleHeader place) = true
 handsOver End = false
-handsOver (standing.Refused fault) = false
+handsOver (standing.Refused refusal) = false
 
 abbrev pub oneMore : Counts → Standing → Counts
 oneMore counts (Pattern place) = record { patterns = counts .patterns + 1; instruments = counts .instruments; samples = counts .samples }
 oneMore counts (Instrument place) = record { patterns = counts .patterns; instruments = counts .instruments + 1; samples = counts .samples }
 oneMore counts (SampleHeader place) = record { patterns = counts .patterns; instruments = counts .instruments; samples = counts .samples + 1 }
 oneMore counts End = counts
-oneMore counts (standing.Refused fault) = counts
+oneMore counts (standing.Refused refusal) = counts
 
 abbrev pub endsAs : Counts → Standing → Counted
 endsAs counts (Pattern place) = counted.Accepted counts
 endsAs counts (Instrument place) = counted.Accepted counts
 endsAs counts (SampleHeader place) = counted.Accepted counts
 endsAs counts End = counted.Accepted counts
-endsAs counts (standing.Refused fault) = counted.Refused fault
+endsAs counts (standing.Refused refusal) = counted.Refused refusal

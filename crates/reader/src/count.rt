@@ -1,7 +1,7 @@
 // The structures of a file counted by kind, with a reader that is run to the end.
 use crate::Reader;
 use crate::next;
-use refusal::Fault;
+use refusal::Refusal;
 use structures::Reached;
 use structures::Standing;
 use structures::start;
@@ -21,7 +21,7 @@ pub struct Counts {
 
 pub enum Counted {
     Accepted(Counts),
-    Refused(Fault),
+    Refused(Refusal),
 }
 
 fn none_counted() -> Counts
@@ -43,7 +43,7 @@ fn is_structure(standing: Standing) -> bool
         Standing::Instrument(place) => true,
         Standing::SampleHeader(place) => true,
         Standing::End => false,
-        Standing::Refused(fault) => false,
+        Standing::Refused(refusal) => false,
     }
 }
 
@@ -69,7 +69,7 @@ fn one_more(counts: Counts, standing: Standing) -> Counts
             samples: counts.samples + 1,
         },
         Standing::End => counts,
-        Standing::Refused(fault) => counts,
+        Standing::Refused(refusal) => counts,
     }
 }
 
@@ -82,7 +82,7 @@ fn ends_as(counts: Counts, standing: Standing) -> Counted
         Standing::Instrument(place) => Counted::Accepted(counts),
         Standing::SampleHeader(place) => Counted::Accepted(counts),
         Standing::End => Counted::Accepted(counts),
-        Standing::Refused(fault) => Counted::Refused(fault),
+        Standing::Refused(refusal) => Counted::Refused(refusal),
     }
 }
 

@@ -21,7 +21,7 @@ use Rattle.xm.specs.Asking.{Lies, asking, stretchOf, askingRows, noRow}
 use Rattle.xm.specs.Demands.{LoopReads, AcceptedFile, liesAt}
 use Rattle.xm.proofs.Accepted.{accepted-files, loop-at, decodes-at, normal-byte}
 use Rattle.xm.proofs.Table.{joined-map}
-use Rattle.refusal.specs.Fault.{faultOf}
+use Rattle.refusal.specs.Refusal.{codeRefusal}
 use Rattle.walk.specs.File.{verdictOf, verdictNumbers}
 use Rattle.walk.specs.declared.Verdict.{Verdict}
 use Rattle.tables.specs.Into.{lent, checkedInto, roomBeside, patternsAfter, instrumentsAfter}
@@ -70,7 +70,7 @@ module _ (records : List SampleRow) (number : ℕ) {answer : RowAsked} (met : an
   pub row-given : number < length records → answer ≡ asked.Row (getD records number noRecord)
   row-given low = met ∙ sym (row-lent records number low)
 
-  pub row-refused : length records ≤ number → answer ≡ asked.Refused (faultOf (16 at 0))
+  pub row-refused : length records ≤ number → answer ≡ asked.Refused (codeRefusal (16 at 0))
   row-refused high = met ∙ sym (row-beyond records number high)
 
   -- What is asked with the row that was given back is asked by its number: of its stretch, and of the number that tells 0 from 16

@@ -13,7 +13,7 @@ use Rattle.xm.specs.Table as paper
 use Rattle.xm.specs.Asking.{noRow}
 use Rattle.xm.proofs.Got.{pass}
 use Rattle.xm.proofs.Answer.{answer-gives, answer-refuses, tests-fail}
-use Rattle.refusal.specs.Fault.{faultOf}
+use Rattle.refusal.specs.Refusal.{codeRefusal}
 use Rattle.walk.specs.File.{verdictOf}
 use Rattle.walk.specs.declared.Verdict.{Verdict}
 use Rattle.tables.specs.Into.{roomBeside, patternsAfter, instrumentsAfter}
@@ -101,6 +101,6 @@ module _ (records : List SampleRow) (number : ℕ) where
       ap rowAskedOf (answer-gives _ (pass _ (omega (arith, length-map records rowOf), tt) refl))
       ∙ ap (λ (row : paper.SampleRow). asked.Row (codeRow row)) (List·getD-map rowOf records number noRecord))
 
-  pub row-beyond : length records ≤ number → asked.Refused (faultOf (16 at 0)) ≡ rowAskedOf (rowAskingIn (rowsOf records) number)
+  pub row-beyond : length records ≤ number → asked.Refused (codeRefusal (16 at 0)) ≡ rowAskedOf (rowAskingIn (rowsOf records) number)
   unfolding rowAsking
   row-beyond h = sym (ap rowAskedOf (answer-refuses _ (tests-fail _ _ (refl, tt) (λ all. omega (arith, all .0, length-map records rowOf)))))

@@ -9,7 +9,7 @@ use Rattle.xm.specs.Module.{readFile}
 use Rattle.xm.specs.Table.{CheckReport, sampleRows, sampleStride, sampleTunes, roomWith, checkingInto}
 use Rattle.xm.specs.Table as paper
 use Rattle.xm.specs.Asking.{noRow}
-use Rattle.refusal.specs.Fault.{faultOf}
+use Rattle.refusal.specs.Refusal.{codeRefusal}
 use Rattle.walk.specs.declared.Verdict.{Verdict}
 use Rattle.walk.specs.declared.Verdict.the-variants as verdict
 use Rattle.tables.specs.Place.{codeRow, codeRowNumbers, tunesOf}
@@ -55,7 +55,7 @@ recordsAfter = after (λ (c : CheckReport). recordsOf (sampleRows (c .found)))
 -- How many rows an answer gives.
 abbrev pub samplesOf : Verdict → ℕ
 samplesOf (verdict.Accepted found) = found .samples
-samplesOf (verdict.Refused fault) = 0
+samplesOf (verdict.Refused refusal) = 0
 
 -- A row asked for by number: "a number at or above the rows lent" is out of its range.
 unfoldable pub rowAsking : (rows number : ℕ) (row : paper.SampleRow) → Answer paper.SampleRow
@@ -68,22 +68,22 @@ rowAskingIn rows number = rowAsking (length rows) number (getD rows number noRow
 
 abbrev pub rowAskedOf : Answer paper.SampleRow → RowAsked
 rowAskedOf (gives row) = asked.Row (codeRow row)
-rowAskedOf (refuses r) = asked.Refused (faultOf r)
+rowAskedOf (refuses r) = asked.Refused (codeRefusal r)
 
 -- What was given back, as a table of its own: of this one row, or of none.
 abbrev pub rowsGiven : RowAsked → List paper.SampleRow
 rowsGiven (asked.Row row) = rowOf row ∷ []
-rowsGiven (asked.Refused fault) = []
+rowsGiven (asked.Refused refusal) = []
 
 -- The paper's numbers for each case: number and place of the refusal, header place, data place, length, width, loop kind, loop start, loop
 -- length; and the two tunes.
 abbrev pub rowAskedNumbers : RowAsked → List ℕ
 rowAskedNumbers (asked.Row row) = 0 ∷ 0 ∷ codeRowNumbers row
-rowAskedNumbers (asked.Refused fault) = fault .number ∷ fault .place ∷ replicate sampleStride 0
+rowAskedNumbers (asked.Refused refusal) = refusal .number ∷ refusal .place ∷ replicate sampleStride 0
 
 abbrev pub rowAskedTunes : RowAsked → List ℤ
 rowAskedTunes (asked.Row row) = tunesOf row
-rowAskedTunes (asked.Refused fault) = pos 0 ∷ pos 0 ∷ []
+rowAskedTunes (asked.Refused refusal) = pos 0 ∷ pos 0 ∷ []
 
 -- and the same of the definition's answer.
 abbrev pub rowNumbers : Answer paper.SampleRow → List ℕ

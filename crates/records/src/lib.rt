@@ -2,7 +2,7 @@
 // back, and the filling. What is asked with a row that was read back takes it by value.
 pub mod row;
 
-use refusal::Fault;
+use refusal::Refusal;
 use row::RowAsked;
 use row::samples_of;
 use tables::check_beside;
@@ -25,7 +25,7 @@ pub fn row_at(samples: &[SampleRow], number: usize) -> RowAsked
     if number < samples.len() {
         RowAsked::Row(samples[number])
     } else {
-        RowAsked::Refused(Fault {
+        RowAsked::Refused(Refusal {
             number: 16,
             place: 0,
         })

@@ -4,7 +4,7 @@ use asking::Stretch;
 use asking::ask_row;
 use asking::asked_refusal;
 use asking::asked_stretch;
-use refusal::Fault;
+use refusal::Refusal;
 use tables::sample::SampleRow;
 use walk::Verdict;
 ghost use mathlib.Core.Path.{_≡_};
@@ -16,7 +16,7 @@ ghost use Rattle.records.specs.Records.{samplesOf, rowsGiven};
 // A row read back; 16 for a number at or above the rows lent.
 pub enum RowAsked {
     Row(SampleRow),
-    Refused(Fault),
+    Refused(Refusal),
 }
 
 // How many rows are to be stored: none on a refusal.
@@ -25,7 +25,7 @@ pub fn samples_of(verdict: Verdict) -> usize
 {
     match verdict {
         Verdict::Accepted(found) => found.samples,
-        Verdict::Refused(fault) => 0,
+        Verdict::Refused(refusal) => 0,
     }
 }
 

@@ -3,8 +3,8 @@ use Prim.Native.Nat.{ℕ, _+_}
 use mathlib.Core.Path.{_≡_, refl}
 use Rattle.xm.specs.Got.{Got, got, refused}
 use Rattle.xm.proofs.Got.{no-true}
-use Rattle.refusal.specs.Fault.{refusalIn, stepFault, placeStep}
-use Rattle.refusal.specs.declared.Fault.{Fault}
+use Rattle.refusal.specs.Refusal.{paperRefusal, stepRefusal, placeStep}
+use Rattle.refusal.specs.declared.Refusal.{Refusal}
 use Rattle.refusal.specs.declared.Step.{Step}
 use Rattle.refusal.specs.declared.Step.the-variants.{Next, Refused}
 
@@ -14,7 +14,7 @@ next-got place (got a n) e k = k a n refl (cc)
 next-got place (refused r) e k = absurd (no-true (cc))
 
 -- and a refusal, passed on, of one that was refused so
-pub place-refused : {A : Type 0} (place : ℕ) (g : Got A) {step : Step} {f r : Fault} → step ≡ placeStep place g → step ≡ Refused f → r ≡ stepFault step
-    → g ≡ refused (refusalIn r)
+pub place-refused : {A : Type 0} (place : ℕ) (g : Got A) {step : Step} {f r : Refusal} → step ≡ placeStep place g → step ≡ Refused f → r ≡ stepRefusal step
+    → g ≡ refused (paperRefusal r)
 place-refused place (got a n) e told passed = cc
 place-refused place (refused q) e told passed = cc

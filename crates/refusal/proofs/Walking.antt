@@ -4,19 +4,20 @@ use mathlib.Core.List.{List, [], _∷_, _++_}
 use mathlib.Core.Path.{_≡_, sym, ap, _∙_}
 use native.Mathlib.Omega.{arith}
 use lib.ListN.{length, drop, getD}
-use Rattle.xm.specs.Got.{Refusal, Got, got, refused}
+use Rattle.xm.specs.Got.{Got, got, refused}
+use Rattle.xm.specs.Got as paper
 use Rattle.xm.specs.Format.{Format, eachRead}
 use Rattle.xm.proofs.Walk.{PartsLeft, left-start, left-on, left-out, left-end}
-use Rattle.refusal.specs.Fault.{stepFault, placeStep}
-use Rattle.refusal.specs.declared.Fault.{Fault}
+use Rattle.refusal.specs.Refusal.{stepRefusal, placeStep}
+use Rattle.refusal.specs.declared.Refusal.{Refusal}
 use Rattle.refusal.specs.declared.Step.{Step}
 use Rattle.refusal.specs.declared.Step.the-variants.{Next, Refused}
 use Rattle.refusal.proofs.Steps.{place-refused}
 
 -- A step that is refused is the answer, if its reading's refusal is
-pub refused-on : {A B : Type 0} (place from : ℕ) (g : Got A) (whole : Got B) {step : Step} {f : Fault} → step ≡ placeStep place g → step ≡ Refused f
-    → ((r : Refusal) → g ≡ refused r → whole ≡ refused r) → step ≡ placeStep from whole
-refused-on place from g whole e told k = told ∙ sym (ap (placeStep from) (k _ (place-refused place g e told (sym (ap stepFault told)))))
+pub refused-on : {A B : Type 0} (place from : ℕ) (g : Got A) (whole : Got B) {step : Step} {f : Refusal} → step ≡ placeStep place g → step ≡ Refused f
+    → ((r : paper.Refusal) → g ≡ refused r → whole ≡ refused r) → step ≡ placeStep from whole
+refused-on place from g whole e told k = told ∙ sym (ap (placeStep from) (k _ (place-refused place g e told (sym (ap stepRefusal told)))))
 
 -- Where a loop over `each` has come to: j parts are read, and what is told of them holds
 pub record Reached {H I A : Type 0} (F : Format H I A) (hs : List H) (file : List ℕ) (from : ℕ) (Told : List I → Type 0) (j place : ℕ) : Type 0 where
@@ -44,5 +45,5 @@ module _ {H I A : Type 0} (F : Format H I A) (hs : List H) (file : List ℕ) (fr
         told = t (w .told);
       }
 
-      pub reached-out : {r : Refusal} → F .read h place (drop place file) ≡ refused r → eachRead F hs from (drop from file) ≡ refused r
+      pub reached-out : {r : paper.Refusal} → F .read h place (drop place file) ≡ refused r → eachRead F hs from (drop from file) ≡ refused r
       reached-out e = left-out F hs file from h j place (w .done) in-range (w .left) (rw same e)

@@ -1,2 +1,2 @@
-pub mod Fault
+pub mod Refusal
 pub mod Test

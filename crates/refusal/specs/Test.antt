@@ -5,6 +5,6 @@ use mathlib.Core.List.{List, [], _∷_}
 use Rattle.xm.specs.Got.{Test, passes, refusalOf}
 
 -- 0 if all pass.
-unfoldable pub firstFault : List Test → ℕ
-firstFault [] = 0
-firstFault (t ∷ ts) = cond (passes t) (firstFault ts) (refusalOf t .number)
+unfoldable pub firstRefusal : List Test → ℕ
+firstRefusal [] = 0
+firstRefusal (t ∷ ts) = cond (passes t) (firstRefusal ts) (refusalOf t .number)

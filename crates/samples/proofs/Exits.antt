@@ -5,13 +5,14 @@ use mathlib.Core.List.{List}
 use mathlib.Core.Path.{_≡_, refl, sym, ap, _∙_}
 use lib.IntN.{ℤ}
 use lib.ListN.{length}
-use Rattle.xm.specs.Got.{Refusal, _at_, Holds}
+use Rattle.xm.specs.Got.{_at_, Holds}
+use Rattle.xm.specs.Got as paper
 use Rattle.xm.specs.Answer.{refuses, inFront}
 use Rattle.xm.specs.Delta.{decoded, coded, widthTest, decoding, coding, decodeAfter, codeAfter}
 use Rattle.xm.proofs.Delta.{Paired, Covered, decoded-length, coded-length, decoding-room, decoding-given, coding-room, coding-given}
-use Rattle.refusal.specs.Fault.{faultOf}
+use Rattle.refusal.specs.Refusal.{codeRefusal}
 use Rattle.samples.specs.Answers.{decodeAnswer, codeAnswer}
-use Rattle.refusal.specs.declared.Fault.{Fault}
+use Rattle.refusal.specs.declared.Refusal.{Refusal}
 use Rattle.samples.specs.declared.Decoded.{Decoded}
 use Rattle.samples.specs.declared.Decoded.the-variants as decodes
 use Rattle.samples.specs.declared.Coded.{Coded}
@@ -28,13 +29,13 @@ sixteen-covered values e = absurd (true≢false (sym e))
 abbrev pub Decodes : (width : ℕ) (bytes : List ℕ) (lent : List ℤ) (answer : Decoded) (held : List ℤ) → Type 0
 Decodes width bytes lent answer held = (answer ≡ decodeAnswer (decoding width bytes (length lent))) × (held ≡ decodeAfter width bytes lent)
 
-pub decode-refused : (width : ℕ) (bytes : List ℕ) (lent : List ℤ) {refusal : Refusal} {fault : Fault} → fault ≡ faultOf refusal
-    → decoding width bytes (length lent) ≡ refuses refusal → Decodes width bytes lent (decodes.Refused fault) lent
+pub decode-refused : (width : ℕ) (bytes : List ℕ) (lent : List ℤ) {r : paper.Refusal} {refusal : Refusal} → refusal ≡ codeRefusal r
+    → decoding width bytes (length lent) ≡ refuses r → Decodes width bytes lent (decodes.Refused refusal) lent
 decode-refused width bytes lent f e = rw (e, f) (refl, refl)
 
 module _ (width : ℕ) (known : Holds (widthTest width)) (bytes : List ℕ) (paired : Paired width bytes) (lent : List ℤ) where
-  pub decode-short : {fault : Fault} → fault ≡ faultOf (14 at 0) → length lent < length bytes / (width / 8)
-      → Decodes width bytes lent (decodes.Refused fault) lent
+  pub decode-short : {refusal : Refusal} → refusal ≡ codeRefusal (14 at 0) → length lent < length bytes / (width / 8)
+      → Decodes width bytes lent (decodes.Refused refusal) lent
   decode-short f h = decode-refused width bytes lent f (decoding-room width bytes (length lent) known paired (rw (decoded-length width known) h))
 
   pub decode-done : {count : ℕ} {held : List ℤ} → count ≡ length bytes / (width / 8) → count ≤ length lent → held ≡ inFront (decoded width bytes) lent
@@ -47,12 +48,12 @@ module _ (width : ℕ) (known : Holds (widthTest width)) (bytes : List ℕ) (pai
 abbrev pub Codes : (width : ℕ) (values : List ℤ) (lent : List ℕ) (answer : Coded) (held : List ℕ) → Type 0
 Codes width values lent answer held = (answer ≡ codeAnswer (coding width values (length lent))) × (held ≡ codeAfter width values lent)
 
-pub code-refused : (width : ℕ) (values : List ℤ) (lent : List ℕ) {refusal : Refusal} {fault : Fault} → fault ≡ faultOf refusal
-    → coding width values (length lent) ≡ refuses refusal → Codes width values lent (codes.Refused fault) lent
+pub code-refused : (width : ℕ) (values : List ℤ) (lent : List ℕ) {r : paper.Refusal} {refusal : Refusal} → refusal ≡ codeRefusal r
+    → coding width values (length lent) ≡ refuses r → Codes width values lent (codes.Refused refusal) lent
 code-refused width values lent f e = rw (e, f) (refl, refl)
 
 module _ (width : ℕ) (known : Holds (widthTest width)) (values : List ℤ) (covered : Covered width values) (lent : List ℕ) where
-  pub code-short : {fault : Fault} → fault ≡ faultOf (14 at 0) → length lent < width / 8 * length values → Codes width values lent (codes.Refused fault) lent
+  pub code-short : {refusal : Refusal} → refusal ≡ codeRefusal (14 at 0) → length lent < width / 8 * length values → Codes width values lent (codes.Refused refusal) lent
   code-short f h = code-refused width values lent f (coding-room width values (length lent) known covered (rw (coded-length width known) h))
 
   pub code-done : {count : ℕ} {held : List ℕ} → count ≡ width / 8 * length values → count ≤ length lent → held ≡ inFront (coded width values) lent

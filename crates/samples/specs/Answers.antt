@@ -4,7 +4,7 @@ use mathlib.Core.List.{List, [], _∷_}
 use lib.IntN.{ℤ}
 use lib.ListN.{length}
 use Rattle.xm.specs.Answer.{Answer, gives, refuses}
-use Rattle.refusal.specs.Fault.{faultOf}
+use Rattle.refusal.specs.Refusal.{codeRefusal}
 use Rattle.samples.specs.declared.Decoded.{Decoded}
 use Rattle.samples.specs.declared.Decoded.the-variants as decodes
 use Rattle.samples.specs.declared.Coded.{Coded}
@@ -13,17 +13,17 @@ use Rattle.samples.specs.declared.Coded.the-variants as codes
 -- "The answer reports how many values or bytes it wrote".
 abbrev pub decodeAnswer : Answer (List ℤ) → Decoded
 decodeAnswer (gives values) = decodes.Values (length values)
-decodeAnswer (refuses refusal) = decodes.Refused (faultOf refusal)
+decodeAnswer (refuses refusal) = decodes.Refused (codeRefusal refusal)
 
 abbrev pub codeAnswer : Answer (List ℕ) → Coded
 codeAnswer (gives bytes) = codes.Bytes (length bytes)
-codeAnswer (refuses refusal) = codes.Refused (faultOf refusal)
+codeAnswer (refuses refusal) = codes.Refused (codeRefusal refusal)
 
 -- Number, place, and how many were written: "A refusal returns its number and a place, with all other result numbers 0."
 abbrev pub decodedNumbers : Decoded → List ℕ
 decodedNumbers (decodes.Values count) = 0 ∷ 0 ∷ count ∷ []
-decodedNumbers (decodes.Refused fault) = fault .number ∷ fault .place ∷ 0 ∷ []
+decodedNumbers (decodes.Refused refusal) = refusal .number ∷ refusal .place ∷ 0 ∷ []
 
 abbrev pub codedNumbers : Coded → List ℕ
 codedNumbers (codes.Bytes count) = 0 ∷ 0 ∷ count ∷ []
-codedNumbers (codes.Refused fault) = fault .number ∷ fault .place ∷ 0 ∷ []
+codedNumbers (codes.Refused refusal) = refusal .number ∷ refusal .place ∷ 0 ∷ []

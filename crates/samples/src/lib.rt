@@ -6,37 +6,37 @@ ghost use Rattle.xm.specs.Number.{signed};
 ghost use Rattle.xm.specs.Got.{_at_};
 ghost use Rattle.xm.specs.Answer.{inFront};
 ghost use Rattle.xm.specs.Delta.{residue, difference, decoded, coded, fits, allFit, decoding, coding, decodeAfter, codeAfter};
-ghost use Rattle.refusal.specs.Fault.{faultOf};
+ghost use Rattle.refusal.specs.Refusal.{codeRefusal};
 ghost use Rattle.samples.specs.Answers.{decodeAnswer, codeAnswer};
-use refusal::Fault;
+use refusal::Refusal;
 use slices::read::signed_byte;
 
 pub enum Decoded {
     // How many values were written.
     Values(usize),
-    Refused(Fault),
+    Refused(Refusal),
 }
 
 pub enum Coded {
     // How many bytes were written.
     Bytes(usize),
-    Refused(Fault),
+    Refused(Refusal),
 }
 
 // A width that is not 8 or 16, an odd byte count at 16, a value that does not fit 8 bits.
-pub fn bad_argument() -> Fault
-    ensures { λ r. ⌜ r ≡ faultOf (16 at 0) ⌝ }
+pub fn bad_argument() -> Refusal
+    ensures { λ r. ⌜ r ≡ codeRefusal (16 at 0) ⌝ }
 {
-    Fault {
+    Refusal {
         number: 16,
         place: 0,
     }
 }
 
-pub fn no_room() -> Fault
-    ensures { λ r. ⌜ r ≡ faultOf (14 at 0) ⌝ }
+pub fn no_room() -> Refusal
+    ensures { λ r. ⌜ r ≡ codeRefusal (14 at 0) ⌝ }
 {
-    Fault {
+    Refusal {
         number: 14,
         place: 0,
     }

@@ -13,10 +13,10 @@ use Rattle.xm.specs.Got.{Got, got, refused}
 use Rattle.xm.specs.Cell.{readCell}
 use Rattle.xm.specs.Stored.{readRun, readStored}
 use Rattle.xm.proofs.Cell.{cell-read}
-use Rattle.refusal.specs.declared.Fault.{Fault}
+use Rattle.refusal.specs.declared.Refusal.{Refusal}
 use Rattle.refusal.specs.declared.Step.{Step}
 use Rattle.refusal.specs.declared.Step.the-variants.{Next, Refused}
-use Rattle.refusal.specs.Fault.{stepFault, placeStep}
+use Rattle.refusal.specs.Refusal.{stepRefusal, placeStep}
 use Rattle.refusal.proofs.Steps.{next-got, place-refused}
 use Rattle.cell.proofs.ReadLaws.{read-got-at}
 use Rattle.cell.proofs.ReadRuns.{cellOnto, run-more, run-stop, stored-refused, stored-left, stored-whole}
@@ -55,10 +55,10 @@ module _ {s : List ℕ} {answer : Step} where
     pub scanning-next : {next : ℕ} → step ≡ Next next → Scanning s answer next (left - 1)
     scanning-next told = next-got used (readCell used (drop used s)) (sym told ∙ e) λ cell k ec en. move (scanning-more v some ec) en refl
 
-    pub scanning-stop : {f : Fault} → step ≡ Refused f → step ≡ answer
+    pub scanning-stop : {f : Refusal} → step ≡ Refused f → step ≡ answer
     scanning-stop told =
         told ∙ sym (v .rest
-        ∙ ap (placeStep used) (run-stop s used left some (place-refused used (readCell used (drop used s)) e told (sym (ap stepFault told)))))
+        ∙ ap (placeStep used) (run-stop s used left some (place-refused used (readCell used (drop used s)) e told (sym (ap stepRefusal told)))))
 
   pub scanning-done : {used left : ℕ} → Scanning s answer used left → left ≡ 0 → Next used ≡ answer
   scanning-done {used} v z =
@@ -100,9 +100,9 @@ block-less lengths size {left} h k e = rw e (walked-some (λ at u. u) lengths si
 
 -- A stored pattern with some data, by what its cells came to
 module _ (channels rows : ℕ) (d : List ℕ) (some : 1 ≤ length d) {step : Step} (e : step ≡ placeStep 0 (readRun (rows * channels) 0 d)) where
-  pub scan-refused : {f : Fault} → step ≡ Refused f → step ≡ placeStep 0 (readStored channels rows 0 d)
+  pub scan-refused : {f : Refusal} → step ≡ Refused f → step ≡ placeStep 0 (readStored channels rows 0 d)
   scan-refused told =
-      told ∙ sym (ap (placeStep 0) (stored-refused channels rows d some (place-refused 0 (readRun (rows * channels) 0 d) e told (sym (ap stepFault told)))))
+      told ∙ sym (ap (placeStep 0) (stored-refused channels rows d some (place-refused 0 (readRun (rows * channels) 0 d) e told (sym (ap stepRefusal told)))))
 
   module _ {used : ℕ} (told : step ≡ Next used) where
     pub scan-left : used < length d → Refused (record { number = 8; place = used }) ≡ placeStep 0 (readStored channels rows 0 d)

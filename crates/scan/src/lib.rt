@@ -1,6 +1,6 @@
 // Stored cells that are only tried, for 7, and a stored pattern's for 8 too: where they end.
 use cell::read;
-use refusal::Fault;
+use refusal::Refusal;
 use refusal::Step;
 ghost use mathlib.Core.Path.{_≡_};
 ghost use Prim.Native.Nat.{_≤_};
@@ -8,7 +8,7 @@ ghost use lib.ListN.{length, drop};
 ghost use Rattle.xm.specs.Got.{AllHold};
 ghost use Rattle.xm.specs.Stored.{readRun, readStored};
 ghost use Rattle.xm.specs.Packing.{argumentTests};
-ghost use Rattle.refusal.specs.Fault.{placeStep};
+ghost use Rattle.refusal.specs.Refusal.{placeStep};
 ghost use Rattle.scan.specs.Block.{walkOf, blockPassed};
 
 // How far into a block the cells go that begin in it, and how many cells are left.
@@ -110,7 +110,7 @@ pub fn scan_stored(stored: &[u8], rows: usize, channels: usize) -> Step
         return step;
     };
     if used < stored.len() {
-        return Step::Refused(Fault {
+        return Step::Refused(Refusal {
             number: 8,
             place: used,
         });

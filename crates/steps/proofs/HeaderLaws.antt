@@ -7,14 +7,14 @@ use Rattle.xm.specs.ModuleKind.{ModuleKind}
 use Rattle.xm.specs.Got.{Got, got, refused, AllHold, _at_}
 use Rattle.xm.specs.Header.{channelsAt, patternsAt, instrumentsAt, HeaderFound, headerEnd, headerOf, headerTests, readHeader}
 use Rattle.xm.proofs.Got.{pass}
-use Rattle.refusal.specs.Fault.{refusalIn}
-use Rattle.refusal.specs.declared.Fault.{Fault}
-use Rattle.refusal.specs.Test.{firstFault}
-use Rattle.steps.specs.Step.{headerPart, headerStep, headerFault}
+use Rattle.refusal.specs.Refusal.{paperRefusal}
+use Rattle.refusal.specs.declared.Refusal.{Refusal}
+use Rattle.refusal.specs.Test.{firstRefusal}
+use Rattle.steps.specs.Step.{headerPart, headerStep, headerRefusal}
 use Rattle.steps.specs.declared.header.HeaderPart.{HeaderPart}
 use Rattle.steps.specs.declared.header.HeaderStep.{HeaderStep}
 use Rattle.steps.specs.declared.header.HeaderStep.the-variants.{Refused}
-use Rattle.refusal.proofs.TestLaws.{fault-holds, fault-refuses}
+use Rattle.refusal.proofs.TestLaws.{refusal-holds, refusal-refuses}
 
 -- The counts and the start, one by one
 pub record PartOf (file : List ℕ) (part : HeaderPart) : Type 0 where
@@ -33,13 +33,13 @@ part-of file e =
     }
 
 -- The tests decide
-module _ (kind : ModuleKind) (file : List ℕ) {fault : ℕ} (e : fault ≡ firstFault (headerTests kind 0 file)) where
-  pub header-faulty : (fault ≡ 0 → ⊥) → readHeader kind 0 file ≡ refused (fault at 0)
+module _ (kind : ModuleKind) (file : List ℕ) {refusal : ℕ} (e : refusal ≡ firstRefusal (headerTests kind 0 file)) where
+  pub header-fails : (refusal ≡ 0 → ⊥) → readHeader kind 0 file ≡ refused (refusal at 0)
   unfolding readHeader
-  header-faulty = fault-refuses 0 (headerTests kind 0 file) _ (omega arith) e
+  header-fails = refusal-refuses 0 (headerTests kind 0 file) _ (omega arith) e
 
-  pub header-holds : fault ≡ 0 → AllHold (headerTests kind 0 file)
-  header-holds = fault-holds 0 (headerTests kind 0 file) (omega arith) e
+  pub header-holds : refusal ≡ 0 → AllHold (headerTests kind 0 file)
+  header-holds = refusal-holds 0 (headerTests kind 0 file) (omega arith) e
 
 pub header-read : (kind : ModuleKind) (file : List ℕ) → AllHold (headerTests kind 0 file)
     → readHeader kind 0 file ≡ got (record { kind = kind; place = 0; size = headerEnd file; content = headerOf kind file }) (headerEnd file)
@@ -47,7 +47,7 @@ unfolding readHeader
 header-read kind file h = pass (headerTests kind 0 file) h refl
 
 -- What the step's answer says of the reading
-pub header-refused : (g : Got HeaderFound) {step : HeaderStep} {f r : Fault} → step ≡ headerStep g → step ≡ Refused f → r ≡ headerFault step
-    → g ≡ refused (refusalIn r)
+pub header-refused : (g : Got HeaderFound) {step : HeaderStep} {f r : Refusal} → step ≡ headerStep g → step ≡ Refused f → r ≡ headerRefusal step
+    → g ≡ refused (paperRefusal r)
 header-refused (got i n) e told passed = cc
 header-refused (refused q) e told passed = cc

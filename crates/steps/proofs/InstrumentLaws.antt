@@ -17,28 +17,28 @@ use Rattle.xm.proofs.Got.{no-true, pass, step, step-refused, passed, bind-got, 
 use Rattle.xm.proofs.Cut.{word-padded, long-padded}
 use Rattle.xm.proofs.Stripped.{instrument-keeps}
 use Rattle.slices.specs.Number.{Word, Long}
-use Rattle.refusal.specs.Fault.{refusalIn, placeStep}
-use Rattle.refusal.specs.declared.Fault.{Fault}
+use Rattle.refusal.specs.Refusal.{paperRefusal, placeStep}
+use Rattle.refusal.specs.declared.Refusal.{Refusal}
 use Rattle.refusal.specs.declared.Step.the-variants.{Next}
 use Rattle.refusal.proofs.Steps.{next-got}
-use Rattle.refusal.specs.Test.{firstFault}
-use Rattle.steps.specs.Step.{headSizeOf, instrumentHead, instrumentStep, instrumentFault}
+use Rattle.refusal.specs.Test.{firstRefusal}
+use Rattle.steps.specs.Step.{headSizeOf, instrumentHead, instrumentStep, instrumentRefusal}
 use Rattle.steps.specs.declared.instrument.InstrumentHead.{InstrumentHead}
 use Rattle.steps.specs.declared.instrument.InstrumentPart.{InstrumentPart}
 use Rattle.steps.specs.declared.instrument.InstrumentStep.{InstrumentStep}
 use Rattle.steps.specs.declared.instrument.InstrumentStep.the-variants.{Read, Refused}
-use Rattle.refusal.proofs.TestLaws.{RefuseAt, fault-holds, fault-refuses}
+use Rattle.refusal.proofs.TestLaws.{RefuseAt, refusal-holds, refusal-refuses}
 use Rattle.heads.specs.Sample.{headsFrom}
 use Rattle.heads.proofs.SampleLaws.{heads-viewed, samples-size}
 
 -- What the step's answer says of the reading
-pub instrument-refused : (place : ℕ) (g : Got InstrumentFound) {step : InstrumentStep} {f r : Fault} → step ≡ instrumentStep place g → step ≡ Refused f
-    → r ≡ instrumentFault step
-    → g ≡ refused (refusalIn r)
+pub instrument-refused : (place : ℕ) (g : Got InstrumentFound) {step : InstrumentStep} {f r : Refusal} → step ≡ instrumentStep place g → step ≡ Refused f
+    → r ≡ instrumentRefusal step
+    → g ≡ refused (paperRefusal r)
 instrument-refused place (got i n) e told passed = cc
 instrument-refused place (refused q) e told passed = cc
 
-never-read : {A : Type 0} {piece : InstrumentPart} {f : Fault} → Read piece ≡ Refused f → A
+never-read : {A : Type 0} {piece : InstrumentPart} {f : Refusal} → Read piece ≡ Refused f → A
 never-read e = absurd (no-true (cc))
 
 same-part : {a b : InstrumentPart} → Read a ≡ Read b → a ≡ b
@@ -128,13 +128,13 @@ module _ (file : List ℕ) (kind : ModuleKind) (place : ℕ) where
       }
 
   -- The tests decide
-  module _ {fault : ℕ} (e : fault ≡ firstFault (instrumentTests kind place from)) where
-    pub instrument-faulty : (fault ≡ 0 → ⊥) → readInstrument kind place from ≡ refused (fault at place)
+  module _ {refusal : ℕ} (e : refusal ≡ firstRefusal (instrumentTests kind place from)) where
+    pub instrument-fails : (refusal ≡ 0 → ⊥) → readInstrument kind place from ≡ refused (refusal at place)
     unfolding readInstrument
-    instrument-faulty = fault-refuses place (instrumentTests kind place from) _ (refuse-at kind place from) e
+    instrument-fails = refusal-refuses place (instrumentTests kind place from) _ (refuse-at kind place from) e
 
-    pub instrument-holds : fault ≡ 0 → AllHold (instrumentTests kind place from)
-    instrument-holds = fault-holds place (instrumentTests kind place from) (refuse-at kind place from) e
+    pub instrument-holds : refusal ≡ 0 → AllHold (instrumentTests kind place from)
+    instrument-holds = refusal-holds place (instrumentTests kind place from) (refuse-at kind place from) e
 
   module _ (h : AllHold (instrumentTests kind place from)) {head : InstrumentHead} (eh : head ≡ instrumentHead kind place from) where
     -- What its fields tell, one by one
@@ -163,7 +163,7 @@ module _ (file : List ℕ) (kind : ModuleKind) (place : ℕ) where
         ≡ samples
     same-samples = cc (eh, same-sizes (countAt fields) fields, drop-drop (instrumentSizeAt from) place file)
 
-    pub instrument-out : {r : Fault} → samples ≡ refused (refusalIn r) → readInstrument kind place from ≡ refused (refusalIn r)
+    pub instrument-out : {r : Refusal} → samples ≡ refused (paperRefusal r) → readInstrument kind place from ≡ refused (paperRefusal r)
     unfolding readInstrument
     instrument-out q = pass (instrumentTests kind place from) h (step-refused _ (same-samples ∙ q))
 

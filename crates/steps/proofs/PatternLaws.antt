@@ -12,21 +12,21 @@ use Rattle.xm.specs.Stored.{Pattern, readStored}
 use Rattle.xm.specs.PatternInFile.{patternHeadSizeAt, rowsAt, dataSizeAt, patternTests, PatternFound, readPattern, dataMost}
 use Rattle.xm.proofs.Number.{bytes-drop, bytes-take, word-small, long-small}
 use Rattle.xm.proofs.Got.{pass, step, step-refused}
-use Rattle.xm.proofs.Fault.{stored-faults}
+use Rattle.xm.proofs.Refusal.{stored-refusals}
 use Rattle.xm.proofs.Run.{shifted, stored-shifted}
-use Rattle.refusal.specs.Fault.{refusalIn, placeStep}
-use Rattle.refusal.specs.declared.Fault.{Fault}
+use Rattle.refusal.specs.Refusal.{paperRefusal, placeStep}
+use Rattle.refusal.specs.declared.Refusal.{Refusal}
 use Rattle.refusal.specs.declared.Step.the-variants.{Next}
 use Rattle.measure.specs.Measure.{storedOf}
 use Rattle.measure.specs.declared.StoredSize.{StoredSize}
 use Rattle.measure.specs.declared.StoredStep.{StoredStep}
 use Rattle.measure.specs.declared.StoredStep.the-variants as stored
-use Rattle.refusal.specs.Test.{firstFault}
-use Rattle.steps.specs.Step.{patternHead, patternStep, patternFault, storedFault, faultFrom}
+use Rattle.refusal.specs.Test.{firstRefusal}
+use Rattle.steps.specs.Step.{patternHead, patternStep, patternRefusal, storedRefusal, refusalFrom}
 use Rattle.steps.specs.declared.pattern.PatternHead.{PatternHead}
 use Rattle.steps.specs.declared.pattern.PatternStep.{PatternStep}
 use Rattle.steps.specs.declared.pattern.PatternStep.the-variants.{Read, Refused}
-use Rattle.refusal.proofs.TestLaws.{fault-holds, fault-refuses}
+use Rattle.refusal.proofs.TestLaws.{refusal-holds, refusal-refuses}
 
 -- What its header tells, by its fields
 pub head-path : {place place′ size size′ rows rows′ : ℕ} → place ≡ place′ → size ≡ size′ → rows ≡ rows′
@@ -55,15 +55,15 @@ head-of place file b e =
     }
 
 -- What the answer over its stored cells says of their reading
-pub stored-refused : (s : List ℕ) (g : Got Pattern) {step : StoredStep} {f r : Fault} → step ≡ storedOf s g → step ≡ stored.Refused f → r ≡ storedFault step
-    → g ≡ refused (refusalIn r)
+pub stored-refused : (s : List ℕ) (g : Got Pattern) {step : StoredStep} {f r : Refusal} → step ≡ storedOf s g → step ≡ stored.Refused f → r ≡ storedRefusal step
+    → g ≡ refused (paperRefusal r)
 stored-refused s (got p n) e told passed = cc
 stored-refused s (refused q) e told passed = cc
 
 -- and what the step's answer says
-pub pattern-refused : (file : List ℕ) (place : ℕ) (g : Got PatternFound) {step : PatternStep} {f r : Fault} → step ≡ patternStep file place g
-    → step ≡ Refused f → r ≡ patternFault step
-    → g ≡ refused (refusalIn r)
+pub pattern-refused : (file : List ℕ) (place : ℕ) (g : Got PatternFound) {step : PatternStep} {f r : Refusal} → step ≡ patternStep file place g
+    → step ≡ Refused f → r ≡ patternRefusal step
+    → g ≡ refused (paperRefusal r)
 pattern-refused file place (got i n) e told passed = cc
 pattern-refused file place (refused q) e told passed = cc
 
@@ -72,13 +72,13 @@ module _ (file : List ℕ) (place channels : ℕ) where
   from = drop place file
 
   -- The tests of its header
-  module _ {fault : ℕ} (e : fault ≡ firstFault (patternTests place from)) where
-    pub pattern-faulty : (fault ≡ 0 → ⊥) → readPattern channels place from ≡ refused (fault at place)
+  module _ {refusal : ℕ} (e : refusal ≡ firstRefusal (patternTests place from)) where
+    pub pattern-fails : (refusal ≡ 0 → ⊥) → readPattern channels place from ≡ refused (refusal at place)
     unfolding readPattern
-    pattern-faulty = fault-refuses place (patternTests place from) _ (omega arith) e
+    pattern-fails = refusal-refuses place (patternTests place from) _ (omega arith) e
 
-    pub pattern-holds : fault ≡ 0 → AllHold (patternTests place from)
-    pattern-holds = fault-holds place (patternTests place from) (omega arith) e
+    pub pattern-holds : refusal ≡ 0 → AllHold (patternTests place from)
+    pattern-holds = refusal-holds place (patternTests place from) (omega arith) e
 
   -- and then its stored cells decide, as the code cuts them out
   module _ (h : AllHold (patternTests place from)) {head : PatternHead} (eh : head ≡ patternHead place from) where
@@ -97,18 +97,18 @@ module _ (file : List ℕ) (place channels : ℕ) where
     same-cells : readStored channels (rowsAt from) (place + patternHeadSizeAt from) d ≡ shifted (head .place) cells
     same-cells = stored-shifted _ channels (rowsAt from) d ∙ cc (eh, same-cut, ap (take (dataSizeAt from)) (drop-drop (patternHeadSizeAt from) place file))
 
-    -- A fault lies in the cells, or at their end
-    pub fault-place : Bytes file → {r : Fault} → cells ≡ refused (refusalIn r) → r .place ≤ dataMost
-    fault-place b q =
+    -- A refusal lies in the cells, or at their end
+    pub refusal-place : Bytes file → {r : Refusal} → cells ≡ refused (paperRefusal r) → r .place ≤ dataMost
+    refusal-place b q =
         omega (
           arith,
           ap PatternHead.size eh,
           word-small 7 (bytes-drop place b),
           length-take (head .place + head .size - head .place) (drop (head .place) file),
-          stored-faults channels (head .rows) 0 cut _ (bytes-take (head .place + head .size - head .place) (bytes-drop (head .place) b)) q .to,
+          stored-refusals channels (head .rows) 0 cut _ (bytes-take (head .place + head .size - head .place) (bytes-drop (head .place) b)) q .to,
         )
 
-    pub pattern-out : {r : Fault} → cells ≡ refused (refusalIn r) → readPattern channels place from ≡ refused (refusalIn (faultFrom (head .place) r))
+    pub pattern-out : {r : Refusal} → cells ≡ refused (paperRefusal r) → readPattern channels place from ≡ refused (paperRefusal (refusalFrom (head .place) r))
     unfolding readPattern shifted
     pattern-out q = pass (patternTests place from) h (step-refused _ (same-cells ∙ ap (shifted (head .place)) q))
 

@@ -13,8 +13,8 @@ use Rattle.xm.specs.PatternInFile.{patternHeadSizeAt, rowsAt, dataSizeAt, Patte
 use Rattle.xm.specs.Sample.{sizeOfFirst}
 use Rattle.xm.specs.Instrument.{instrumentSizeAt, countAt, sampleHeadSizeAt, fieldsOf, InstrumentFound, readInstrument}
 use Rattle.xm.specs.Table.{sampleCount}
-use Rattle.refusal.specs.Fault.{faultOf, noFault}
-use Rattle.refusal.specs.declared.Fault.{Fault}
+use Rattle.refusal.specs.Refusal.{codeRefusal, noRefusal}
+use Rattle.refusal.specs.declared.Refusal.{Refusal}
 use Rattle.measure.specs.Measure.{sameBytes}
 use Rattle.measure.specs.declared.StoredStep.{StoredStep}
 use Rattle.measure.specs.declared.StoredStep.the-variants as stored
@@ -40,11 +40,11 @@ headerStep (got i used) = header.Read (record {
   instruments = i .content .instruments;
   start = used;
 })
-headerStep (refused r) = header.Refused (faultOf r)
+headerStep (refused r) = header.Refused (codeRefusal r)
 
-abbrev pub headerFault : HeaderStep → Fault
-headerFault (header.Read part) = noFault
-headerFault (header.Refused fault) = fault
+abbrev pub headerRefusal : HeaderStep → Refusal
+headerRefusal (header.Read part) = noRefusal
+headerRefusal (header.Refused refusal) = refusal
 
 -- A pattern at a place of the file, by the bytes from there on.
 abbrev pub patternHead : (place : ℕ) → List ℕ → PatternHead
@@ -56,19 +56,19 @@ patternStep file place (got i used) = pattern.Read (record {
   same = sameBytes (part (i .dataPlace) (i .dataSize) file) (writeStored (i .content));
   next = place + used;
 })
-patternStep file place (refused r) = pattern.Refused (faultOf r)
+patternStep file place (refused r) = pattern.Refused (codeRefusal r)
 
-abbrev pub patternFault : PatternStep → Fault
-patternFault (pattern.Read part) = noFault
-patternFault (pattern.Refused fault) = fault
+abbrev pub patternRefusal : PatternStep → Refusal
+patternRefusal (pattern.Read part) = noRefusal
+patternRefusal (pattern.Refused refusal) = refusal
 
--- A fault of its stored cells; in a file its place is that of the cells and the place in them.
-abbrev pub storedFault : StoredStep → Fault
-storedFault (stored.Read size) = noFault
-storedFault (stored.Refused fault) = fault
+-- A refusal of its stored cells; in a file its place is that of the cells and the place in them.
+abbrev pub storedRefusal : StoredStep → Refusal
+storedRefusal (stored.Read size) = noRefusal
+storedRefusal (stored.Refused refusal) = refusal
 
-abbrev pub faultFrom : (base : ℕ) → Fault → Fault
-faultFrom base fault = record { number = fault .number; place = base + fault .place }
+abbrev pub refusalFrom : (base : ℕ) → Refusal → Refusal
+refusalFrom base refusal = record { number = refusal .number; place = base + refusal .place }
 
 -- An instrument; without samples it has no H.
 abbrev pub headSizeOf : (k : ℕ) → List ℕ → ℕ
@@ -87,12 +87,12 @@ instrumentStep place (got i used) = instrument.Read (record {
   «head_size» = sizeOfFirst (i .samples .0);
   next = place + used;
 })
-instrumentStep place (refused r) = instrument.Refused (faultOf r)
+instrumentStep place (refused r) = instrument.Refused (codeRefusal r)
 
 -- The step at a place of a file, of its own kind, gave this part.
 abbrev pub InstrumentIs : (file : List ℕ) (place : ℕ) → InstrumentPart → Type 0
 InstrumentIs file place piece = instrument.Read piece ≡ instrumentStep place (readInstrument (kindAt file) place (drop place file))
 
-abbrev pub instrumentFault : InstrumentStep → Fault
-instrumentFault (instrument.Read part) = noFault
-instrumentFault (instrument.Refused fault) = fault
+abbrev pub instrumentRefusal : InstrumentStep → Refusal
+instrumentRefusal (instrument.Read part) = noRefusal
+instrumentRefusal (instrument.Refused refusal) = refusal

@@ -3,8 +3,8 @@ use crate::kind::is_stripped;
 use crate::kind::least_header;
 use crate::kind::mark_by;
 use crate::kind::version_by;
-use refusal::Fault;
-use refusal::no_fault;
+use refusal::Refusal;
+use refusal::no_refusal;
 use slices::read::byte;
 use slices::read::long;
 use slices::read::word;
@@ -14,8 +14,8 @@ ghost use lib.ListN.{length};
 ghost use Rattle.xm.specs.ModuleKind.{kindBy};
 ghost use Rattle.xm.specs.Header.{ordersFrom, kindAt, readHeader, countTests, headerTests};
 ghost use Rattle.xm.specs.Got.{allPass};
-ghost use Rattle.refusal.specs.Test.{firstFault};
-ghost use Rattle.steps.specs.Step.{headerPart, headerStep, headerFault};
+ghost use Rattle.refusal.specs.Test.{firstRefusal};
+ghost use Rattle.steps.specs.Step.{headerPart, headerStep, headerRefusal};
 
 // What the walk needs of a header: its counts, and where the first pattern starts.
 pub struct HeaderPart {
@@ -27,16 +27,16 @@ pub struct HeaderPart {
 
 pub enum HeaderStep {
     Read(HeaderPart),
-    Refused(Fault),
+    Refused(Refusal),
 }
 
 // The header's refusal, to be passed on.
-pub fn fault_of_header(step: HeaderStep) -> Fault
-    ensures { λ r. ⌜ r ≡ headerFault step ⌝ }
+pub fn refusal_of_header(step: HeaderStep) -> Refusal
+    ensures { λ r. ⌜ r ≡ headerRefusal step ⌝ }
 {
     match step {
-        HeaderStep::Read(_) => no_fault(),
-        HeaderStep::Refused(fault) => fault,
+        HeaderStep::Read(_) => no_refusal(),
+        HeaderStep::Refused(refusal) => refusal,
     }
 }
 
@@ -81,9 +81,9 @@ fn counts_pass(song_length: usize, patterns: usize, channels: usize, instruments
     true
 }
 
-// The number of the first fault, or 0: the first 80 bytes present (1); 3; 4; 5; header size + 60 within the file (1).
-fn header_fault(file: &[u8], stripped: bool) -> u32
-    ensures { λ r. ⌜ r ≡ firstFault (headerTests (kindBy stripped) 0 (now (file .entry))) ⌝ }
+// The number of the first refusal, or 0: the first 80 bytes present (1); 3; 4; 5; header size + 60 within the file (1).
+fn header_refusal(file: &[u8], stripped: bool) -> u32
+    ensures { λ r. ⌜ r ≡ firstRefusal (headerTests (kindBy stripped) 0 (now (file .entry))) ⌝ }
 {
     if file.len() < 80 {
         return 1;
@@ -114,10 +114,10 @@ fn header_fault(file: &[u8], stripped: bool) -> u32
 pub fn read_header(file: &[u8]) -> HeaderStep
     ensures { λ r. ⌜ r ≡ headerStep (readHeader (kindAt (now (file .entry))) 0 (now (file .entry))) ⌝ }
 {
-    let fault = header_fault(file, is_stripped(file));
-    if fault != 0 {
-        return HeaderStep::Refused(Fault {
-            number: fault,
+    let refusal = header_refusal(file, is_stripped(file));
+    if refusal != 0 {
+        return HeaderStep::Refused(Refusal {
+            number: refusal,
             place: 0,
         });
     }

@@ -1,10 +1,10 @@
 // The instrument step: the tests in front, and behind its fields the samples.
 use crate::kind::is_stripped;
 use heads::read_samples;
-use refusal::Fault;
+use refusal::Refusal;
 use refusal::Step;
-use refusal::fault_of;
-use refusal::no_fault;
+use refusal::no_refusal;
+use refusal::refusal_of;
 use slices::read::long;
 use slices::read::long_in;
 use slices::read::word;
@@ -17,8 +17,8 @@ ghost use Rattle.xm.specs.Got.{AllHold};
 ghost use Rattle.xm.specs.Header.{kindAt};
 ghost use Rattle.xm.specs.Instrument.{instrumentTests, readInstrument};
 ghost use Rattle.xm.specs.Module.{fileMost};
-ghost use Rattle.refusal.specs.Test.{firstFault};
-ghost use Rattle.steps.specs.Step.{instrumentHead, instrumentStep, instrumentFault};
+ghost use Rattle.refusal.specs.Test.{firstRefusal};
+ghost use Rattle.steps.specs.Step.{instrumentHead, instrumentStep, instrumentRefusal};
 
 // An instrument's I, k and H (0 if there are no samples), and where the next one starts.
 pub struct InstrumentPart {
@@ -30,7 +30,7 @@ pub struct InstrumentPart {
 
 pub enum InstrumentStep {
     Read(InstrumentPart),
-    Refused(Fault),
+    Refused(Refusal),
 }
 
 // What its fields tell: k, where its sample headers start, and H (0 if there are none).
@@ -41,20 +41,20 @@ pub struct InstrumentHead {
 }
 
 // An instrument's refusal, to be passed on.
-pub fn fault_of_instrument(step: InstrumentStep) -> Fault
-    ensures { λ r. ⌜ r ≡ instrumentFault step ⌝ }
+pub fn refusal_of_instrument(step: InstrumentStep) -> Refusal
+    ensures { λ r. ⌜ r ≡ instrumentRefusal step ⌝ }
 {
     match step {
-        InstrumentStep::Read(_) => no_fault(),
-        InstrumentStep::Refused(fault) => fault,
+        InstrumentStep::Read(_) => no_refusal(),
+        InstrumentStep::Refused(refusal) => refusal,
     }
 }
 
-// The number of the first fault in front, or 0: 29 bytes present (1); 10; I bytes present (1); and if k > 0: 11; all k headers
+// The number of the first refusal in front, or 0: 29 bytes present (1); 10; I bytes present (1); and if k > 0: 11; all k headers
 // present (1).
-fn instrument_fault(file: &[u8], at: usize) -> u32
+fn instrument_refusal(file: &[u8], at: usize) -> u32
     requires { ⌜ at ≤ length (now file) ⌝ }
-    ensures { λ r. ⌜ r ≡ firstFault (instrumentTests normal at (drop at (now (file .entry)))) ⌝ }
+    ensures { λ r. ⌜ r ≡ firstRefusal (instrumentTests normal at (drop at (now (file .entry)))) ⌝ }
 {
     let left = file.len() - at;
     if left < 29 {
@@ -91,9 +91,9 @@ fn instrument_fault(file: &[u8], at: usize) -> u32
 }
 
 // The same of a stripped one: 4 bytes present (1); I below 4 (10); I bytes present (1); k above 16 (10); all k headers present (1).
-fn stripped_fault(file: &[u8], at: usize) -> u32
+fn stripped_refusal(file: &[u8], at: usize) -> u32
     requires { ⌜ at ≤ length (now file) ⌝ }
-    ensures { λ r. ⌜ r ≡ firstFault (instrumentTests stripped at (drop at (now (file .entry)))) ⌝ }
+    ensures { λ r. ⌜ r ≡ firstRefusal (instrumentTests stripped at (drop at (now (file .entry)))) ⌝ }
 {
     let left = file.len() - at;
     if left < 4 {
@@ -117,14 +117,14 @@ fn stripped_fault(file: &[u8], at: usize) -> u32
 }
 
 // Of either kind.
-fn fault_by(file: &[u8], at: usize, stripped: bool) -> u32
+fn refusal_by(file: &[u8], at: usize, stripped: bool) -> u32
     requires { ⌜ at ≤ length (now file) ⌝ }
-    ensures { λ r. ⌜ r ≡ firstFault (instrumentTests (kindBy stripped) at (drop at (now (file .entry)))) ⌝ }
+    ensures { λ r. ⌜ r ≡ firstRefusal (instrumentTests (kindBy stripped) at (drop at (now (file .entry)))) ⌝ }
 {
     if stripped {
-        return stripped_fault(file, at);
+        return stripped_refusal(file, at);
     }
-    instrument_fault(file, at)
+    instrument_refusal(file, at)
 }
 
 // The fields of an instrument that passed.
@@ -188,24 +188,24 @@ pub fn instrument_head(file: &[u8], at: usize) -> InstrumentHead
     head_by(file, at, is_stripped(file))
 }
 
-// An instrument with its samples: its first fault, or what the walk needs of it.
+// An instrument with its samples: its first refusal, or what the walk needs of it.
 pub fn read_instrument(file: &[u8], at: usize) -> InstrumentStep
     requires { ⌜ at ≤ length (now file) ⌝ }
     requires { ⌜ length (now file) ≤ fileMost ⌝ }
     ensures { λ r. ⌜ r ≡ instrumentStep at (readInstrument (kindAt (now (file .entry))) at (drop at (now (file .entry)))) ⌝ }
 {
     let stripped = is_stripped(file);
-    let fault = fault_by(file, at, stripped);
-    if fault != 0 {
-        return InstrumentStep::Refused(Fault {
-            number: fault,
+    let refusal = refusal_by(file, at, stripped);
+    if refusal != 0 {
+        return InstrumentStep::Refused(Refusal {
+            number: refusal,
             place: at,
         });
     }
     let head = head_by(file, at, stripped);
     let step = read_samples(file, head.heads, head.head_size, head.samples);
     let Step::Next(next) = step else {
-        return InstrumentStep::Refused(fault_of(step));
+        return InstrumentStep::Refused(refusal_of(step));
     };
     InstrumentStep::Read(InstrumentPart {
         size: head.heads - at,

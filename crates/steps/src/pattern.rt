@@ -1,9 +1,9 @@
 // The pattern step.
 use measure::StoredStep;
-use refusal::Fault;
+use refusal::Refusal;
 use refusal::Step;
-use refusal::fault_of;
-use refusal::no_fault;
+use refusal::no_refusal;
+use refusal::refusal_of;
 use slices::read::long;
 use slices::read::word;
 ghost use mathlib.Core.Path.{_≡_};
@@ -11,9 +11,9 @@ ghost use Prim.Native.Nat.{_+_, _≤_};
 ghost use lib.ListN.{length, drop};
 ghost use Rattle.xm.specs.PatternInFile.{leastPattern, patternTests, readPattern, dataMost};
 ghost use Rattle.xm.specs.Module.{fileMost};
-ghost use Rattle.refusal.specs.Fault.{placeStep};
-ghost use Rattle.refusal.specs.Test.{firstFault};
-ghost use Rattle.steps.specs.Step.{patternHead, patternStep, patternFault, storedFault, faultFrom};
+ghost use Rattle.refusal.specs.Refusal.{placeStep};
+ghost use Rattle.refusal.specs.Test.{firstRefusal};
+ghost use Rattle.steps.specs.Step.{patternHead, patternStep, patternRefusal, storedRefusal, refusalFrom};
 
 // The bytes of a pattern's shortest stored form and whether it stands in that form already, and where the next structure starts.
 pub struct PatternPart {
@@ -24,7 +24,7 @@ pub struct PatternPart {
 
 pub enum PatternStep {
     Read(PatternPart),
-    Refused(Fault),
+    Refused(Refusal),
 }
 
 // What its header tells: where its data stand, how many bytes, and its rows.
@@ -35,34 +35,34 @@ pub struct PatternHead {
 }
 
 // A pattern's refusal, to be passed on.
-pub fn fault_of_pattern(step: PatternStep) -> Fault
-    ensures { λ r. ⌜ r ≡ patternFault step ⌝ }
+pub fn refusal_of_pattern(step: PatternStep) -> Refusal
+    ensures { λ r. ⌜ r ≡ patternRefusal step ⌝ }
 {
     match step {
-        PatternStep::Read(_) => no_fault(),
-        PatternStep::Refused(fault) => fault,
+        PatternStep::Read(_) => no_refusal(),
+        PatternStep::Refused(refusal) => refusal,
     }
 }
 
 // A refusal of stored cells that were measured.
-fn fault_of_stored(step: StoredStep) -> Fault
-    ensures { λ r. ⌜ r ≡ storedFault step ⌝ }
+fn refusal_of_stored(step: StoredStep) -> Refusal
+    ensures { λ r. ⌜ r ≡ storedRefusal step ⌝ }
 {
     match step {
-        StoredStep::Read(_) => no_fault(),
-        StoredStep::Refused(fault) => fault,
+        StoredStep::Read(_) => no_refusal(),
+        StoredStep::Refused(refusal) => refusal,
     }
 }
 
 // In a file the place is counted from its start, and `base` is that of the cells' first byte.
-fn fault_from(base: usize, fault: Fault) -> Fault
+fn refusal_from(base: usize, refusal: Refusal) -> Refusal
     requires { ⌜ base ≤ fileMost ⌝ }
-    requires { ⌜ fault .place ≤ dataMost ⌝ }
-    ensures { λ r. ⌜ r ≡ faultFrom base fault ⌝ }
+    requires { ⌜ refusal .place ≤ dataMost ⌝ }
+    ensures { λ r. ⌜ r ≡ refusalFrom base refusal ⌝ }
 {
-    Fault {
-        number: fault.number,
-        place: base + fault.place,
+    Refusal {
+        number: refusal.number,
+        place: base + refusal.place,
     }
 }
 
@@ -78,10 +78,10 @@ pub fn pattern_head(file: &[u8], at: usize) -> PatternHead
     }
 }
 
-// The number of the first fault of its header, or 0: 9 bytes present (1), 6, its L + S bytes present (1).
-fn pattern_fault(file: &[u8], at: usize) -> u32
+// The number of the first refusal of its header, or 0: 9 bytes present (1), 6, its L + S bytes present (1).
+fn pattern_refusal(file: &[u8], at: usize) -> u32
     requires { ⌜ at ≤ length (now file) ⌝ }
-    ensures { λ r. ⌜ r ≡ firstFault (patternTests at (drop at (now (file .entry)))) ⌝ }
+    ensures { λ r. ⌜ r ≡ firstRefusal (patternTests at (drop at (now (file .entry)))) ⌝ }
 {
     if file.len() - at < 9 {
         return 1;
@@ -108,10 +108,10 @@ pub fn read_pattern(file: &[u8], at: usize, channels: usize) -> PatternStep
     requires { ⌜ (1 ≤ channels) × (channels ≤ 64) ⌝ }
     ensures { λ r. ⌜ r ≡ patternStep (now (file .entry)) at (readPattern channels at (drop at (now (file .entry)))) ⌝ }
 {
-    let fault = pattern_fault(file, at);
-    if fault != 0 {
-        return PatternStep::Refused(Fault {
-            number: fault,
+    let refusal = pattern_refusal(file, at);
+    if refusal != 0 {
+        return PatternStep::Refused(Refusal {
+            number: refusal,
             place: at,
         });
     }
@@ -120,7 +120,7 @@ pub fn read_pattern(file: &[u8], at: usize, channels: usize) -> PatternStep
     let next = place + head.size;
     let step = measure::read_stored(&file[place..next], head.rows, channels);
     let StoredStep::Read(stored) = step else {
-        return PatternStep::Refused(fault_from(place, fault_of_stored(step)));
+        return PatternStep::Refused(refusal_from(place, refusal_of_stored(step)));
     };
     PatternStep::Read(PatternPart {
         shortest: stored.shortest,
@@ -136,10 +136,10 @@ pub fn scan_pattern(file: &[u8], at: usize, channels: usize) -> Step
     requires { ⌜ (1 ≤ channels) × (channels ≤ 64) ⌝ }
     ensures { λ r. ⌜ r ≡ placeStep at (readPattern channels at (drop at (now (file .entry)))) ⌝ }
 {
-    let fault = pattern_fault(file, at);
-    if fault != 0 {
-        return Step::Refused(Fault {
-            number: fault,
+    let refusal = pattern_refusal(file, at);
+    if refusal != 0 {
+        return Step::Refused(Refusal {
+            number: refusal,
             place: at,
         });
     }
@@ -148,7 +148,7 @@ pub fn scan_pattern(file: &[u8], at: usize, channels: usize) -> Step
     let next = place + head.size;
     let step = scan::scan_stored(&file[place..next], head.rows, channels);
     let Step::Next(_) = step else {
-        return Step::Refused(fault_from(place, fault_of(step)));
+        return Step::Refused(refusal_from(place, refusal_of(step)));
     };
     Step::Next(next)
 }

@@ -18,7 +18,7 @@ use Rattle.xm.specs.Structure as paper
 use Rattle.xm.specs.Structure.{endsAt, handHead, handPattern, handInstrument, handOver, aheadAtFirst, started}
 use Rattle.xm.proofs.Number.{bytes-drop, word-small, long-small}
 use Rattle.xm.proofs.Answer.{answer-gives, answer-refuses}
-use Rattle.refusal.specs.declared.Fault.{Fault}
+use Rattle.refusal.specs.declared.Refusal.{Refusal}
 use Rattle.steps.specs.Step.{headerPart, patternHead, instrumentStep, InstrumentIs}
 use Rattle.steps.specs.declared.instrument.InstrumentPart.{InstrumentPart}
 use Rattle.steps.specs.declared.instrument.InstrumentStep.{InstrumentStep}
@@ -86,9 +86,9 @@ pattern-fits file place bytes small there e =
 -- An instrument, by the step
 abbrev partIn : InstrumentPart → InstrumentStep → InstrumentPart
 partIn other (step.Read part) = part
-partIn other (step.Refused fault) = other
+partIn other (step.Refused refusal) = other
 
-read-never : {A : Type 0} {part : InstrumentPart} {fault : Fault} → step.Read part ≡ step.Refused fault → A
+read-never : {A : Type 0} {part : InstrumentPart} {refusal : Refusal} → step.Read part ≡ step.Refused refusal → A
 read-never e = absurd (let z : _≡_ {A = ℕ} 0 1 = cc in omega arith)
 
 abbrev partNext : Ahead → InstrumentPart → Ahead
@@ -108,7 +108,7 @@ module _ (ahead : Ahead) where
       handed-by made reads ∙ ap (λ (p : InstrumentPart). handedWith (standing.Instrument (ahead .place)) (partNext ahead p)) (ap (partIn part) e)
   instrument-handed (refused r) e made reads = read-never e
 
-  pub instrument-not : (g : Got InstrumentFound) {s : InstrumentStep} {fault : Fault} → s ≡ instrumentStep (ahead .place) g → s ≡ step.Refused fault
+  pub instrument-not : (g : Got InstrumentFound) {s : InstrumentStep} {refusal : Refusal} → s ≡ instrumentStep (ahead .place) g → s ≡ step.Refused refusal
       → handedWith standing.End ahead ≡ handedOf (handInstrument g (aheadIn ahead))
   instrument-not (got i n) e told = read-never (sym e ∙ told)
   instrument-not (refused r) e told = refl
@@ -163,7 +163,7 @@ module _ (file : List ℕ) (ahead : Ahead) where
 
 -- The start
 module _ (file : List ℕ) where
-  pub start-refused : {f : Fault} → verdict.Refused f ≡ verdictOf (checking file) → reached.Refused f ≡ reachedOf (started file)
+  pub start-refused : {f : Refusal} → verdict.Refused f ≡ verdictOf (checking file) → reached.Refused f ≡ reachedOf (started file)
   unfolding started
   start-refused e =
       verdict-refused file e refl λ r q same. ap reached.Refused (cc) ∙ sym (ap reachedOf (answer-refuses (λ (found : Found) end. aheadAtFirst file) q))

@@ -5,7 +5,7 @@ use Rattle.xm.specs.Format.{Kind, header, patternHeader, patternData, instrumen
 use Rattle.xm.specs.Answer.{Answer, gives, refuses, numbers}
 use Rattle.xm.specs.Structure as paper
 use Rattle.xm.specs.Structure.{kindNumber, called, readOn}
-use Rattle.refusal.specs.Fault.{faultOf, refusalIn}
+use Rattle.refusal.specs.Refusal.{codeRefusal, paperRefusal}
 use Rattle.structures.specs.declared.Standing.{Standing}
 use Rattle.structures.specs.declared.Standing.the-variants as standing
 use Rattle.structures.specs.declared.Ahead.{Ahead}
@@ -28,7 +28,7 @@ standingIn paper.ended = standing.End
 
 abbrev pub standingOf : Answer paper.Standing → Standing
 standingOf (gives s) = standingIn s
-standingOf (refuses r) = standing.Refused (faultOf r)
+standingOf (refuses r) = standing.Refused (codeRefusal r)
 
 -- This paper's numbers for each case: number, place of the refusal, kind (0 at the end: the file's header is not handed over), place.
 abbrev pub standingNumbers : Standing → List ℕ
@@ -36,7 +36,7 @@ standingNumbers (standing.Pattern place) = 0 ∷ 0 ∷ kindNumber patternHeader 
 standingNumbers (standing.Instrument place) = 0 ∷ 0 ∷ kindNumber instrument ∷ place ∷ []
 standingNumbers (standing.SampleHeader place) = 0 ∷ 0 ∷ kindNumber sampleHeader ∷ place ∷ []
 standingNumbers standing.End = 0 ∷ 0 ∷ 0 ∷ 0 ∷ []
-standingNumbers (standing.Refused fault) = fault .number ∷ fault .place ∷ 0 ∷ 0 ∷ []
+standingNumbers (standing.Refused refusal) = refusal .number ∷ refusal .place ∷ 0 ∷ 0 ∷ []
 
 -- and the same of the definition's answer.
 abbrev pub kindStanding : paper.Standing → ℕ
@@ -59,11 +59,11 @@ aheadIn a = record { patterns = a .patterns; instruments = a .instruments; place
 
 abbrev pub reachedOf : Answer paper.Ahead → Reached
 reachedOf (gives a) = reached.Within (aheadOf a)
-reachedOf (refuses r) = reached.Refused (faultOf r)
+reachedOf (refuses r) = reached.Refused (codeRefusal r)
 
 abbrev pub reachedIn : Reached → Answer paper.Ahead
 reachedIn (reached.Within a) = gives (aheadIn a)
-reachedIn (reached.Refused fault) = refuses (refusalIn fault)
+reachedIn (reached.Refused refusal) = refuses (paperRefusal refusal)
 
 -- What a call gives of it, and how far has been read then.
 abbrev pub handing : (file : List ℕ) → Reached → Handed

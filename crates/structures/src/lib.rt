@@ -1,6 +1,6 @@
 // One structure after the other: what a reader hands over at a call, and how far it has read then. On a plain slice and numbers, so that the
 // small reader itself has only calls and a store. The file is checked once, at the start; a call reads one structure's own fields.
-use refusal::Fault;
+use refusal::Refusal;
 use steps::header::header_part;
 use steps::instrument::InstrumentStep;
 use steps::instrument::read_instrument;
@@ -27,7 +27,7 @@ pub enum Standing {
     Instrument(usize),
     SampleHeader(usize),
     End,
-    Refused(Fault),
+    Refused(Refusal),
 }
 
 // So many patterns and then instruments are left, from a place on; and before them, of the instrument that was handed over last, so many
@@ -44,7 +44,7 @@ pub struct Ahead {
 // How far has been read; of a refused file the check's refusal.
 pub enum Reached {
     Within(Ahead),
-    Refused(Fault),
+    Refused(Refusal),
 }
 
 pub struct Handed {
@@ -173,7 +173,7 @@ pub fn start_checked(file: &[u8], verdict: Verdict) -> Reached
                 head_size: 0,
             })
         }
-        Verdict::Refused(fault) => Reached::Refused(fault),
+        Verdict::Refused(refusal) => Reached::Refused(refusal),
     }
 }
 
@@ -191,9 +191,9 @@ pub fn hand(file: &[u8], reached: Reached) -> Handed
 {
     match reached {
         Reached::Within(ahead) => hand_over(file, ahead),
-        Reached::Refused(fault) => Handed {
-            standing: Standing::Refused(fault),
-            reached: Reached::Refused(fault),
+        Reached::Refused(refusal) => Handed {
+            standing: Standing::Refused(refusal),
+            reached: Reached::Refused(refusal),
         },
     }
 }

@@ -21,7 +21,7 @@ use Rattle.xm.specs.Asking.{stretchOf, askingFlat, noRow}
 use Rattle.xm.specs.Region.{ofKind}
 use Rattle.xm.specs.Demands.{headsIn, bytesIn, RowUnpacks, RowsUnpack, LoopReads, AcceptedFile, liesAt}
 use Rattle.xm.proofs.Accepted.{accepted-files, number-at, nowhere, loop-at, decodes-at, normal-byte}
-use Rattle.refusal.specs.declared.Fault.{Fault}
+use Rattle.refusal.specs.declared.Refusal.{Refusal}
 use Rattle.walk.specs.declared.Verdict.{Verdict}
 use Rattle.walk.specs.declared.Verdict.the-variants.{Refused}
 use Rattle.walk.specs.File.{verdictOf, verdictNumbers}
@@ -43,12 +43,12 @@ pub tables-once : (room : Room) (file : List ℕ) (lent : Tables) {after other :
 tables-once room file lent met e = met ∙ sym e
 
 -- A refused check leaves the tables as they were
-refused-tables : (answer : Answer CheckReport) (lent : Tables) {fault : Fault} → Refused fault ≡ verdictOf answer → tablesAfter answer lent ≡ lent
+refused-tables : (answer : Answer CheckReport) (lent : Tables) {refusal : Refusal} → Refused refusal ≡ verdictOf answer → tablesAfter answer lent ≡ lent
 unfolding tablesAfter
 refused-tables (gives c) lent e = absurd (let z : _≡_ {A = ℕ} 0 1 = cc in omega arith)
 refused-tables (refuses r) lent e = refl
 
-pub into-unchanged : (room : Room) (file : List ℕ) (lent : Tables) {fault : Fault} {after : Tables} → Refused fault ≡ verdictOf (checkingInto room file)
+pub into-unchanged : (room : Room) (file : List ℕ) (lent : Tables) {refusal : Refusal} {after : Tables} → Refused refusal ≡ verdictOf (checkingInto room file)
     → after ≡ tablesAfter (checkingInto room file) lent → after ≡ lent
 into-unchanged room file lent told met = met ∙ refused-tables (checkingInto room file) lent told
 

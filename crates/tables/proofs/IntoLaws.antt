@@ -7,7 +7,8 @@ use native.Mathlib.Nat.{min-le-left, min-le-right}
 use native.Mathlib.Omega.{arith}
 use lib.IntN.{ℤ}
 use lib.ListN.{length, length-map, length-replicate, replicate, drop}
-use Rattle.xm.specs.Got.{Refusal, got, _at_, listIn, accepted}
+use Rattle.xm.specs.Got.{got, _at_, listIn, accepted}
+use Rattle.xm.specs.Got as paper
 use Rattle.xm.specs.Format.{joined}
 use Rattle.xm.specs.Answer.{Answer, gives, refuses, inFront}
 use Rattle.xm.specs.Header.{Header, channelsAt, patternsAt, instrumentsAt, headerEnd, kindAt}
@@ -21,8 +22,8 @@ use Rattle.xm.specs.Demands.{HasRoom}
 use Rattle.xm.proofs.Answer.{gives-bound, gives-passed, gives-same}
 use Rattle.xm.proofs.Format.{joined-length, read-length}
 use Rattle.xm.proofs.Demands.{tables-tell}
-use Rattle.refusal.specs.Fault.{faultOf}
-use Rattle.refusal.specs.declared.Fault.{Fault}
+use Rattle.refusal.specs.Refusal.{codeRefusal}
+use Rattle.refusal.specs.declared.Refusal.{Refusal}
 use Rattle.xm.specs.Got.{allPass}
 use Rattle.walk.specs.File.{verdictOf}
 use Rattle.walk.specs.declared.Module.{Module}
@@ -91,14 +92,14 @@ module _ (file patterns instruments : List ℕ) (rows : ℕ) where
     pub leaves-patterns : patterns′ ≡ patternsAfter into patterns
     pub leaves-instruments : instruments′ ≡ instrumentsAfter into instruments
 
-  told-refused : {r : Refusal} → into ≡ refuses r → IntoTold (verdict.Refused (faultOf r)) patterns instruments
+  told-refused : {r : paper.Refusal} → into ≡ refuses r → IntoTold (verdict.Refused (codeRefusal r)) patterns instruments
   told-refused e = record {
     answers = sym (ap verdictOf e);
     leaves-patterns = sym (ap (λ (a : Answer CheckReport). patternsAfter a patterns) e);
     leaves-instruments = sym (ap (λ (a : Answer CheckReport). instrumentsAfter a instruments) e);
   }
 
-  pub beside-refused : {v : Verdict} {f : Fault} → v ≡ verdictOf (checking file) → v ≡ verdict.Refused f → IntoTold v patterns instruments
+  pub beside-refused : {v : Verdict} {f : Refusal} → v ≡ verdictOf (checking file) → v ≡ verdict.Refused f → IntoTold v patterns instruments
   beside-refused e told = verdict-refused file e told λ r q same. rw same (told-refused (tables-tell file _ .own-first r q))
 
   module _ {x : Module} (e : verdict.Accepted x ≡ verdictOf (checking file)) where
@@ -109,7 +110,7 @@ module _ (file patterns instruments : List ℕ) (rows : ℕ) where
     abbrev fits : Bool
     fits = allPass (roomTestsOf (roomBeside (length patterns) (length instruments) rows) x)
 
-    pub beside-cramped : fits ≡ false → IntoTold (verdict.Refused (faultOf (14 at 0))) patterns instruments
+    pub beside-cramped : fits ≡ false → IntoTold (verdict.Refused (codeRefusal (14 at 0))) patterns instruments
     beside-cramped f = told-found λ found end q v c.
         told-refused (tables-tell file _ .no-room-exactly found end q .1
         (λ h. not-all-hold _ f (omega (arith, h .0, c .patterns), (omega (arith, h .1, c .instruments), (omega (arith, h .2, c .samples), tt)))))
@@ -169,7 +170,7 @@ module _ (file patterns instruments samples : List ℕ) (tunes : List ℤ) where
     here : IntoTold file patterns instruments rowsLent v patterns′ instruments′
     here = subst (λ (rows : ℕ). IntoTold file patterns instruments rows v patterns′ instruments′) n told
 
-    pub into-refused : {f : Fault} → v ≡ verdict.Refused f → ToldInto v (lent patterns′ instruments′ samples tunes)
+    pub into-refused : {f : Refusal} → v ≡ verdict.Refused f → ToldInto v (lent patterns′ instruments′ samples tunes)
     unfolding tablesAfter
     into-refused refused = record { answers = here .answers; leaves = go answer refl }
       where

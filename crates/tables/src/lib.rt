@@ -9,7 +9,7 @@ use fill::PATTERN_STRIDE;
 use fill::fill_instruments;
 use fill::fill_patterns;
 use fill::fill_samples;
-use refusal::Fault;
+use refusal::Refusal;
 use sample::TUNE_STRIDE;
 use walk::Module;
 use walk::Verdict;
@@ -67,7 +67,7 @@ pub fn check_beside(
         return verdict;
     };
     if !has_room(found, patterns.len(), instruments.len(), rows) {
-        return Verdict::Refused(Fault {
+        return Verdict::Refused(Refusal {
             number: 14,
             place: 0,
         });

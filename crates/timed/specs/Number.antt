@@ -7,4 +7,4 @@ use Rattle.reader.specs.Count.{total}
 -- How many structures were handed over; none of a refused file.
 abbrev pub countedNumber : Counted → ℕ
 countedNumber (counted.Accepted counts) = total counts
-countedNumber (counted.Refused fault) = 0
+countedNumber (counted.Refused refusal) = 0

@@ -13,7 +13,7 @@ fn counted_number(counted: Counted) -> usize
 {
     match counted {
         Counted::Accepted(counts) => counts.patterns + counts.instruments + counts.samples,
-        Counted::Refused(fault) => 0,
+        Counted::Refused(refusal) => 0,
     }
 }
 

@@ -8,7 +8,8 @@ use lib.ListN.{length, drop, replicate, length-append, length-drop, length-repli
 use lib.Seq.{drop-drop}
 use Rattle.xm.specs.Number.{Bytes, wordAt}
 use Rattle.xm.specs.ModuleKind.{ModuleKind, normal, stripped}
-use Rattle.xm.specs.Got.{Got, got, refused, Refusal, _>>=_, _>>_, _at_}
+use Rattle.xm.specs.Got.{Got, got, refused, _>>=_, _>>_, _at_}
+use Rattle.xm.specs.Got as paper
 use Rattle.xm.specs.Format.{Format, each, joined}
 use Rattle.xm.specs.Header.{Header, HeaderFound, leastHeader, ordersMost, GoodTracker, GoodHeader, kindAt, readHeader, writeHeader, headerFormat}
 use Rattle.xm.specs.PatternInFile.{PatternFound, patternFormat}
@@ -21,15 +22,15 @@ use Rattle.xm.proofs.Format.{many-keeps}
 use Rattle.xm.proofs.Header.{header-keeps}
 use Rattle.xm.proofs.PatternInFile.{pattern-keeps}
 use Rattle.xm.proofs.Module.{whole-read}
-use Rattle.refusal.specs.Fault.{refusalIn, placeStep}
-use Rattle.refusal.specs.declared.Fault.{Fault}
+use Rattle.refusal.specs.Refusal.{paperRefusal, placeStep}
+use Rattle.refusal.specs.declared.Refusal.{Refusal}
 use Rattle.refusal.specs.declared.Step.the-variants.{Next}
 use Rattle.refusal.proofs.Steps.{next-got}
 use Rattle.mark.specs.Mark.{Marks}
 use Rattle.steps.specs.Step.{headerStep}
 use Rattle.steps.specs.declared.header.HeaderPart.{HeaderPart}
 use Rattle.steps.specs.declared.header.HeaderStep.the-variants as header
-use Rattle.walk.specs.File.{runStep, patternsStep, instrumentsStep, runFault, countStep, countFault, walkStep, verdictOf}
+use Rattle.walk.specs.File.{runStep, patternsStep, instrumentsStep, runRefusal, countStep, countRefusal, walkStep, verdictOf}
 use Rattle.walk.specs.declared.Run.{Run}
 use Rattle.walk.specs.declared.RunStep.{RunStep}
 use Rattle.walk.specs.declared.RunStep.the-variants as run
@@ -45,8 +46,8 @@ run-got : {R H I A : Type 0} (F : Format H I A) (place : ℕ) (g : Got (List I))
 run-got F place (got is n) e k = k is n refl (cc) (cc)
 run-got F place (refused r) e k = absurd (no-true (cc))
 
-pub run-refused : {H I A : Type 0} (F : Format H I A) (place : ℕ) (g : Got (List I)) {step : RunStep} {f r : Fault} → step ≡ runStep F place g
-    → step ≡ run.Refused f → r ≡ runFault step → g ≡ refused (refusalIn r)
+pub run-refused : {H I A : Type 0} (F : Format H I A) (place : ℕ) (g : Got (List I)) {step : RunStep} {f r : Refusal} → step ≡ runStep F place g
+    → step ≡ run.Refused f → r ≡ runRefusal step → g ≡ refused (paperRefusal r)
 run-refused F place (got is n) e told passed = cc
 run-refused F place (refused q) e told passed = cc
 
@@ -55,17 +56,17 @@ count-got : {R : Type 0} (place : ℕ) (g : Got (List InstrumentFound)) {part : 
 count-got place (got is n) e k = k is n refl (cc) (cc)
 count-got place (refused r) e k = absurd (no-true (cc))
 
-pub count-refused : (place : ℕ) (g : Got (List InstrumentFound)) {step : CountStep} {f r : Fault} → step ≡ countStep place g → step ≡ counted.Refused f
-    → r ≡ countFault step → g ≡ refused (refusalIn r)
+pub count-refused : (place : ℕ) (g : Got (List InstrumentFound)) {step : CountStep} {f r : Refusal} → step ≡ countStep place g → step ≡ counted.Refused f
+    → r ≡ countRefusal step → g ≡ refused (paperRefusal r)
 count-refused place (got is n) e told passed = cc
 count-refused place (refused q) e told passed = cc
 
 -- A refusal is the answer, and leaves nothing to mark
-pub walk-refuses : (to : ModuleKind) (file marks : List ℕ) {r : Fault} → readFile file ≡ refused (refusalIn r)
+pub walk-refuses : (to : ModuleKind) (file marks : List ℕ) {r : Refusal} → readFile file ≡ refused (paperRefusal r)
     → (walked.Refused r ≡ walkStep to (readFile file)) × ((found : Found) (end : ℕ) → readFile file ≡ got found end → Marks file 0 (found .1 .0) marks)
 walk-refuses to file marks e = (sym (ap (walkStep to) e), λ found end q. absurd (no-true (cc)))
 
-pub check-refuses : (file : List ℕ) {r : Fault} → readFile file ≡ refused (refusalIn r) → verdict.Refused r ≡ verdictOf (checking file)
+pub check-refuses : (file : List ℕ) {r : Refusal} → readFile file ≡ refused (paperRefusal r) → verdict.Refused r ≡ verdictOf (checking file)
 unfolding checking
 check-refuses file e = cc
 
@@ -78,7 +79,7 @@ pub file-small : {I A : Type 0} (F : Format (Unit {0}) I A) (file : List ℕ) �
 unfolding readWhole
 file-small F file h = pass _ (h, tt) refl
 
-refused-first : {A B : Type 0} (size : Got (Unit {0})) (g : Got A) (k : A × ℕ → Got B) {r : Refusal} → (size >> g) ≡ refused r
+refused-first : {A B : Type 0} (size : Got (Unit {0})) (g : Got A) (k : A × ℕ → Got B) {r : paper.Refusal} → (size >> g) ≡ refused r
     → (size >> (g >>= k)) ≡ refused r
 unfolding _>>_ _>>=_
 refused-first (got u n) (got i m) k e = cc
@@ -113,7 +114,7 @@ module _ (file : List ℕ) where
   abbrev kind : ModuleKind
   kind = kindAt file
 
-  pub header-out : {r : Refusal} → readWhole (headerFormat kind) file ≡ refused r → readFile file ≡ refused r
+  pub header-out : {r : paper.Refusal} → readWhole (headerFormat kind) file ≡ refused r → readFile file ≡ refused r
   unfolding readWhole
   header-out e = refused-first _ _ _ e
 
@@ -168,7 +169,7 @@ module _ (file : List ℕ) where
     same-patterns : each patternFormat .read (patternsFor (began .head .content)) (0 + part .start) (drop (part .start) file) ≡ patterns
     same-patterns = let h = began in rw (zero-add, ← (h .channels), ← (h .patterns))
 
-    pub patterns-out : {r : Refusal} → patterns ≡ refused r → readFile file ≡ refused r
+    pub patterns-out : {r : paper.Refusal} → patterns ≡ refused r → readFile file ≡ refused r
     patterns-out q = whole ∙ step-on _ (began .reads) (step-refused _ (step-refused _ (same-patterns ∙ q)))
 
     -- were read or only tried
@@ -210,7 +211,7 @@ module _ (file : List ℕ) where
           (0 + part .start + ps .used) (drop (ps .used) (drop (part .start) file)) ≡ instruments
       same-instruments = let h = began in rw (zero-add, drop-drop, ← (ps .ends), ← (h .instruments))
 
-      pub instruments-out : {r : Refusal} → instruments ≡ refused r → readFile file ≡ refused r
+      pub instruments-out : {r : paper.Refusal} → instruments ≡ refused r → readFile file ≡ refused r
       instruments-out q = whole ∙ step-on _ (began .reads) (step-refused _ (step-on _ (same-patterns ∙ ps .reads) (step-refused _ (same-instruments ∙ q))))
 
       -- All of the file is read

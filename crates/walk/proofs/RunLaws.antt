@@ -21,14 +21,14 @@ use Rattle.xm.proofs.PatternInFile.{pattern-size, pattern-keeps}
 use Rattle.xm.proofs.Instrument.{instrument-tells}
 use Rattle.xm.proofs.Stripped.{instrument-keeps}
 use Rattle.xm.proofs.Accepted.{rows-length}
-use Rattle.refusal.specs.Fault.{refusalIn, placeStep}
-use Rattle.refusal.specs.declared.Fault.{Fault}
+use Rattle.refusal.specs.Refusal.{paperRefusal, placeStep}
+use Rattle.refusal.specs.declared.Refusal.{Refusal}
 use Rattle.refusal.specs.declared.Step.{Step}
 use Rattle.refusal.specs.declared.Step.the-variants.{Next, Refused}
 use Rattle.refusal.proofs.Steps.{next-got}
 use Rattle.measure.specs.Measure.{sameBytes}
 use Rattle.mark.specs.Mark.{markBy, Put, Marks}
-use Rattle.steps.specs.Step.{patternStep, patternFault, instrumentStep, instrumentFault}
+use Rattle.steps.specs.Step.{patternStep, patternRefusal, instrumentStep, instrumentRefusal}
 use Rattle.steps.specs.declared.pattern.PatternPart.{PatternPart}
 use Rattle.steps.specs.declared.pattern.PatternStep.{PatternStep}
 use Rattle.steps.specs.declared.pattern.PatternStep.the-variants as pattern
@@ -96,8 +96,8 @@ module _ (file : List ℕ) (start channels count : ℕ) where
 
     module _ (h : j < count) where
       -- A refusal leaves nothing to mark
-      pub patterns-out : {step : PatternStep} {f r : Fault} → step ≡ patternStep file place (readPattern channels place (drop place file))
-          → step ≡ pattern.Refused f → r ≡ patternFault step
+      pub patterns-out : {step : PatternStep} {f r : Refusal} → step ≡ patternStep file place (readPattern channels place (drop place file))
+          → step ≡ pattern.Refused f → r ≡ patternRefusal step
           → (run.Refused r ≡ patternsStep start patterns) × ((is : List PatternFound) (n : ℕ) → patterns ≡ got is n → Marks file 0 is marks)
       patterns-out e told passed =
           let out =
@@ -140,7 +140,7 @@ module _ (file : List ℕ) (start channels count : ℕ) where
     tried-end h = reached-place patternFormat _ file start (w .reached) (rw length-replicate h)
 
     module _ (h : j < count) where
-      pub tried-out : {step : Step} {f : Fault} → step ≡ placeStep place (readPattern channels place (drop place file)) → step ≡ Refused f
+      pub tried-out : {step : Step} {f : Refusal} → step ≡ placeStep place (readPattern channels place (drop place file)) → step ≡ Refused f
           → step ≡ placeStep start (each patternFormat .read (replicate count channels) start (drop start file))
       tried-out e told = refused-on place start _ _ e told λ r er.
           reached-out patternFormat _ file start (w .reached) channels (rw length-replicate h) (getD-replicate count j channels channels h) er
@@ -187,9 +187,9 @@ module _ (file : List ℕ) (start count : ℕ) where
 
   module _ {j place : ℕ} {Told : List InstrumentFound → Type 0} (w : Reached (instrumentFormat kind) (replicate count tt) file start Told j place)
       (h : j < count) where
-    pub instruments-out : {step : InstrumentStep} {f r : Fault} → step ≡ instrumentStep place (readInstrument kind place (drop place file))
-        → step ≡ instrument.Refused f → r ≡ instrumentFault step
-        → instruments ≡ refused (refusalIn r)
+    pub instruments-out : {step : InstrumentStep} {f r : Refusal} → step ≡ instrumentStep place (readInstrument kind place (drop place file))
+        → step ≡ instrument.Refused f → r ≡ instrumentRefusal step
+        → instruments ≡ refused (paperRefusal r)
     instruments-out e told passed =
         reached-out (instrumentFormat kind) _ file start w tt (rw length-replicate h) (getD-replicate count j tt tt h)
         (instrument-refused place _ e told passed)

@@ -11,8 +11,8 @@ use Rattle.xm.specs.Instrument.{InstrumentFound, instrumentFormat}
 use Rattle.xm.specs.Module.{Found}
 use Rattle.xm.specs.Table.{sampleRowsIn, sampleRows, CheckReport}
 use Rattle.xm.specs.Press.{contentOf, pressed}
-use Rattle.refusal.specs.Fault.{faultOf, noFault}
-use Rattle.refusal.specs.declared.Fault.{Fault}
+use Rattle.refusal.specs.Refusal.{codeRefusal, noRefusal}
+use Rattle.refusal.specs.declared.Refusal.{Refusal}
 use Rattle.walk.specs.declared.RunStep.{RunStep}
 use Rattle.walk.specs.declared.RunStep.the-variants as run
 use Rattle.walk.specs.declared.CountStep.{CountStep}
@@ -25,7 +25,7 @@ use Rattle.walk.specs.declared.Verdict.the-variants as verdict
 -- A run of structures, as they are written within a format.
 abbrev pub runStep : {H I A : Type 0} → Format H I A → (place : ℕ) → Got (List I) → RunStep
 runStep F place (got is used) = run.Read (record { next = place + used; pressed = length (each F .write (each F .view is)) })
-runStep F place (refused r) = run.Refused (faultOf r)
+runStep F place (refused r) = run.Refused (codeRefusal r)
 
 abbrev pub patternsStep : (place : ℕ) → Got (List PatternFound) → RunStep
 patternsStep = runStep patternFormat
@@ -35,29 +35,29 @@ instrumentsStep to = runStep (instrumentFormat to)
 
 abbrev pub runPressed : RunStep → ℕ
 runPressed (run.Read part) = part .pressed
-runPressed (run.Refused fault) = 0
+runPressed (run.Refused refusal) = 0
 
-abbrev pub runFault : RunStep → Fault
-runFault (run.Read part) = noFault
-runFault (run.Refused fault) = fault
+abbrev pub runRefusal : RunStep → Refusal
+runRefusal (run.Read part) = noRefusal
+runRefusal (run.Refused refusal) = refusal
 
 -- A run of instruments, and how many samples they have.
 abbrev pub countStep : (place : ℕ) → Got (List InstrumentFound) → CountStep
 countStep place (got is used) = count.Read (record { next = place + used; samples = length (joined sampleRowsIn is) })
-countStep place (refused r) = count.Refused (faultOf r)
+countStep place (refused r) = count.Refused (codeRefusal r)
 
-abbrev pub countFault : CountStep → Fault
-countFault (count.Read part) = noFault
-countFault (count.Refused fault) = fault
+abbrev pub countRefusal : CountStep → Refusal
+countRefusal (count.Read part) = noRefusal
+countRefusal (count.Refused refusal) = refusal
 
 -- A whole file: the length of its shortest form, in a kind of module.
 abbrev pub walkStep : ModuleKind → Got Found → WalkStep
 walkStep to (got found end) = walked.Accepted (length (pressed to (contentOf found)))
-walkStep to (refused r) = walked.Refused (faultOf r)
+walkStep to (refused r) = walked.Refused (codeRefusal r)
 
-abbrev pub walkFault : WalkStep → Fault
-walkFault (walked.Accepted pressed) = noFault
-walkFault (walked.Refused fault) = fault
+abbrev pub walkRefusal : WalkStep → Refusal
+walkRefusal (walked.Accepted pressed) = noRefusal
+walkRefusal (walked.Refused refusal) = refusal
 
 -- "An accepted check reports the end of the last structure and the numbers of channels, patterns, instruments and samples".
 abbrev pub verdictOf : Answer CheckReport → Verdict
@@ -68,9 +68,9 @@ verdictOf (gives c) = verdict.Accepted (record {
   instruments = c .found .0 .content .instruments;
   samples = length (sampleRows (c .found));
 })
-verdictOf (refuses r) = verdict.Refused (faultOf r)
+verdictOf (refuses r) = verdict.Refused (codeRefusal r)
 
 -- The paper's numbers for each case: number, place, end, channels, patterns, instruments, samples.
 abbrev pub verdictNumbers : Verdict → List ℕ
 verdictNumbers (verdict.Accepted m) = 0 ∷ 0 ∷ m .end ∷ m .channels ∷ m .patterns ∷ m .instruments ∷ m .samples ∷ []
-verdictNumbers (verdict.Refused fault) = fault .number ∷ fault .place ∷ 0 ∷ 0 ∷ 0 ∷ 0 ∷ 0 ∷ []
+verdictNumbers (verdict.Refused refusal) = refusal .number ∷ refusal .place ∷ 0 ∷ 0 ∷ 0 ∷ 0 ∷ 0 ∷ []

@@ -2,21 +2,21 @@
 use forms::form_of;
 use mark::mark_of;
 use mark::put_mark;
-use refusal::Fault;
+use refusal::Refusal;
 use refusal::Step;
-use refusal::fault_of;
-use refusal::no_fault;
+use refusal::no_refusal;
+use refusal::refusal_of;
 use slices::read::word;
 use steps::header::HeaderStep;
-use steps::header::fault_of_header;
 use steps::header::read_header;
+use steps::header::refusal_of_header;
 use steps::instrument::InstrumentStep;
-use steps::instrument::fault_of_instrument;
 use steps::instrument::read_instrument;
+use steps::instrument::refusal_of_instrument;
 use steps::kind::least_header;
 use steps::pattern::PatternStep;
-use steps::pattern::fault_of_pattern;
 use steps::pattern::read_pattern;
+use steps::pattern::refusal_of_pattern;
 use steps::pattern::scan_pattern;
 ghost use mathlib.Core.Path.{_≡_};
 ghost use Prim.Native.Nat.{ℕ, _*_, _≤_};
@@ -30,10 +30,10 @@ ghost use Rattle.xm.specs.PatternInFile.{PatternFound, patternFormat};
 ghost use Rattle.xm.specs.Instrument.{instrumentFormat};
 ghost use Rattle.xm.specs.Module.{Found, fileMost, readWhole, readFile};
 ghost use Rattle.xm.specs.Table.{checking};
-ghost use Rattle.refusal.specs.Fault.{placeStep};
+ghost use Rattle.refusal.specs.Refusal.{placeStep};
 ghost use Rattle.mark.specs.Mark.{Marks};
 ghost use Rattle.steps.specs.Step.{headerStep};
-ghost use Rattle.walk.specs.File.{patternsStep, instrumentsStep, runFault, runPressed, countStep, countFault, walkStep, walkFault, verdictOf};
+ghost use Rattle.walk.specs.File.{patternsStep, instrumentsStep, runRefusal, runPressed, countStep, countRefusal, walkStep, walkRefusal, verdictOf};
 
 // "2 | file over 16,777,216 bytes"
 const FILE_MOST: usize = 16777216;
@@ -46,7 +46,7 @@ struct Run {
 
 enum RunStep {
     Read(Run),
-    Refused(Fault),
+    Refused(Refusal),
 }
 
 // A run of instruments: where they end, and how many samples they have.
@@ -57,13 +57,13 @@ struct Count {
 
 enum CountStep {
     Read(Count),
-    Refused(Fault),
+    Refused(Refusal),
 }
 
 // The length of an accepted file's pressed form.
 pub enum WalkStep {
     Accepted(usize),
-    Refused(Fault),
+    Refused(Refusal),
 }
 
 // What a check reports: the end of the last structure, and the counts.
@@ -77,35 +77,35 @@ pub struct Module {
 
 pub enum Verdict {
     Accepted(Module),
-    Refused(Fault),
+    Refused(Refusal),
 }
 
 // The refusal of a run, to be passed on.
-fn fault_of_run(step: RunStep) -> Fault
-    ensures { λ r. ⌜ r ≡ runFault step ⌝ }
+fn refusal_of_run(step: RunStep) -> Refusal
+    ensures { λ r. ⌜ r ≡ runRefusal step ⌝ }
 {
     match step {
-        RunStep::Read(_) => no_fault(),
-        RunStep::Refused(fault) => fault,
+        RunStep::Read(_) => no_refusal(),
+        RunStep::Refused(refusal) => refusal,
     }
 }
 
-fn fault_of_count(step: CountStep) -> Fault
-    ensures { λ r. ⌜ r ≡ countFault step ⌝ }
+fn refusal_of_count(step: CountStep) -> Refusal
+    ensures { λ r. ⌜ r ≡ countRefusal step ⌝ }
 {
     match step {
-        CountStep::Read(_) => no_fault(),
-        CountStep::Refused(fault) => fault,
+        CountStep::Read(_) => no_refusal(),
+        CountStep::Refused(refusal) => refusal,
     }
 }
 
 // The walk's refusal, to be passed on.
-pub fn fault_of_walk(step: WalkStep) -> Fault
-    ensures { λ r. ⌜ r ≡ walkFault step ⌝ }
+pub fn refusal_of_walk(step: WalkStep) -> Refusal
+    ensures { λ r. ⌜ r ≡ walkRefusal step ⌝ }
 {
     match step {
-        WalkStep::Accepted(_) => no_fault(),
-        WalkStep::Refused(fault) => fault,
+        WalkStep::Accepted(_) => no_refusal(),
+        WalkStep::Refused(refusal) => refusal,
     }
 }
 
@@ -131,7 +131,7 @@ fn read_patterns(
     while done < count {
         let step = read_pattern(file, place, channels);
         let PatternStep::Read(part) = step else {
-            return RunStep::Refused(fault_of_pattern(step));
+            return RunStep::Refused(refusal_of_pattern(step));
         };
         put_mark(marks, done, mark_of(part.shortest, part.same));
         place = part.next;
@@ -178,7 +178,7 @@ fn read_instruments(file: &[u8], at: usize, to: bool, count: usize) -> RunStep
     while done < count {
         let step = read_instrument(file, place);
         let InstrumentStep::Read(part) = step else {
-            return RunStep::Refused(fault_of_instrument(step));
+            return RunStep::Refused(refusal_of_instrument(step));
         };
         let form = form_of(file, place, part, to);
         place = part.next;
@@ -204,7 +204,7 @@ fn count_instruments(file: &[u8], at: usize, count: usize) -> CountStep
     while done < count {
         let step = read_instrument(file, place);
         let InstrumentStep::Read(part) = step else {
-            return CountStep::Refused(fault_of_instrument(step));
+            return CountStep::Refused(refusal_of_instrument(step));
         };
         place = part.next;
         samples += part.samples;
@@ -221,7 +221,7 @@ fn begin(file: &[u8]) -> HeaderStep
     ensures { λ r. ⌜ r ≡ headerStep (readWhole (headerFormat (kindAt (now (file .entry)))) (now (file .entry))) ⌝ }
 {
     if FILE_MOST < file.len() {
-        return HeaderStep::Refused(Fault {
+        return HeaderStep::Refused(Refusal {
             number: 2,
             place: 0,
         });
@@ -229,7 +229,7 @@ fn begin(file: &[u8]) -> HeaderStep
     read_header(file)
 }
 
-// The whole file, in one pass: its first fault, or the length of its shortest form as a stripped module or a normal one, and then with a
+// The whole file, in one pass: its first refusal, or the length of its shortest form as a stripped module or a normal one, and then with a
 // mark for each pattern.
 pub fn walk(file: &[u8], to: bool, marks: &mut [u64; 8]) -> WalkStep
     requires { ⌜ length (now marks) ≡ 8 ⌝ }
@@ -238,35 +238,35 @@ pub fn walk(file: &[u8], to: bool, marks: &mut [u64; 8]) -> WalkStep
 {
     let step = begin(file);
     let HeaderStep::Read(header) = step else {
-        return WalkStep::Refused(fault_of_header(step));
+        return WalkStep::Refused(refusal_of_header(step));
     };
     let first = read_patterns(file, header.start, header.channels, header.patterns, marks);
     let RunStep::Read(patterns) = first else {
-        return WalkStep::Refused(fault_of_run(first));
+        return WalkStep::Refused(refusal_of_run(first));
     };
     let last = read_instruments(file, patterns.next, to, header.instruments);
     let RunStep::Read(instruments) = last else {
-        return WalkStep::Refused(fault_of_run(last));
+        return WalkStep::Refused(refusal_of_run(last));
     };
     let size = least_header(to, word(file, 0, 64)) + 60;
     WalkStep::Accepted(size + patterns.pressed + instruments.pressed)
 }
 
-// The check of a file, in one pass: its first fault, or its end and counts. What only the press wants is not measured.
+// The check of a file, in one pass: its first refusal, or its end and counts. What only the press wants is not measured.
 pub fn check(file: &[u8]) -> Verdict
     ensures { λ r. ⌜ r ≡ verdictOf (checking (now (file .entry))) ⌝ }
 {
     let step = begin(file);
     let HeaderStep::Read(head) = step else {
-        return Verdict::Refused(fault_of_header(step));
+        return Verdict::Refused(refusal_of_header(step));
     };
     let first = scan_patterns(file, head.start, head.channels, head.patterns);
     let Step::Next(next) = first else {
-        return Verdict::Refused(fault_of(first));
+        return Verdict::Refused(refusal_of(first));
     };
     let last = count_instruments(file, next, head.instruments);
     let CountStep::Read(run) = last else {
-        return Verdict::Refused(fault_of_count(last));
+        return Verdict::Refused(refusal_of_count(last));
     };
     Verdict::Accepted(Module {
         end: run.next,

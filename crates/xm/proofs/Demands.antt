@@ -34,7 +34,7 @@ use Rattle.xm.proofs.Packing.{unpack-promise, pack-promise, unpacks-to-
 use Rattle.xm.proofs.Delta.{valuesFrom, values-none, values-step, decoded-most, coded-most}
 use Rattle.xm.proofs.Delta.{decoding-gave, coding-gave, coding-decoding, decoding-coding}
 use Rattle.xm.proofs.Adpcm.{chosen-at, adpcm-length, adpcm-unfit, adpcm-room, adpcm-given, adpcm-gave}
-use Rattle.xm.proofs.Fault.{FileFault, module-faults, whole-faults}
+use Rattle.xm.proofs.Refusal.{FileRefusal, module-refusals, whole-refusals}
 use Rattle.xm.proofs.Sample.{SamplesTold}
 use Rattle.xm.proofs.Module.{module-back, module-keeps, module-firm, module-tells, whole-read, whole-firm}
 use Rattle.xm.proofs.Kind.{kind-fits, kind-reads, kinds-told}
@@ -43,9 +43,9 @@ use Rattle.xm.proofs.Convert.{converts-shortest}
 use Rattle.xm.proofs.Press.{pressed-exactly, pressed-shortest, pressed-reads, pressed-ends, pressed-back, same-bytes}
 
 -- Check: its refusals, where it ends, and what it counts
-file-fault : (file : List ℕ) (r : Refusal) → Bytes file → checking file ≡ refuses r → FileFault file r
+file-refusal : (file : List ℕ) (r : Refusal) → Bytes file → checking file ≡ refuses r → FileRefusal file r
 unfolding checking
-file-fault file r b e = whole-faults (moduleFormat (kindAt file)) (module-faults (kindAt file)) file r b (refuses-refused _ _ e)
+file-refusal file r b e = whole-refusals (moduleFormat (kindAt file)) (module-refusals (kindAt file)) file r b (refuses-refused _ _ e)
 
 end-inside : (file : List ℕ) (found : Found) (end : ℕ) → Bytes file → readFile file ≡ got found end → (end ≤ length file) × (length file ≤ fileMost)
 end-inside file found end b e =
@@ -75,7 +75,7 @@ check-tells = record {
       ∙ ap {B = List ℕ} (λ (c : Content). 0 ∷ 0 ∷ f .end ∷ countsOf c) (f .same);
   refused-so = λ file r e. ap (numbers checkResults) (answer-refuses checkedAs e);
   acceptable = λ file b n.
-      accepted-gives (checking file) (λ r e. file-fault file r b e .numbered .0) n λ c e.
+      accepted-gives (checking file) (λ r e. file-refusal file r b e .numbered .0) n λ c e.
       gives-got _ (readFile file) e λ found end q d. (kindAt file, contentOf found, record { plain = b; found = found; end = end; reads = q; same = refl });
 }
 
@@ -84,16 +84,16 @@ unfolding checking
 check-loads file b =
     loader-tells CheckReport.end (checking file) (checkLoader file) refl
     (λ c e. gives-got _ (readFile file) e λ found end q d. let h = end-inside file found end b q in omega (arith, ap CheckReport.end (gives-same d)))
-    (λ r e. let f = file-fault file r b e in (f .numbered .0, omega (arith, f .small)))
+    (λ r e. let f = file-refusal file r b e in (f .numbered .0, omega (arith, f .small)))
 
 -- A refusal with a place that a loader's number has room for: a file's own, and with it those of the calls
-record OwnFault (r : Refusal) : Type 0 where
+record OwnRefusal (r : Refusal) : Type 0 where
   sound : SoundRefusal r
   small : r .place ≤ fileMost
 
-own-sound : (file : List ℕ) (r : Refusal) → Bytes file → readFile file ≡ refused r → OwnFault r
+own-sound : (file : List ℕ) (r : Refusal) → Bytes file → readFile file ≡ refused r → OwnRefusal r
 own-sound file r b e =
-    let f = whole-faults (moduleFormat (kindAt file)) (module-faults (kindAt file)) file r b e in
+    let f = whole-refusals (moduleFormat (kindAt file)) (module-refusals (kindAt file)) file r b e in
     record { sound = read-sound (f .numbered); small = f .small }
 
 -- The tables: what is filled is no longer than what was lent
@@ -129,11 +129,11 @@ room-held room file c e =
     gives-bound _ (readFile file) _ e λ found end er e. gives-passed _ _ _ e λ hs e.
     subst (λ (c : CheckReport). AllHold (roomTests room (c .found))) (gives-same e) hs
 
-into-fault : (room : Room) (file : List ℕ) (r : Refusal) → Bytes file → checkingInto room file ≡ refuses r → OwnFault r
+into-refusal : (room : Room) (file : List ℕ) (r : Refusal) → Bytes file → checkingInto room file ≡ refuses r → OwnRefusal r
 unfolding checkingInto
-into-fault room file r b e =
+into-refusal room file r b e =
     refused-bind (readFile file) _ (refuses-refused _ _ e) (own-sound file r b)
-    λ found end er e. refused-tests OwnFault _ _ e (omega arith) λ hs e. absurd (got-never e)
+    λ found end er e. refused-tests OwnRefusal _ _ e (omega arith) λ hs e. absurd (got-never e)
 
 into-end : (room : Room) (file : List ℕ) (c : CheckReport) → Bytes file → checkingInto room file ≡ gives c → c .end ≤ fileMost
 unfolding checkingInto
@@ -144,15 +144,15 @@ into-end room file c b e =
 into-loads : (room : Room) (file : List ℕ) → Bytes file → LoaderTells CheckReport.end (checkingInto room file) (checkIntoLoader room file)
 into-loads room file b =
     loader-tells CheckReport.end (checkingInto room file) (checkIntoLoader room file) refl (λ c e. omega (arith, into-end room file c b e))
-    (λ r e. let f = into-fault room file r b e in (f .sound .numbered .0, omega (arith, f .small)))
+    (λ r e. let f = into-refusal room file r b e in (f .sound .numbered .0, omega (arith, f .small)))
 
 tables-kept : (file : List ℕ) (lent : Tables) → Bytes file → TablesKept file lent
 unfolding tablesAfter
 tables-kept file lent b =
     let l = lengths (checkingInto (roomOf lent) file) lent (room-held (roomOf lent) file) in
     record {
-      numbered = λ r e. into-fault (roomOf lent) file r b e .sound .numbered;
-      placed = λ r e. into-fault (roomOf lent) file r b e .sound .placed;
+      numbered = λ r e. into-refusal (roomOf lent) file r b e .sound .numbered;
+      placed = λ r e. into-refusal (roomOf lent) file r b e .sound .placed;
       unchanged = λ r e. ap (λ (a : Answer CheckReport). tablesAfter a lent) e;
       patterns = l .patterns;
       instruments = l .instruments;
@@ -162,37 +162,37 @@ tables-kept file lent b =
 
 -- Delta coding
 module _ (width : ℕ) (bytes : List ℕ) where
-  decode-fault : (room : ℕ) (r : Refusal) → decoding width bytes room ≡ refuses r → OwnFault r
+  decode-refusal : (room : ℕ) (r : Refusal) → decoding width bytes room ≡ refuses r → OwnRefusal r
   unfolding decoding
-  decode-fault room r e = refused-tests OwnFault _ _ (refuses-refused _ _ e) (omega arith) λ hs e. absurd (got-never e)
+  decode-refusal room r e = refused-tests OwnRefusal _ _ (refuses-refused _ _ e) (omega arith) λ hs e. absurd (got-never e)
 
   decode-fits : (room : ℕ) (values : List ℤ) → decoding width bytes room ≡ gives values → (length values ≤ room) × (length values ≤ 2 * length bytes)
   decode-fits room values e = decoding-gave width bytes room e λ h p l q. (omega (arith, ap length q), omega (arith, ap length q, decoded-most width h bytes))
 
   decode-promise : KeepsPromise (λ (values : List ℤ). values) (decoding width bytes)
-  decode-promise = promise-kept _ (decoding width bytes) (λ room r e. decode-fault room r e .sound) (λ room values e. decode-fits room values e .0)
+  decode-promise = promise-kept _ (decoding width bytes) (λ room r e. decode-refusal room r e .sound) (λ room values e. decode-fits room values e .0)
 
 module _ (width : ℕ) (values : List ℤ) where
-  code-fault : (room : ℕ) (r : Refusal) → coding width values room ≡ refuses r → OwnFault r
+  code-refusal : (room : ℕ) (r : Refusal) → coding width values room ≡ refuses r → OwnRefusal r
   unfolding coding
-  code-fault room r e = refused-tests OwnFault _ _ (refuses-refused _ _ e) (omega arith) λ hs e. absurd (got-never e)
+  code-refusal room r e = refused-tests OwnRefusal _ _ (refuses-refused _ _ e) (omega arith) λ hs e. absurd (got-never e)
 
   code-fits : (room : ℕ) (bytes : List ℕ) → coding width values room ≡ gives bytes → (length bytes ≤ room) × (length bytes ≤ 2 * length values)
   code-fits room bytes e = coding-gave width values room e λ h p l q. (omega (arith, ap length q), omega (arith, ap length q, coded-most width h values))
 
   code-promise : KeepsPromise (λ (bytes : List ℕ). bytes) (coding width values)
-  code-promise = promise-kept _ (coding width values) (λ room r e. code-fault room r e .sound) (λ room bytes e. code-fits room bytes e .0)
+  code-promise = promise-kept _ (coding width values) (λ room r e. code-refusal room r e .sound) (λ room bytes e. code-fits room bytes e .0)
 
 module _ (count : ℕ) (bytes : List ℕ) where
-  adpcm-fault : (room : ℕ) (r : Refusal) → adpcmDecoding count bytes room ≡ refuses r → OwnFault r
+  adpcm-refusal : (room : ℕ) (r : Refusal) → adpcmDecoding count bytes room ≡ refuses r → OwnRefusal r
   unfolding adpcmDecoding
-  adpcm-fault room r e = refused-tests OwnFault _ _ (refuses-refused _ _ e) (omega arith) λ hs e. absurd (got-never e)
+  adpcm-refusal room r e = refused-tests OwnRefusal _ _ (refuses-refused _ _ e) (omega arith) λ hs e. absurd (got-never e)
 
   adpcm-fits : (room : ℕ) (values : List ℤ) → adpcmDecoding count bytes room ≡ gives values → (length values ≤ room) × (length values ≤ 2 * count)
   adpcm-fits room values e = adpcm-gave count bytes room e λ fit l q. (omega (arith, ap length q), omega (arith, ap length q, adpcm-length count bytes fit))
 
   adpcm-promise : KeepsPromise (λ (values : List ℤ). values) (adpcmDecoding count bytes)
-  adpcm-promise = promise-kept _ (adpcmDecoding count bytes) (λ room r e. adpcm-fault room r e .sound) (λ room values e. adpcm-fits room values e .0)
+  adpcm-promise = promise-kept _ (adpcmDecoding count bytes) (λ room r e. adpcm-refusal room r e .sound) (λ room values e. adpcm-fits room values e .0)
 
 -- and with the loader's limit, of any call that writes at most two for each that is counted
 limited : {A : Type 0} (most count : ℕ) (own : Answer A) → Limited most count own (behind (limitTest most count) own)
@@ -202,14 +202,14 @@ limited most count own = record {
 }
 
 module _ {B : Type 0} (most : ℕ) (small : 2 * most < 2 ^ 32) (count : ℕ) (own : ℕ → Answer (List B))
-    (fault : (room : ℕ) (r : Refusal) → own room ≡ refuses r → OwnFault r)
+    (refusal : (room : ℕ) (r : Refusal) → own room ≡ refuses r → OwnRefusal r)
     (fits : (room : ℕ) (xs : List B) → own room ≡ gives xs → (length xs ≤ room) × (length xs ≤ 2 * count)) where
-  limited-fault : (room : ℕ) (r : Refusal) → behind (limitTest most count) (own room) ≡ refuses r → OwnFault r
-  limited-fault room r e = behind-refused (limitTest most count) (own room) e (λ same. subst OwnFault same (omega arith)) (fault room r)
+  limited-refusal : (room : ℕ) (r : Refusal) → behind (limitTest most count) (own room) ≡ refuses r → OwnRefusal r
+  limited-refusal room r e = behind-refused (limitTest most count) (own room) e (λ same. subst OwnRefusal same (omega arith)) (refusal room r)
 
   limited-promise : KeepsPromise (λ (xs : List B). xs) (λ room. behind (limitTest most count) (own room))
   limited-promise =
-      promise-kept _ (λ room. behind (limitTest most count) (own room)) (λ room r e. limited-fault room r e .sound)
+      promise-kept _ (λ room. behind (limitTest most count) (own room)) (λ room r e. limited-refusal room r e .sound)
       (λ room xs e. behind-gave (limitTest most count) (own room) e λ l e. fits room xs e .0)
 
   limited-loads : (room : ℕ)
@@ -219,7 +219,7 @@ module _ {B : Type 0} (most : ℕ) (small : 2 * most < 2 ^ 32) (count : ℕ) (ow
       let answer = behind (limitTest most count) (own room) in
       loader-tells length answer (loaderNumber countWritten answer) refl
       (λ xs e. behind-gave (limitTest most count) (own room) e λ l e. omega (arith, l, fits room xs e .1))
-      (λ r e. let f = limited-fault room r e in (f .sound .numbered .0, omega (arith, f .small)))
+      (λ r e. let f = limited-refusal room r e in (f .sound .numbered .0, omega (arith, f .small)))
 
 running-sums : (width before : ℕ) (stored : List ℕ) → RunningSums width before stored (valuesFrom width before stored)
 running-sums width before [] = ends
@@ -246,11 +246,11 @@ adpcm-tells count bytes room = record {
 }
 
 -- Pressing, of any file, and conversion
-press-fault : (file : List ℕ) (room : ℕ) (r : Refusal) → Bytes file → pressing file room ≡ refuses r → OwnFault r
+press-refusal : (file : List ℕ) (room : ℕ) (r : Refusal) → Bytes file → pressing file room ≡ refuses r → OwnRefusal r
 unfolding pressingAs
-press-fault file room r b e =
+press-refusal file room r b e =
     refused-bind (readFile file) _ (refuses-refused _ _ e) (own-sound file r b)
-    λ found end er e. refused-tests OwnFault _ _ e (omega arith) λ hs e. absurd (got-never e)
+    λ found end er e. refused-tests OwnRefusal _ _ e (omega arith) λ hs e. absurd (got-never e)
 
 press-file : (file : List ℕ) (room : ℕ) (bytes : List ℕ) → Bytes file → pressing file room ≡ gives bytes → (length bytes ≤ room) × (length bytes ≤ fileMost)
 unfolding pressingAs
@@ -264,18 +264,18 @@ press-file file room bytes b e =
     (omega (arith, hs .0), omega arith)
 
 press-promise : (file : List ℕ) → Bytes file → KeepsPromise (λ (bytes : List ℕ). bytes) (pressing file)
-press-promise file b = promise-kept _ (pressing file) (λ room r e. press-fault file room r b e .sound) (λ room bytes e. press-file file room bytes b e .0)
+press-promise file b = promise-kept _ (pressing file) (λ room r e. press-refusal file room r b e .sound) (λ room bytes e. press-file file room bytes b e .0)
 
 press-loads : (file : List ℕ) (room : ℕ) → Bytes file → LoaderTells length (pressing file room) (pressLoader file room)
 press-loads file room b =
     loader-tells length (pressing file room) (pressLoader file room) refl (λ bytes e. omega (arith, press-file file room bytes b e .1))
-    (λ r e. let f = press-fault file room r b e in (f .sound .numbered .0, omega (arith, f .small)))
+    (λ r e. let f = press-refusal file room r b e in (f .sound .numbered .0, omega (arith, f .small)))
 
-convert-fault : (to : ModuleKind) (file : List ℕ) (room : ℕ) (r : Refusal) → Bytes file → converting to file room ≡ refuses r → OwnFault r
+convert-refusal : (to : ModuleKind) (file : List ℕ) (room : ℕ) (r : Refusal) → Bytes file → converting to file room ≡ refuses r → OwnRefusal r
 unfolding converting
-convert-fault to file room r b e =
+convert-refusal to file room r b e =
     refused-bind (readFile file) _ (refuses-refused _ _ e) (own-sound file r b)
-    λ found end er e. refused-tests OwnFault _ _ e (omega arith) λ hs e. absurd (got-never e)
+    λ found end er e. refused-tests OwnRefusal _ _ e (omega arith) λ hs e. absurd (got-never e)
 
 convert-file : (to : ModuleKind) (file : List ℕ) (room : ℕ) (bytes : List ℕ) → converting to file room ≡ gives bytes
     → (length bytes ≤ room) × (length bytes ≤ fileMost)
@@ -286,28 +286,28 @@ convert-file to file room bytes e =
 
 convert-promise : (to : ModuleKind) (file : List ℕ) → Bytes file → KeepsPromise (λ (bytes : List ℕ). bytes) (converting to file)
 convert-promise to file b =
-    promise-kept _ (converting to file) (λ room r e. convert-fault to file room r b e .sound)
+    promise-kept _ (converting to file) (λ room r e. convert-refusal to file room r b e .sound)
     (λ room bytes e. convert-file to file room bytes e .0)
 
 convert-loads : (to : ModuleKind) (file : List ℕ) (room : ℕ) → Bytes file → LoaderTells length (converting to file room) (convertLoader to file room)
 convert-loads to file room b =
     loader-tells length (converting to file room) (convertLoader to file room) refl (λ bytes e. omega (arith, convert-file to file room bytes e .1))
-    (λ r e. let f = convert-fault to file room r b e in (f .sound .numbered .0, omega (arith, f .small)))
+    (λ r e. let f = convert-refusal to file room r b e in (f .sound .numbered .0, omega (arith, f .small)))
 
 -- The demands
 pub demand₁ : Demand₁
 demand₁ = record {
-  check = λ file r b e. let f = file-fault file r b e in (f .numbered, f .place);
+  check = λ file r b e. let f = file-refusal file r b e in (f .numbered, f .place);
   tables = tables-kept;
   unpack = unpack-promise;
   pack = pack-promise;
   decode = decode-promise;
   code = code-promise;
   decode-limited = λ width bytes.
-      limited-promise deltaMost (omega arith) (length bytes) (decoding width bytes) (decode-fault width bytes) (decode-fits width bytes);
-  code-limited = λ width values. limited-promise deltaMost (omega arith) (length values) (coding width values) (code-fault width values) (code-fits width values);
+      limited-promise deltaMost (omega arith) (length bytes) (decoding width bytes) (decode-refusal width bytes) (decode-fits width bytes);
+  code-limited = λ width values. limited-promise deltaMost (omega arith) (length values) (coding width values) (code-refusal width values) (code-fits width values);
   adpcm = adpcm-promise;
-  adpcm-limited = λ count bytes. limited-promise adpcmMost (omega arith) count (adpcmDecoding count bytes) (adpcm-fault count bytes) (adpcm-fits count bytes);
+  adpcm-limited = λ count bytes. limited-promise adpcmMost (omega arith) count (adpcmDecoding count bytes) (adpcm-refusal count bytes) (adpcm-fits count bytes);
   press = press-promise;
   convert = convert-promise;
 }
@@ -325,7 +325,7 @@ demand₂ = record {
   press = λ kind. pressed-back (moduleFormat kind) (module-back kind) (module-keeps kind);
   convert = λ kind to content file out f n.
       let answer = converting to file (length out) in
-      accepted-gives answer (λ r e. convert-fault to file (length out) r (f .plain) e .sound .numbered .0) n λ bytes e.
+      accepted-gives answer (λ r e. convert-refusal to file (length out) r (f .plain) e .sound .numbered .0) n λ bytes e.
       let d = demand₃ .conversions kind to content file (length out) f in
       let same = gives-same (sym (d .given-else (λ q. gives-refuses e q) (λ q. gives-refuses e q)) ∙ e) in
       let stands = reported-written pressedLength (λ bytes. bytes) answer out bytes e (omega arith) in
@@ -413,10 +413,10 @@ loaders-tell = record {
   press = press-loads;
   convert = convert-loads;
   tables = into-loads;
-  decode = λ width bytes. limited-loads deltaMost (omega arith) (length bytes) (decoding width bytes) (decode-fault width bytes) (decode-fits width bytes);
+  decode = λ width bytes. limited-loads deltaMost (omega arith) (length bytes) (decoding width bytes) (decode-refusal width bytes) (decode-fits width bytes);
   decode-limited = λ width bytes room. limited deltaMost (length bytes) (decoding width bytes room);
-  code = λ width values. limited-loads deltaMost (omega arith) (length values) (coding width values) (code-fault width values) (code-fits width values);
+  code = λ width values. limited-loads deltaMost (omega arith) (length values) (coding width values) (code-refusal width values) (code-fits width values);
   code-limited = λ width values room. limited deltaMost (length values) (coding width values room);
-  adpcm = λ count bytes. limited-loads adpcmMost (omega arith) count (adpcmDecoding count bytes) (adpcm-fault count bytes) (adpcm-fits count bytes);
+  adpcm = λ count bytes. limited-loads adpcmMost (omega arith) count (adpcmDecoding count bytes) (adpcm-refusal count bytes) (adpcm-fits count bytes);
   adpcm-limited = λ count bytes room. limited adpcmMost count (adpcmDecoding count bytes room);
 }

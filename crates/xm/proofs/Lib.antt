@@ -22,7 +22,7 @@ pub mod Instrument
 pub mod Stripped
 pub mod Module
 pub mod Kind
-pub mod Fault
+pub mod Refusal
 pub mod Never
 pub mod Press
 pub mod Convert

@@ -25,7 +25,7 @@ use Rattle.xm.proofs.Stored.{pattern-path, Fives, Full, flat-length, ce
 use Rattle.xm.proofs.Stored.{good-fives, empty-flat, rows-good, rows-none, none-rows, write-none, write-cells, product-some}
 use Rattle.xm.proofs.Stored.{stored-none, stored-plain, stored-back, StoredKept, stored-keeps, stored-rows, stored-most, stored-full}
 use Rattle.xm.proofs.Run.{cells-least}
-use Rattle.xm.proofs.Fault.{fault-numbered, stored-faults}
+use Rattle.xm.proofs.Refusal.{refusal-numbered, stored-refusals}
 use Rattle.xm.proofs.Answer.{answer-gives, answer-refuses, gives-passed, gives-bound, gives-same, refuses-refused, gives-refuses, tests-fail}
 use Rattle.xm.proofs.Answer.{refused-passed, SoundRefusal, read-sound, promise-kept, loader-tells, accepted-gives, reported-written}
 
@@ -390,36 +390,36 @@ empty-patterns = record {
 }
 
 -- Refusals have the paper's numbers, and places within the longest data
-pub record CallFault (r : Refusal) : Type 0 where
+pub record CallRefusal (r : Refusal) : Type 0 where
   pub sound : SoundRefusal r
   pub place : r .place ≤ dataMost
 
-pub unpack-faults : (rows channels : ℕ) (stored : List ℕ) (room : ℕ) (r : Refusal) → Bytes stored → unpacking rows channels stored room ≡ refuses r
-    → CallFault r
+pub unpack-refusals : (rows channels : ℕ) (stored : List ℕ) (room : ℕ) (r : Refusal) → Bytes stored → unpacking rows channels stored room ≡ refuses r
+    → CallRefusal r
 unfolding unpacking
-unpack-faults rows channels stored room r b e =
-    refused-tests CallFault _ _ (refuses-refused _ _ e) (omega arith) λ range e.
+unpack-refusals rows channels stored room r b e =
+    refused-tests CallRefusal _ _ (refuses-refused _ _ e) (omega arith) λ range e.
     refused-bind _ _ e
-    (λ e. let f = stored-faults channels rows 0 stored r b e in record { sound = read-sound (fault-numbered f); place = omega (arith, f .to, range .1 .1 .0) })
-    (λ p n ep e. refused-tests CallFault _ _ e (omega arith) λ h e. absurd (not-both (sym e)))
+    (λ e. let f = stored-refusals channels rows 0 stored r b e in record { sound = read-sound (refusal-numbered f); place = omega (arith, f .to, range .1 .1 .0) })
+    (λ p n ep e. refused-tests CallRefusal _ _ e (omega arith) λ h e. absurd (not-both (sym e)))
 
-pub pack-faults : (rows channels : ℕ) (cells : List ℕ) (room : ℕ) (r : Refusal) → packing rows channels cells room ≡ refuses r → CallFault r
+pub pack-refusals : (rows channels : ℕ) (cells : List ℕ) (room : ℕ) (r : Refusal) → packing rows channels cells room ≡ refuses r → CallRefusal r
 unfolding packing
-pack-faults rows channels cells room r e =
-    refused-tests CallFault _ _ (refuses-refused _ _ e) (omega arith) λ range e.
-    refused-tests CallFault _ _ e (omega arith) λ h e. absurd (not-both (sym e))
+pack-refusals rows channels cells room r e =
+    refused-tests CallRefusal _ _ (refuses-refused _ _ e) (omega arith) λ range e.
+    refused-tests CallRefusal _ _ e (omega arith) λ h e. absurd (not-both (sym e))
 
 -- Demand 1 for both calls, and their loader's numbers
 pub unpack-promise : (rows channels : ℕ) (stored : List ℕ) → Bytes stored → KeepsPromise cellBytes (unpacking rows channels stored)
 unpack-promise rows channels stored b =
     promise-kept cellBytes (unpacking rows channels stored)
-    (λ room r e. unpack-faults rows channels stored room r b e .sound)
+    (λ room r e. unpack-refusals rows channels stored room r b e .sound)
     (λ room p e. unpack-given rows channels stored room p e .fits)
 
 pub pack-promise : (rows channels : ℕ) (cells : List ℕ) → KeepsPromise writeStored (packing rows channels cells)
 pack-promise rows channels cells =
     promise-kept writeStored (packing rows channels cells)
-    (λ room r e. pack-faults rows channels cells room r e .sound)
+    (λ room r e. pack-refusals rows channels cells room r e .sound)
     (λ room p e. pack-given rows channels cells room p e .fits)
 
 pub unpack-tells : (rows channels : ℕ) (stored : List ℕ) (room : ℕ) → Bytes stored
@@ -427,7 +427,7 @@ pub unpack-tells : (rows channels : ℕ) (stored : List ℕ) (room : ℕ) → By
 unpack-tells rows channels stored room b =
     loader-tells Pattern.rows (unpacking rows channels stored room) (unpackLoader rows channels stored room) refl
     (λ p e. omega (arith, unpack-kept rows channels stored room p b e .good .high))
-    (λ r e. let f = unpack-faults rows channels stored room r b e in (f .sound .numbered .0, omega arith))
+    (λ r e. let f = unpack-refusals rows channels stored room r b e in (f .sound .numbered .0, omega arith))
 
 -- the length and the rows in one number
 record Small (p : Pattern) : Type 0 where
@@ -444,7 +444,7 @@ pub pack-tells : (rows channels : ℕ) (cells : List ℕ) (room : ℕ)
 pack-tells rows channels cells room =
     loader-tells (λ (p : Pattern). length (writeStored p) + 65536 * p .rows) (packing rows channels cells room) (packLoader rows channels cells room) refl
     (λ p e. let s = given-small rows channels cells room p e in omega (arith, s .length-small, s .rows-small))
-    (λ r e. let f = pack-faults rows channels cells room r e in (f .sound .numbered .0, omega arith))
+    (λ r e. let f = pack-refusals rows channels cells room r e in (f .sound .numbered .0, omega arith))
 
 pub pack-apart : (rows channels : ℕ) (cells : List ℕ) (room : ℕ) (p : Pattern) → packing rows channels cells room ≡ gives p
     → (packLoader rows channels cells room % 65536 ≡ length (writeStored p)) × (packLoader rows channels cells room / 65536 ≡ p .rows)
@@ -459,7 +459,7 @@ pub unpacks-to-cells : (rows channels : ℕ) (cells out lent : List ℕ) → Byt
     → let reported = packNumbers rows channels cells (length out) in
     accepts reported → length cells ≤ length lent → UnpacksToCells rows channels cells lent reported (packAfter rows channels cells out)
 unpacks-to-cells rows channels cells out lent b accepted h =
-    accepted-gives (packing rows channels cells (length out)) (λ r e. pack-faults rows channels cells (length out) r e .sound .numbered .0) accepted λ p e.
+    accepted-gives (packing rows channels cells (length out)) (λ r e. pack-refusals rows channels cells (length out) r e .sound .numbered .0) accepted λ p e.
     let back : unpacking rows channels (writeStored p) (length lent) ≡ gives p = packed-back rows channels cells (length out) (length lent) p b e h in
     let same : rows ≡ p .rows = ap Pattern.rows (pack-given rows channels cells (length out) p e .same) in
     let read : rowsRead p ≡ rows = omega arith in

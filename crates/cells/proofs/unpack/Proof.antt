@@ -57,8 +57,8 @@ enum-told c = search needs
 enum-told-2 : tie.Need-enum-told-2
 enum-told-2 c = search needs
 
-fault-of-requires : tie.Need-fault-of-requires
-fault-of-requires c κs = search needs
+refusal-of-requires : tie.Need-refusal-of-requires
+refusal-of-requires c κs = search needs
 
 returns-3 : tie.Need-returns-3
 returns-3 c =
@@ -68,7 +68,7 @@ returns-3 c =
     let lent = now (a .cells) in
     answers-refusal (a .rows) (a .channels) d lent
     (unpack-cells (a .rows) (a .channels) d (length lent) (range c₄)
-    (place-refused 0 _ (c .before .before .before .scan-stored .ensures) (c .before .enum-told2 .given .1) (c .fault-of .ensures))) refl
+    (place-refused 0 _ (c .before .before .before .scan-stored .ensures) (c .before .enum-told2 .given .1) (c .refusal-of .ensures))) refl
 
 mul-count : tie.Need-mul-count
 mul-count c = let h = range (c .before .before .before) in omega (arith, mul-le-mul (h .0 .1) (h .1 .0 .1))
@@ -139,7 +139,7 @@ unpack-spec =
     scan-stored-requires
     enum-told
     enum-told-2
-    fault-of-requires
+    refusal-of-requires
     returns-3
     mul-count
     mul-if3

@@ -17,7 +17,7 @@ slice-aggregate-put-line-2 c = search needs
 
 put-line-requires : tie.Need-put-line-requires
 put-line-requires c κs =
-    let f = c .before .before .before .before .args .fault in
+    let f = c .before .before .before .before .args .refusal in
     omega (arith, numbered-few (f .number ∷ f .place ∷ []) (omega arith, (omega arith, tt)))
 
 returns : tie.Need-returns

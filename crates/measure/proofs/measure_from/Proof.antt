@@ -43,14 +43,14 @@ enum-known-step c = search needs
 enum-told : tie.Need-enum-told Inv-loop μ-loop
 enum-told c = search needs
 
-fault-of-requires : tie.Need-fault-of-requires Inv-loop μ-loop
-fault-of-requires c κs = search needs
+refusal-of-requires : tie.Need-refusal-of-requires Inv-loop μ-loop
+refusal-of-requires c κs = search needs
 
 returns : tie.Need-returns Inv-loop μ-loop
 returns c =
     let d = c .before .before .before in
     measuring-stop (d .before .before .loop .inv) (omega arith)
-    (place-refused _ _ (d .try-cell .ensures) (c .before .enum-told .given .1) (c .fault-of .ensures))
+    (place-refused _ _ (d .try-cell .ensures) (c .before .enum-told .given .1) (c .refusal-of .ensures))
 
 take-cell-requires : tie.Need-take-cell-requires Inv-loop μ-loop
 take-cell-requires c κs = seen c .fits
@@ -110,7 +110,7 @@ measure-from-spec =
     try-cell-requires
     enum-known-step
     enum-told
-    fault-of-requires
+    refusal-of-requires
     returns
     take-cell-requires
     kept-count-requires

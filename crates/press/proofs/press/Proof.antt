@@ -51,7 +51,7 @@ press-spec =
     (search needs)
     (search needs)
     (search needs)
-    (λ c. press-refused _ _ _ (c .before .before .before .walk .ensures .0) (c .before .enum-told .given .1) (c .fault-of-walk .ensures))
+    (λ c. press-refused _ _ _ (c .before .before .before .walk .ensures .0) (c .before .enum-told .given .1) (c .refusal-of-walk .ensures))
     returns-2
     write-module-requires
     (search needs)

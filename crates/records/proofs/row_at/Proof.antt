@@ -43,9 +43,9 @@ use denote.Triple.Table.{entered}
 use denote.Triple.Walked.{says, Stays, stay-none, stay-none-slice, walkOf, goes-none, goes-none-slice, Walks, ends-at, walked, walk-meets}
 use denote.Exit.{yes}
 use Rattle.xm.specs.Got.{_at_}
-use Rattle.refusal.specs.Fault.{faultOf}
-use Rattle.refusal.proofs.Fault as F
-use Rattle.refusal.proofs.Fault.Laws as F′
+use Rattle.refusal.specs.Refusal.{codeRefusal}
+use Rattle.refusal.proofs.Refusal as F
+use Rattle.refusal.proofs.Refusal.Laws as F′
 use Rattle.tables.specs.declared.sample.SampleRow.{SampleRow}
 use Rattle.tables.proofs.sample.SampleRow as T
 use Rattle.tables.proofs.sample.SampleRow.Laws as T′
@@ -162,13 +162,13 @@ module _ {M : Type 1} (𝓤 : URA M) (H : Heap 𝓤) (A : Atoms 𝓤) (W : Given
         exec ! C Λ En M′.t-4 (atRet En Post) $ tail (asked.Row (getD ys i noRecord)) (row-lent ys i within) made)))
         (λ failed.
         let beyond : length ys ≤ i = omega (arith, nltb→le) in
-        let made = EL.owes N.the-type N′.the-laws (asked.Refused (faultOf (16 at 0)))
-        (LL.owes F.the-type F′.the-laws (faultOf (16 at 0)) ((refl, lit< tt), ((refl, lit< tt), tt)), tt) in
+        let made = EL.owes N.the-type N′.the-laws (asked.Refused (codeRefusal (16 at 0)))
+        (LL.owes F.the-type F′.the-laws (codeRefusal (16 at 0)) ((refl, lit< tt), ((refl, lit< tt), tt)), tt) in
         assigns ! (agg ! (and-then ! (lit ! tt) (and-then ! (lit ! tt) (no-more !)))) (from ! (stop !))
         (init ! 0 refl (tt, (record { fits = lit< tt }, (record { fits = lit< tt }, tt)))) $
         assigns-last ! (agg ! (and-then ! (lit ! tt) (and-then ! (load ! (from ! (stop !)) (look ! 0 refl)) (no-more !)))) (from ! (stop !))
-        (init ! 8 refl (typed (asked.Refused (faultOf (16 at 0))) made)) $
-        forget ! 0 refl $ forget ! 10 refl $ exec ! C Λ En M′.t-4 (atRet En Post) $ tail (asked.Refused (faultOf (16 at 0))) (row-beyond ys i beyond) made)
+        (init ! 8 refl (typed (asked.Refused (codeRefusal (16 at 0))) made)) $
+        forget ! 0 refl $ forget ! 10 refl $ exec ! C Λ En M′.t-4 (atRet En Post) $ tail (asked.Refused (codeRefusal (16 at 0))) (row-beyond ys i beyond) made)
 
   module _ (C : Calls 𝓤 H) (Λ : Loops 𝓤 H) where
     walk : ent 𝓤 (onEntry 𝓤 H A f.signature (κ, tt) (q, tt) (x, (i, tt)) vals) (WpFn 𝓤 H C Λ code.function (s ∷ vint w64 i ∷ []) Post)

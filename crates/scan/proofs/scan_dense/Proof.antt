@@ -4,7 +4,7 @@ use native.Mathlib.Omega.{arith}
 use borrow.Author.Tests.{ltb-true}
 use lib.ListN.{length}
 use Rattle.xm.specs.Stored.{readRun}
-use Rattle.refusal.specs.Fault.{placeStep}
+use Rattle.refusal.specs.Refusal.{placeStep}
 use Rattle.ahead.specs.Ahead.{blockSize}
 use Rattle.scan.proofs.BlockLaws.{Scanning, scanning-block, block-less}
 use borrow.Author.Needs.{needs}

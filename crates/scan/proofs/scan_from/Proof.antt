@@ -3,7 +3,7 @@ use mathlib.Core.Path.{refl}
 use native.Mathlib.Omega.{arith}
 use lib.ListN.{drop}
 use Rattle.xm.specs.Stored.{readRun}
-use Rattle.refusal.specs.Fault.{placeStep}
+use Rattle.refusal.specs.Refusal.{placeStep}
 use Rattle.scan.proofs.BlockLaws.{Scanning, scanning-next, scanning-stop, scanning-done}
 use borrow.Author.Needs.{needs}
 use Rattle.scan.proofs.scan_from.Statement.{statement}

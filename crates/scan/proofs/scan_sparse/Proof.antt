@@ -7,7 +7,7 @@ use borrow.Author.Tests.{leb-true}
 use lib.ListN.{length}
 use denote.Ref.{now}
 use Rattle.xm.specs.Stored.{readRun}
-use Rattle.refusal.specs.Fault.{placeStep}
+use Rattle.refusal.specs.Refusal.{placeStep}
 use Rattle.ahead.specs.Ahead.{EightRead}
 use Rattle.scan.proofs.BlockLaws.{Scanning, scanning-turn}
 use borrow.Author.Needs.{needs}

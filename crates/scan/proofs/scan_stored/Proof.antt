@@ -3,7 +3,7 @@ use mathlib.Core.Path.{sym, ap}
 use native.Mathlib.Omega.{arith}
 use denote.Ref.{now}
 use Rattle.xm.proofs.Stored.{stored-none}
-use Rattle.refusal.specs.Fault.{placeStep}
+use Rattle.refusal.specs.Refusal.{placeStep}
 use Rattle.cell.proofs.ReadRuns.{count-most}
 use Rattle.scan.proofs.BlockLaws.{scan-refused, scan-left, scan-whole}
 use borrow.Author.Needs.{needs}

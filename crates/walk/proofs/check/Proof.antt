@@ -34,7 +34,7 @@ tried u = patterns-tried _ (headed (u .before .before .before .before)) (sym (u 
 returns-2 : tie.Need-returns-2
 returns-2 c =
     check-refuses _ (patterns-out _ (headed (c .before .before .before .before))
-    (place-refused _ _ (c .before .before .before .scan-patterns .ensures) (c .before .enum-told2 .given .1) (c .fault-of .ensures)))
+    (place-refused _ _ (c .before .before .before .scan-patterns .ensures) (c .before .enum-told2 .given .1) (c .refusal-of .ensures)))
 
 count-instruments-requires : tie.Need-count-instruments-requires
 count-instruments-requires c κs =
@@ -45,7 +45,7 @@ returns-3 : tie.Need-returns-3
 returns-3 c =
     let u = c .before .before .before .before in
     check-refuses _ (instruments-out _ (headed (u .before .before .before .before)) (tried u)
-    (count-refused _ _ (c .before .before .before .count-instruments .ensures) (c .before .enum-told3 .given .1) (c .fault-of-count .ensures)))
+    (count-refused _ _ (c .before .before .before .count-instruments .ensures) (c .before .enum-told3 .given .1) (c .refusal-of-count .ensures)))
 
 returns-4 : tie.Need-returns-4
 returns-4 c =
@@ -63,7 +63,7 @@ check-spec =
     (search needs)
     (search needs)
     (λ c. check-refuses _
-    (header-out _ (header-refused _ (c .before .before .before .begin .ensures) (c .before .enum-told .given .1) (c .fault-of-header .ensures))))
+    (header-out _ (header-refused _ (c .before .before .before .begin .ensures) (c .before .enum-told .given .1) (c .refusal-of-header .ensures))))
     (λ c κs. let t = header-given c in (t .start, (t .small, (t .low, t .high))))
     (search needs)
     (search needs)

@@ -35,7 +35,7 @@ returns c =
     let l = c₄ .before in (
       sym (ap (instrumentsStep _ _)
           (instruments-out _ _ _ (l .loop .inv .reached) (c₄ .loop-test .taken) (c .before .before .before .read-instrument .ensures)
-          (c .before .enum-told .given .1) (c .fault-of-instrument .ensures))),
+          (c .before .enum-told .given .1) (c .refusal-of-instrument .ensures))),
       omega arith,
     )
 

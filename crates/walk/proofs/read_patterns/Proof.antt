@@ -44,7 +44,7 @@ returns c =
     let c₄ = c .before .before .before .before in
     let l = c₄ .before .loop in
     patterns-out _ _ _ _ (l .inv .1) (c₄ .loop-test .taken) (c .before .before .before .read-pattern .ensures) (c .before .enum-told .given .1)
-    (c .fault-of-pattern .ensures)
+    (c .refusal-of-pattern .ensures)
 
 loop-again : tie.Need-loop-again Inv-loop μ-loop
 loop-again c = (c .before .put-mark .ensures .size ∙ c .before .before .before .before .before .before .before .before .before .loop .inv .0, measured-more (c .before))

@@ -45,13 +45,13 @@ returns-2 : tie.Need-returns-2
 returns-2 c =
     let c₅ = c .before .before .before .before .before in
     walk-refuses _ _ _ (patterns-out _ (headed c₅)
-    (run-refused _ _ _ (c .before .before .before .read-patterns .ensures .0) (c .before .enum-told2 .given .1) (c .fault-of-run .ensures)))
+    (run-refused _ _ _ (c .before .before .before .read-patterns .ensures .0) (c .before .enum-told2 .given .1) (c .refusal-of-run .ensures)))
 
 returns-3 : tie.Need-returns-3
 returns-3 c =
     let u = c .before .before .before .before in
     walk-refuses _ _ _ (instruments-out _ (headed (u .before .before .before .before .before)) (patterned u .ended)
-    (run-refused _ _ _ (c .before .before .before .read-instruments .ensures .0) (c .before .enum-told3 .given .1) (c .fault-of-run2 .ensures)))
+    (run-refused _ _ _ (c .before .before .before .read-instruments .ensures .0) (c .before .enum-told3 .given .1) (c .refusal-of-run2 .ensures)))
 
 -- How long its parts are at most: the header, the patterns and the instruments
 header-size : (c : tie.After-least-header) → c .least-header .result + 60 ≤ 65872
@@ -88,7 +88,7 @@ walk-spec =
     (search needs)
     (search needs)
     (λ c. walk-refuses _ _ _
-    (header-out _ (header-refused _ (c .before .before .before .begin .ensures) (c .before .enum-told .given .1) (c .fault-of-header .ensures))))
+    (header-out _ (header-refused _ (c .before .before .before .begin .ensures) (c .before .enum-told .given .1) (c .refusal-of-header .ensures))))
     (λ c κs. let t = header-given (c .before) in (t .start, (t .small, ((t .low, t .high), (t .many, c .before .before .before .before .before .before .pre)))))
     (search needs)
     (search needs)

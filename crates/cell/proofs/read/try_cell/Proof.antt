@@ -4,7 +4,7 @@ use native.Mathlib.Omega.{arith}
 use lib.ListN.{getD}
 use denote.Ref.{now}
 use Rattle.xm.proofs.Cell.{length-some}
-use Rattle.refusal.specs.Fault.{placeStep}
+use Rattle.refusal.specs.Refusal.{placeStep}
 use Rattle.cell.proofs.ReadLaws.{read-short-at, read-got-at}
 use borrow.Author.Needs.{needs}
 use Rattle.cell.proofs.read.try_cell.Statement.{statement}

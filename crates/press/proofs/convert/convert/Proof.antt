@@ -46,7 +46,7 @@ convert-spec =
     (search needs)
     (search needs)
     (search needs)
-    (λ c. convert-refused _ _ _ (c .before .before .before .walk .ensures .0) (c .before .enum-told .given .1) (c .fault-of-walk .ensures))
+    (λ c. convert-refused _ _ _ (c .before .before .before .walk .ensures .0) (c .before .enum-told .given .1) (c .refusal-of-walk .ensures))
     returns-2
     returns-3
     write-module-requires

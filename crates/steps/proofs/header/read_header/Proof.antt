@@ -3,27 +3,27 @@ use mathlib.Core.Path.{_≡_, sym, ap, _∙_}
 use native.Mathlib.Omega.{arith}
 use Rattle.xm.specs.ModuleKind.{ModuleKind, kindBy}
 use Rattle.xm.specs.Header.{kindAt, headerTests}
-use Rattle.refusal.specs.Test.{firstFault}
+use Rattle.refusal.specs.Test.{firstRefusal}
 use Rattle.steps.specs.Step.{headerStep}
 use Rattle.steps.specs.declared.header.HeaderStep.the-variants.{Read}
-use Rattle.steps.proofs.HeaderLaws.{header-faulty, header-holds, header-read}
+use Rattle.steps.proofs.HeaderLaws.{header-fails, header-holds, header-read}
 use Rattle.steps.proofs.KindLaws.{own-kind}
 use borrow.Author.Needs.{needs}
 use Rattle.steps.proofs.header.read_header.Statement.{statement}
 use Rattle.steps.proofs.header.read_header.Tie as tie
 
 -- The tests were those of the file's own kind
-own : (t : tie.After-header-fault) →
+own : (t : tie.After-header-refusal) →
     let file = t .before .before .before .args .file .now in
-    t .header-fault .result ≡ firstFault (headerTests (kindAt file) 0 file)
+    t .header-refusal .result ≡ firstRefusal (headerTests (kindAt file) 0 file)
 own t =
     let file = t .before .before .before .args .file .now in
-    t .header-fault .ensures ∙ ap (λ (kind : ModuleKind). firstFault (headerTests kind 0 file)) (own-kind file (t .before .is-stripped .ensures))
+    t .header-refusal .ensures ∙ ap (λ (kind : ModuleKind). firstRefusal (headerTests kind 0 file)) (own-kind file (t .before .is-stripped .ensures))
 
 returns : tie.Need-returns
 returns c =
     let file = c .before .before .before .before .args .file .now in
-    sym (ap headerStep (header-faulty (kindAt file) file (own (c .before)) (c .if1 .taken)))
+    sym (ap headerStep (header-fails (kindAt file) file (own (c .before)) (c .if1 .taken)))
 
 header-part-requires : tie.Need-header-part-requires
 header-part-requires c κs =

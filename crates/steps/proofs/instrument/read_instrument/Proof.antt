@@ -10,7 +10,7 @@ use Rattle.xm.specs.Instrument.{instrumentTests, readInstrument}
 use Rattle.refusal.proofs.Steps.{place-refused}
 use Rattle.steps.specs.Step.{instrumentStep}
 use Rattle.steps.proofs.KindLaws.{own-kind}
-use Rattle.steps.proofs.InstrumentLaws.{instrument-faulty, instrument-holds, FieldsOf, fields-of, instrument-out, instrument-read}
+use Rattle.steps.proofs.InstrumentLaws.{instrument-fails, instrument-holds, FieldsOf, fields-of, instrument-out, instrument-read}
 use borrow.Author.Needs.{needs}
 use Rattle.steps.proofs.instrument.read_instrument.Statement.{statement}
 use Rattle.steps.proofs.instrument.read_instrument.Tie as tie
@@ -36,7 +36,7 @@ held : (t : tie.Else1) →
 held t =
     let u = t .before .before in
     let a = u .before .before .args in
-    instrument-holds (a .file .now) (kind u) (a .at) (t .before .fault-by .ensures) (t .if1 .left)
+    instrument-holds (a .file .now) (kind u) (a .at) (t .before .refusal-by .ensures) (t .if1 .left)
 
 -- What its fields tell
 fields : (t : tie.After-head-by) →
@@ -52,14 +52,14 @@ returns : tie.Need-returns
 returns c =
     let u = c .before .before in
     let a = u .before .before .args in
-    sym (ap (instrumentStep (a .at)) (instrument-faulty (a .file .now) (kind u) (a .at) (c .before .fault-by .ensures) (c .if1 .taken))) ∙ own u
+    sym (ap (instrumentStep (a .at)) (instrument-fails (a .file .now) (kind u) (a .at) (c .before .refusal-by .ensures) (c .if1 .taken))) ∙ own u
 
 returns-2 : tie.Need-returns-2
 returns-2 c =
     let t = c .before .before .before .before in
     let u = t .before .before .before in
     let a = u .before .before .args in
-    let out = place-refused _ _ (c .before .before .before .read-samples .ensures) (c .before .enum-told .given .1) (c .fault-of .ensures) in
+    let out = place-refused _ _ (c .before .before .before .read-samples .ensures) (c .before .enum-told .given .1) (c .refusal-of .ensures) in
     sym (ap (instrumentStep (a .at)) (instrument-out (a .file .now) (kind u) (a .at) (held (t .before)) (t .head-by .ensures) out)) ∙ own u
 
 returns-3 : tie.Need-returns-3

@@ -1,4 +1,4 @@
--- `steps::instrument::stripped_fault` meets its contract: each return is the first test that fails, or that all hold. Assumes nothing.
+-- `steps::instrument::stripped_refusal` meets its contract: each return is the first test that fails, or that all hold. Assumes nothing.
 use Prim.Native.Nat.{ℕ, _-_, _*_, _≤_}
 use mathlib.Core.Path.{_≡_, refl, sym, ap₂}
 use native.Mathlib.Nat.{mul-le-mul-right}
@@ -7,11 +7,11 @@ use lib.ListN.{length, drop, length-drop}
 use borrow.Author.Tests.{lt-ltb}
 use Rattle.xm.specs.ModuleKind.{stripped}
 use Rattle.xm.specs.Instrument.{countAt, sampleHeadSizeAt, fieldsOf}
-use Rattle.refusal.proofs.TestLaws.{fault-at, fault-none}
+use Rattle.refusal.proofs.TestLaws.{refusal-at, refusal-none}
 use Rattle.steps.proofs.InstrumentLaws.{count-cut, size-cut, times-some}
 use borrow.Author.Needs.{needs}
-use Rattle.steps.proofs.instrument.stripped_fault.Statement.{statement}
-use Rattle.steps.proofs.instrument.stripped_fault.Tie as tie
+use Rattle.steps.proofs.instrument.stripped_refusal.Statement.{statement}
+use Rattle.steps.proofs.instrument.stripped_refusal.Tie as tie
 
 -- The bytes from its place on; k as it is cut; and what k headers take
 left : (t : tie.After-shared-slice-known)
@@ -41,7 +41,7 @@ returns-4 : tie.Need-returns-4
 returns-4 c =
     let l = left (c .before .before .before .before .before .before) in
     let k = counted (c .before) in
-    sym (fault-at 3 _ (omega arith) (refl, tt) (λ h. omega arith))
+    sym (refusal-at 3 _ (omega arith) (refl, tt) (λ h. omega arith))
 
 returns-5 : tie.Need-returns-5
 returns-5 c =
@@ -51,24 +51,24 @@ returns-5 c =
     let a = c .before .before .before .before .before .before .before .before .before .args in
     let cut = countAt (fieldsOf stripped (drop (a .at) (a .file .now))) in
     let some = times-some (c .before .before .before .word-in .result) (c .before .long-in .result) (omega arith) in
-    sym (fault-at 4 _ (omega arith) (refl, tt) (λ h. omega (arith, h .0 (lt-ltb 0 cut (omega arith)))))
+    sym (refusal-at 4 _ (omega arith) (refl, tt) (λ h. omega (arith, h .0 (lt-ltb 0 cut (omega arith)))))
 
 returns-6 : tie.Need-returns-6
 returns-6 c =
     let l = left (c .before .before .before .before .before .before .before .before) in
     let k = counted (c .before .before .before) in
     let all = taken (c .before) in
-    sym (fault-none _ (omega arith))
+    sym (refusal-none _ (omega arith))
 
-pub stripped-fault-spec : {M : Type 1} → statement M
-stripped-fault-spec =
+pub stripped-refusal-spec : {M : Type 1} → statement M
+stripped-refusal-spec =
     tie.close
     (tie.spec
     (search needs)
-    (λ c. let l = left (c .before) in sym (fault-at 0 _ tt (refl, tt) (λ h. omega arith)))
+    (λ c. let l = left (c .before) in sym (refusal-at 0 _ tt (refl, tt) (λ h. omega arith)))
     (search needs)
-    (λ c. let l = left (c .before .before .before) in sym (fault-at 1 _ (omega arith) (refl, tt) (λ h. omega arith)))
-    (λ c. let l = left (c .before .before .before .before) in sym (fault-at 2 _ (omega arith) (refl, tt) (λ h. omega arith)))
+    (λ c. let l = left (c .before .before .before) in sym (refusal-at 1 _ (omega arith) (refl, tt) (λ h. omega arith)))
+    (λ c. let l = left (c .before .before .before .before) in sym (refusal-at 2 _ (omega arith) (refl, tt) (λ h. omega arith)))
     (search needs)
     returns-4
     (search needs)

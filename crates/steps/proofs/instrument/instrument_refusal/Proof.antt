@@ -1,4 +1,4 @@
--- `steps::instrument::instrument_fault` meets its contract: each return is the first test that fails, or that all hold. Assumes nothing.
+-- `steps::instrument::instrument_refusal` meets its contract: each return is the first test that fails, or that all hold. Assumes nothing.
 use Prim.Native.Nat.{ℕ, _-_, _*_, _≤_}
 use mathlib.Core.Bool.{true}
 use mathlib.Core.Path.{_≡_, refl, sym, ap₂}
@@ -8,10 +8,10 @@ use lib.Dec.{ltb}
 use lib.ListN.{length, drop, length-drop}
 use borrow.Author.Tests.{ltb-true, lt-ltb}
 use Rattle.xm.specs.Instrument.{countAt}
-use Rattle.refusal.proofs.TestLaws.{fault-at, fault-none}
+use Rattle.refusal.proofs.TestLaws.{refusal-at, refusal-none}
 use borrow.Author.Needs.{needs}
-use Rattle.steps.proofs.instrument.instrument_fault.Statement.{statement}
-use Rattle.steps.proofs.instrument.instrument_fault.Tie as tie
+use Rattle.steps.proofs.instrument.instrument_refusal.Statement.{statement}
+use Rattle.steps.proofs.instrument.instrument_refusal.Tie as tie
 
 -- The bytes from its place on; there are samples; and what k headers take
 left : (t : tie.After-shared-slice-known)
@@ -33,7 +33,7 @@ returns-9 c =
     let c₁₁ = c₇ .before .before .before .before in
     let l = left c₁₁ in
     let all = ap₂ (λ (a b : ℕ). a * b) (c₇ .word .ensures .value) (c .before .before .long2 .ensures .value) in
-    sym (fault-at 6 _ (omega arith) (refl, tt) (λ h. omega (arith, h .0 (some c₅))))
+    sym (refusal-at 6 _ (omega arith) (refl, tt) (λ h. omega (arith, h .0 (some c₅))))
 
 returns-10 : tie.Need-returns-10
 returns-10 c =
@@ -41,27 +41,27 @@ returns-10 c =
     let c₁₁ = c₇ .before .before .before .before in
     let l = left c₁₁ in
     let all = ap₂ (λ (a b : ℕ). a * b) (c₇ .word .ensures .value) (c .before .before .long2 .ensures .value) in
-    sym (fault-none _ (omega arith))
+    sym (refusal-none _ (omega arith))
 
-pub instrument-fault-spec : {M : Type 1} → statement M
-instrument-fault-spec =
+pub instrument-refusal-spec : {M : Type 1} → statement M
+instrument-refusal-spec =
     tie.close
     (tie.spec
     (search needs)
-    (λ c. let l = left (c .before) in sym (fault-at 0 _ tt (refl, tt) (λ h. omega arith)))
+    (λ c. let l = left (c .before) in sym (refusal-at 0 _ tt (refl, tt) (λ h. omega arith)))
     (search needs)
-    (λ c. let l = left (c .before .before .before) in sym (fault-at 1 _ (omega arith) (refl, tt) (λ h. omega arith)))
+    (λ c. let l = left (c .before .before .before) in sym (refusal-at 1 _ (omega arith) (refl, tt) (λ h. omega arith)))
     (search needs)
-    (λ c. let l = left (c .before .before .before .before .before) in sym (fault-at 2 _ (omega arith) (refl, tt) (λ h. omega arith)))
+    (λ c. let l = left (c .before .before .before .before .before) in sym (refusal-at 2 _ (omega arith) (refl, tt) (λ h. omega arith)))
     (λ c. let l = left (c .before .before .before .before .before .before .before) in
-    sym (fault-at 4 _ (omega (arith, ltb-true)) (refl, tt) (λ h. omega arith)))
-    (λ c. let l = left (c .before .before .before .before .before .before .before) in sym (fault-none _ (omega (arith, ltb-true))))
+    sym (refusal-at 4 _ (omega (arith, ltb-true)) (refl, tt) (λ h. omega arith)))
+    (λ c. let l = left (c .before .before .before .before .before .before .before) in sym (refusal-none _ (omega (arith, ltb-true))))
     (λ c. let l = left (c .before .before .before .before .before .before .before) in
-    sym (fault-at 3 _ (omega arith) (refl, tt) (λ h. omega (arith, h .0 (some (c .before))))))
-    (λ c. let l = left (c .before .before .before .before .before .before .before .before) in sym (fault-at 4 _ (omega arith) (refl, tt) (λ h. omega arith)))
+    sym (refusal-at 3 _ (omega arith) (refl, tt) (λ h. omega (arith, h .0 (some (c .before))))))
+    (λ c. let l = left (c .before .before .before .before .before .before .before .before) in sym (refusal-at 4 _ (omega arith) (refl, tt) (λ h. omega arith)))
     (search needs)
     (λ c. let l = left (c .before .before .before .before .before .before .before .before .before .before) in
-    sym (fault-at 5 _ (omega arith) (refl, tt) (λ h. omega (arith, h .0 (some (c .before .before .before .before))))))
+    sym (refusal-at 5 _ (omega arith) (refl, tt) (λ h. omega (arith, h .0 (some (c .before .before .before .before))))))
     (λ c. omega (arith, most (c .before)))
     (λ c. omega (arith, most (c .before)))
     returns-9
