@@ -3,12 +3,12 @@ use Prim.Native.Nat.{ℕ}
 use mathlib.Core.List.{List}
 use mathlib.Core.Path.{_≡_, refl, sym, ap, _∙_}
 use Rattle.xm.specs.Answer.{Answer, gives, refuses, numberOf}
-use Rattle.xm.specs.Asking.{Lies, stretchOf, askingFlat, askNumbers}
+use Rattle.xm.specs.Asking.{Stretch, stretchOf, askingFlat, askNumbers}
 use Rattle.asking.specs.declared.Asked.{Asked}
 use Rattle.asking.specs.Ask.{askedOf, askedNumbers}
 
 -- The numbers are the paper's
-asked-same : (answer : Answer Lies) → askedNumbers (askedOf answer) ≡ askNumbers answer
+asked-same : (answer : Answer Stretch) → askedNumbers (askedOf answer) ≡ askNumbers answer
 asked-same (gives lies) = refl
 asked-same (refuses r) = refl
 
@@ -22,9 +22,9 @@ pub asked-once : (file table : List ℕ) (number : ℕ) {answer other : Asked} �
 asked-once file table number met e = met ∙ sym e
 
 -- of a stretch and of the number that tells 0 from 16, flat or by record
-pub stretch-once : (file : List ℕ) (asked : Answer Lies) {stretch other : List ℕ} → stretch ≡ stretchOf file asked
+pub stretch-once : (file : List ℕ) (asked : Answer Stretch) {stretch other : List ℕ} → stretch ≡ stretchOf file asked
     → other ≡ stretchOf file asked → stretch ≡ other
 stretch-once file asked met e = met ∙ sym e
 
-pub refusal-once : (asked : Answer Lies) {number other : ℕ} → number ≡ numberOf asked → other ≡ numberOf asked → number ≡ other
+pub refusal-once : (asked : Answer Stretch) {number other : ℕ} → number ≡ numberOf asked → other ≡ numberOf asked → number ≡ other
 refusal-once asked met e = met ∙ sym e

@@ -3,7 +3,7 @@ use refusal::Refusal;
 ghost use mathlib.Core.Path.{_≡_};
 ghost use Rattle.xm.specs.Answer.{numberOf};
 ghost use Rattle.xm.specs.Asking.{asking, stretchOf, askingFlat};
-ghost use Rattle.asking.specs.Ask.{askedOf, liesIn, AskedInside, stretchAsked, refusalAsked};
+ghost use Rattle.asking.specs.Ask.{askedOf, paperStretch, AskedInside, stretchAsked, refusalAsked};
 
 // Numbers to a sample's row in a table over flat numbers.
 pub const SAMPLE_STRIDE: usize = 7;
@@ -15,18 +15,18 @@ pub struct Stretch {
 }
 
 pub enum Asked {
-    Lies(Stretch),
+    Given(Stretch),
     Refused(Refusal),
 }
 
 // The data that a row speaks of, `rows` being lent: 16 for a number at or above them, or if the data isn't inside the file.
 pub fn ask_row(file: &[u8], rows: usize, number: usize, row: Stretch) -> Asked
-    ensures { λ r. ⌜ r ≡ askedOf (asking (now (file .entry)) rows number (liesIn row)) ⌝ }
+    ensures { λ r. ⌜ r ≡ askedOf (asking (now (file .entry)) rows number (paperStretch row)) ⌝ }
 {
     if number < rows {
         if row.place <= file.len() {
             if row.length <= file.len() - row.place {
-                return Asked::Lies(row);
+                return Asked::Given(row);
             }
         }
     }
@@ -41,7 +41,7 @@ pub fn asked_stretch<'a>(file: &'a [u8], asked: Asked) -> &'a [u8]
     requires { ⌜ AskedInside (now file) asked ⌝ }
     ensures { λ r. ⌜ now r ≡ stretchAsked (now (file .entry)) asked ⌝ }
 {
-    let Asked::Lies(stretch) = asked else {
+    let Asked::Given(stretch) = asked else {
         return &file[0..0];
     };
     let place = stretch.place;
@@ -54,7 +54,7 @@ pub fn asked_refusal(asked: Asked) -> u32
     ensures { λ r. ⌜ r ≡ refusalAsked asked ⌝ }
 {
     match asked {
-        Asked::Lies(stretch) => 0,
+        Asked::Given(stretch) => 0,
         Asked::Refused(refusal) => refusal.number,
     }
 }

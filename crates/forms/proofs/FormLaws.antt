@@ -11,7 +11,7 @@ use Rattle.xm.specs.ModuleKind.{ModuleKind, normal, stripped, kindBy, padded, t
 use Rattle.xm.specs.Got.{Told}
 use Rattle.xm.specs.Format.{each, joined, flat}
 use Rattle.xm.specs.Header.{kindAt}
-use Rattle.xm.specs.Sample.{leastHead, Stretch, headFormat, dataFormat, smallestHead}
+use Rattle.xm.specs.Sample.{leastHead, StretchFound, headFormat, dataFormat, smallestHead}
 use Rattle.xm.specs.Instrument.{leastInstrument, leastStripped, samplesMost, instrumentSizeAt, countAt, sampleHeadSizeAt, fieldsOf, Instrument, GoodInstrument}
 use Rattle.xm.specs.Instrument.{readInstrument, countOf, writeFields, writeInstrument, instrumentView}
 use Rattle.xm.proofs.Number.{bytes-drop}
@@ -94,7 +94,7 @@ module _ (file : List ℕ) (place : ℕ) {piece : InstrumentPart} (is : Instrume
   same-smallest = ap smallestHead (lies .views)
 
   counted : countOf x ≡ piece .samples
-  counted = length-map (r .samples .0) Stretch.bytes ∙ sym (ap InstrumentPart.samples (r .same))
+  counted = length-map (r .samples .0) StretchFound.bytes ∙ sym (ap InstrumentPart.samples (r .same))
 
   module _ (b : Bytes file) where
     good : GoodInstrument x

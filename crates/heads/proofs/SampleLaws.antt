@@ -14,7 +14,7 @@ use Rattle.xm.specs.ModuleKind.{padded}
 use Rattle.xm.specs.Answer.{inFront}
 use Rattle.xm.specs.Got.{Got, got, refused, _>>=_, _>>_, checked, _at_}
 use Rattle.xm.specs.Format.{each}
-use Rattle.xm.specs.Sample.{leastHead, headBytes, adpcm, adpcmSize, dataSizeBy, dataSize, Stretch, readHead, readData, headFormat, dataFormat, SamplesFound}
+use Rattle.xm.specs.Sample.{leastHead, headBytes, adpcm, adpcmSize, dataSizeBy, dataSize, StretchFound, readHead, readData, headFormat, dataFormat, SamplesFound}
 use Rattle.xm.specs.Sample.{samplesFormat, sizeOfFirst}
 use Rattle.xm.proofs.Number.{Agree, agree-byte, agree-long}
 use Rattle.xm.proofs.Cut.{padded-length, take-padded, front-padded, padded-zeros}
@@ -102,7 +102,7 @@ unfolding firstRefusal
 same-refusal place head = refl
 
 module _ (file : List ℕ) (place size : ℕ) {head : SampleHead} (v : HeadAt (headBytes size (drop place file)) head) (there : place + size ≤ length file) where
-  abbrev found : Got Stretch
+  abbrev found : Got StretchFound
   found = got (record { place = place; size = size; bytes = headBytes size (drop place file) }) size
 
   read-by : readHead size place (drop place file) ≡ (checked (headTestsOf place head) >> found)
@@ -149,9 +149,9 @@ module _ (file : List ℕ) (headPlace size place : ℕ) {head : SampleHead} (v :
   data-there h = ap (λ (n : ℕ). Next (place + n)) same-size ∙ sym (ap (placeStep place) (pass _ (omega (arith, same-size, length-drop place file), tt) refl))
 
 -- The loop over the headers
-head-used : (size place : ℕ) (s : List ℕ) {i : Stretch} {n : ℕ} → readHead size place s ≡ got i n → (i .bytes ≡ headBytes size s) × (n ≡ size)
+head-used : (size place : ℕ) (s : List ℕ) {i : StretchFound} {n : ℕ} → readHead size place s ≡ got i n → (i .bytes ≡ headBytes size s) × (n ≡ size)
 unfolding readHead
-head-used size place s e = passed _ _ e λ h e. (ap Stretch.bytes (sym (got-value e)), sym (got-used e))
+head-used size place s e = passed _ _ e λ h e. (ap StretchFound.bytes (sym (got-value e)), sym (got-used e))
 
 next-times : (j count size : ℕ) → j < count → (j + 1) * size ≤ count * size
 next-times j count size h = mul-le-mul-right size (omega arith)
@@ -199,7 +199,7 @@ getD-heads (suc count) size (suc j) s d h =
     getD-heads count size j (drop size s) d (omega arith) ∙ ap (headBytes size) (drop-drop (j * size) size s ∙ ap (λ (n : ℕ). drop n s) e)
 
 -- The loop over the data
-data-inside : (head : List ℕ) (place : ℕ) (s : List ℕ) {i : Stretch} {n : ℕ} → readData head place s ≡ got i n → n ≤ length s
+data-inside : (head : List ℕ) (place : ℕ) (s : List ℕ) {i : StretchFound} {n : ℕ} → readData head place s ≡ got i n → n ≤ length s
 unfolding readData
 data-inside head place s e = passed _ _ e λ h e. omega (arith, h .0, got-used e)
 
@@ -240,14 +240,14 @@ module _ (file : List ℕ) (heads size count start : ℕ) where
     data-end h = reached-place dataFormat _ file start (w .reached) (rw length-heads h)
 
 -- All headers, and then the data of each
-pub heads-viewed : (count size place : ℕ) (s : List ℕ) (is : List Stretch) (n : ℕ) → each headFormat .read (replicate count size) place s ≡ got is n
+pub heads-viewed : (count size place : ℕ) (s : List ℕ) (is : List StretchFound) (n : ℕ) → each headFormat .read (replicate count size) place s ≡ got is n
     → each headFormat .view is ≡ headsFrom count size s
 unfolding headsFrom
-heads-viewed zero size place s is n e = got-carry (λ (r : List Stretch) (u : ℕ). each headFormat .view r ≡ []) e refl
+heads-viewed zero size place s is n e = got-carry (λ (r : List StretchFound) (u : ℕ). each headFormat .view r ≡ []) e refl
 heads-viewed (suc count) size place s is n e =
     bind-got _ _ e λ i k ei e₁. bind-got _ _ e₁ λ js m ej e₂.
     let u = head-used size place s ei in
-    got-carry (λ (r : List Stretch) (t : ℕ). each headFormat .view r ≡ headBytes size s ∷ headsFrom count size (drop size s)) e₂
+    got-carry (λ (r : List StretchFound) (t : ℕ). each headFormat .view r ≡ headBytes size s ∷ headsFrom count size (drop size s)) e₂
     (cons-path (u .0) (heads-viewed count size (place + k) (drop k s) js m ej ∙ ap (λ (o : ℕ). headsFrom count size (drop o s)) (u .1)))
 
 place-then : {A B : Type 0} (a : A) (start n : ℕ) (g : Got B) → placeStep (start + n) g ≡ placeStep {A = A × B} start (g >>= (λ (b, m). got (a, b) (n + m)))
@@ -256,7 +256,7 @@ place-then a start n (got b m) = ap Next (add-assoc start n m)
 place-then a start n (refused r) = refl
 
 module _ (file : List ℕ) (start size count : ℕ) where
-  abbrev heads : Got (List Stretch)
+  abbrev heads : Got (List StretchFound)
   heads = each headFormat .read (replicate count size) start (drop start file)
 
   abbrev samples : Got SamplesFound
@@ -278,36 +278,36 @@ module _ (file : List ℕ) (start size count : ℕ) where
   heads-behind e = next-got start heads e λ hs n eh q. omega (arith, heads-used count size start (drop start file) hs n eh)
 
 -- What the samples take, and what they are written in: 40 bytes a header, and the data as they are
-heads-written : (count size place : ℕ) (s : List ℕ) (is : List Stretch) (n : ℕ) → each headFormat .read (replicate count size) place s ≡ got is n
+heads-written : (count size place : ℕ) (s : List ℕ) (is : List StretchFound) (n : ℕ) → each headFormat .read (replicate count size) place s ≡ got is n
     → length (each headFormat .write (each headFormat .view is)) ≡ count * leastHead
 unfolding readHead
 heads-written zero size place s is n e =
-    got-carry (λ (r : List Stretch) (u : ℕ). length (each headFormat .write (each headFormat .view r)) ≡ 0 * leastHead) e refl
+    got-carry (λ (r : List StretchFound) (u : ℕ). length (each headFormat .write (each headFormat .view r)) ≡ 0 * leastHead) e refl
 heads-written (suc count) size place s is n e =
     bind-got _ _ e λ i k ei e₁. bind-got _ _ e₁ λ js m ej e₂.
     passed _ _ ei λ h ei.
-    let one : length (i .bytes) ≡ leastHead = ap (λ (t : Stretch). length (t .bytes)) (sym (got-value ei)) ∙ padded-length leastHead (take size s) in
-    got-carry (λ (r : List Stretch) (u : ℕ). length (each headFormat .write (each headFormat .view r)) ≡ suc count * leastHead) e₂
+    let one : length (i .bytes) ≡ leastHead = ap (λ (t : StretchFound). length (t .bytes)) (sym (got-value ei)) ∙ padded-length leastHead (take size s) in
+    got-carry (λ (r : List StretchFound) (u : ℕ). length (each headFormat .write (each headFormat .view r)) ≡ suc count * leastHead) e₂
     (rw length-append (omega (arith, one, heads-written count size (place + k) (drop k s) js m ej)))
 
-data-written : (heads : List (List ℕ)) (place : ℕ) (s : List ℕ) (ds : List Stretch) (n : ℕ) → each dataFormat .read heads place s ≡ got ds n
+data-written : (heads : List (List ℕ)) (place : ℕ) (s : List ℕ) (ds : List StretchFound) (n : ℕ) → each dataFormat .read heads place s ≡ got ds n
     → length (each dataFormat .write (each dataFormat .view ds)) ≡ n
 unfolding readData
-data-written [] place s ds n e = got-carry (λ (r : List Stretch) (u : ℕ). length (each dataFormat .write (each dataFormat .view r)) ≡ u) e refl
+data-written [] place s ds n e = got-carry (λ (r : List StretchFound) (u : ℕ). length (each dataFormat .write (each dataFormat .view r)) ≡ u) e refl
 data-written (h ∷ hs) place s ds n e =
     bind-got _ _ e λ i k ei e₁. bind-got _ _ e₁ λ js m ej e₂.
     passed _ _ ei λ t ei.
-    let one : length (i .bytes) ≡ dataSize h = ap (λ (t : Stretch). length (t .bytes)) (sym (got-value ei)) ∙ length-take-le (dataSize h) s (t .0) in
-    got-carry (λ (r : List Stretch) (u : ℕ). length (each dataFormat .write (each dataFormat .view r)) ≡ u) e₂
+    let one : length (i .bytes) ≡ dataSize h = ap (λ (t : StretchFound). length (t .bytes)) (sym (got-value ei)) ∙ length-take-le (dataSize h) s (t .0) in
+    got-carry (λ (r : List StretchFound) (u : ℕ). length (each dataFormat .write (each dataFormat .view r)) ≡ u) e₂
     (rw length-append (omega (arith, one, got-used ei, data-written hs (place + k) (drop k s) js m ej)))
 
-first-size : (count size place : ℕ) (s : List ℕ) (is : List Stretch) (n : ℕ) → each headFormat .read (replicate (suc count) size) place s ≡ got is n
+first-size : (count size place : ℕ) (s : List ℕ) (is : List StretchFound) (n : ℕ) → each headFormat .read (replicate (suc count) size) place s ≡ got is n
     → sizeOfFirst is ≡ size
 unfolding readHead
 first-size count size place s is n e =
     bind-got _ _ e λ i k ei e₁. bind-got _ _ e₁ λ js m ej e₂.
     passed _ _ ei λ h ei.
-    got-carry (λ (r : List Stretch) (u : ℕ). sizeOfFirst r ≡ size) e₂ (ap Stretch.size (sym (got-value ei)))
+    got-carry (λ (r : List StretchFound) (u : ℕ). sizeOfFirst r ≡ size) e₂ (ap StretchFound.size (sym (got-value ei)))
 
 pub record SamplesSize (count size : ℕ) (v : SamplesFound) (n : ℕ) : Type 0 where
   pub counted : length (v .0) ≡ count
@@ -330,6 +330,6 @@ samples-size count size place s v n e =
       behind = omega (arith, used, data-written (each headFormat .view hs) (place + m) (drop m s) ds k ed);
     })
   where
-    one : (count : ℕ) {hs : List Stretch} {m : ℕ} → each headFormat .read (replicate count size) place s ≡ got hs m → 1 ≤ count → sizeOfFirst hs ≡ size
+    one : (count : ℕ) {hs : List StretchFound} {m : ℕ} → each headFormat .read (replicate count size) place s ≡ got hs m → 1 ≤ count → sizeOfFirst hs ≡ size
     one zero e h = absurd (omega arith)
     one (suc count) e h = first-size count size place s _ _ e

@@ -10,7 +10,7 @@ use Rattle.xm.specs.ModuleKind.{ModuleKind, normal, stripped, padded, before, t
 use Rattle.xm.specs.Got.{got, AllHold, listIn, Told}
 use Rattle.xm.specs.Format.{each, joined, flat}
 use Rattle.xm.specs.Header.{kindAt}
-use Rattle.xm.specs.Sample.{leastHead, Stretch, readData, headFormat, dataFormat, SamplesFound, samplesFormat, cutSamplesFormat, smallestHead}
+use Rattle.xm.specs.Sample.{leastHead, StretchFound, readData, headFormat, dataFormat, SamplesFound, samplesFormat, cutSamplesFormat, smallestHead}
 use Rattle.xm.specs.Instrument.{leastInstrument, leastStripped, voiceFrom, voiceSize, instrumentSizeAt, countAt, sampleHeadSizeAt, fieldsOf, instrumentTests}
 use Rattle.xm.specs.Instrument.{Instrument, InstrumentFound, voiceOf, readInstrument, writeVoice, countOf, writeFields, writeInstrument, GoodInstrument}
 use Rattle.xm.specs.Instrument.{instrumentView}
@@ -200,15 +200,15 @@ module _ (x : Instrument) (s : List ℕ) (front : x .name ++ (byte (x .type) ++ 
       voice-few (suc n) e = omega (arith, ap length (voiced (omega arith)), padded-length voiceSize (drop voiceFrom s))
 
 -- The data of all samples, back to back
-data-flat : (heads : List (List ℕ)) (place : ℕ) (s : List ℕ) (ds : List Stretch) (n : ℕ) → each dataFormat .read heads place s ≡ got ds n
+data-flat : (heads : List (List ℕ)) (place : ℕ) (s : List ℕ) (ds : List StretchFound) (n : ℕ) → each dataFormat .read heads place s ≡ got ds n
     → each dataFormat .write (each dataFormat .view ds) ≡ take n s
 unfolding readData
-data-flat [] place s ds n e = got-carry (λ (r : List Stretch) (u : ℕ). each dataFormat .write (each dataFormat .view r) ≡ take u s) e refl
+data-flat [] place s ds n e = got-carry (λ (r : List StretchFound) (u : ℕ). each dataFormat .write (each dataFormat .view r) ≡ take u s) e refl
 data-flat (h ∷ hs) place s ds n e =
     bind-got _ _ e λ i k ei e₁. bind-got _ _ e₁ λ js m ej e₂.
     passed _ _ ei λ t ei.
-    let own : i .bytes ≡ take k s = ap Stretch.bytes (sym (got-value ei)) ∙ ap (λ (u : ℕ). take u s) (got-used ei) in
-    got-carry (λ (r : List Stretch) (u : ℕ). each dataFormat .write (each dataFormat .view r) ≡ take u s) e₂
+    let own : i .bytes ≡ take k s = ap StretchFound.bytes (sym (got-value ei)) ∙ ap (λ (u : ℕ). take u s) (got-used ei) in
+    got-carry (λ (r : List StretchFound) (u : ℕ). each dataFormat .write (each dataFormat .view r) ≡ take u s) e₂
     (ap₂ (λ (x y : List ℕ). x ++ y) own (data-flat hs (place + k) (drop k s) js m ej) ∙ sym (take-add k m s))
 
 data-behind : (count size place : ℕ) (s : List ℕ) (v : SamplesFound) (n : ℕ) → samplesFormat .read (replicate count size) place s ≡ got v n
@@ -270,7 +270,7 @@ module _ (file : List ℕ) (place : ℕ) (piece : InstrumentPart) where
 
     -- its bytes
     counted : countOf x ≡ k
-    counted = length-map (r .samples .0) Stretch.bytes ∙ sym (ap InstrumentPart.samples (r .same)) ∙ lies .count
+    counted = length-map (r .samples .0) StretchFound.bytes ∙ sym (ap InstrumentPart.samples (r .same)) ∙ lies .count
 
     front : x .name ++ (byte (x .type) ++ word (countOf x)) ≡ padded 25 (drop 4 cut)
     front =

@@ -23,7 +23,7 @@ use samples::Decoded;
 
 fn of_asked(asked: Asked) -> Answer {
     match asked {
-        Asked::Lies(stretch) => accepted(stretch.place, stretch.length),
+        Asked::Given(stretch) => accepted(stretch.place, stretch.length),
         Asked::Refused(refusal) => refused(refusal),
     }
 }

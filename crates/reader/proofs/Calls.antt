@@ -15,7 +15,7 @@ use Rattle.xm.specs.PatternInFile.{patternFormat}
 use Rattle.xm.specs.Sample.{stretchRegion}
 use Rattle.xm.specs.Instrument.{InstrumentFound, instrumentFormat}
 use Rattle.xm.specs.Module.{Found, regionsOf, readFile}
-use Rattle.xm.specs.Asking.{Lies}
+use Rattle.xm.specs.Asking.{Stretch}
 use Rattle.xm.specs.Table.{InstrumentRow, SampleRow, patternRow, patternRows, instrumentRows, sampleRows, checkedAs, checking}
 use Rattle.xm.specs.Structure.{kindNumber, structures, reading, Ahead, started, called, readOn, readFor}
 use Rattle.xm.specs.Region.{ofKind, regionAt}
@@ -158,8 +158,8 @@ counted-numbers file plain met = ap countedNumbers met ∙ go (readFile file) re
         let regions = regionsOf found in
         cons-path refl (cons-path refl
         (cons-path (ap length (tell .every-kind patternHeader refl) ∙ patterns-count found ∙ rows .patterns)
-        (cons-path (ap length (tell .every-kind instrument refl) ∙ sym (length-map (ofKind instrument regions) Lies.place) ∙ ap length (tables .instruments)
+        (cons-path (ap length (tell .every-kind instrument refl) ∙ sym (length-map (ofKind instrument regions) Stretch.place) ∙ ap length (tables .instruments)
         ∙ length-map (instrumentRows found) InstrumentRow.place ∙ rows .instruments)
-        (cons-path (ap length (tell .every-kind sampleHeader refl) ∙ sym (length-map (ofKind sampleHeader regions) Lies.place) ∙ ap length (tables .heads)
+        (cons-path (ap length (tell .every-kind sampleHeader refl) ∙ sym (length-map (ofKind sampleHeader regions) Stretch.place) ∙ ap length (tables .heads)
         ∙ length-map (sampleRows found) SampleRow.headerPlace) refl))))
     go (refused r) e = refl

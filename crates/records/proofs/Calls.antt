@@ -17,8 +17,8 @@ use Rattle.xm.specs.Sample.{leastHead, headBytes, lengthOf, kindOf}
 use Rattle.xm.specs.Adpcm.{decodingBy}
 use Rattle.xm.specs.Table.{CheckReport, sampleRows, sampleStride, tuneStride, checkIntoNumbers, checkingInto, roomWith, rowsAfter, Tables, tablesAfter}
 use Rattle.xm.specs.Table as paper
-use Rattle.xm.specs.Asking.{Lies, asking, stretchOf, askingRows, noRow}
-use Rattle.xm.specs.Demands.{LoopReads, AcceptedFile, liesAt}
+use Rattle.xm.specs.Asking.{Stretch, asking, stretchOf, askingRows, noRow}
+use Rattle.xm.specs.Demands.{LoopReads, AcceptedFile, stretchAt}
 use Rattle.xm.proofs.Accepted.{accepted-files, loop-at, decodes-at, normal-byte}
 use Rattle.xm.proofs.Table.{joined-map}
 use Rattle.refusal.specs.Refusal.{codeRefusal}
@@ -83,7 +83,7 @@ module _ (records : List SampleRow) (number : ℕ) {answer : RowAsked} (met : an
 
   pub refusal-by-number : (file : List ℕ) {refusal : ℕ} → refusal ≡ numberOf (askingRows file (rowsGiven answer) 0)
       → refusal ≡ numberOf (askingRows file (rowsOf records) number)
-  refusal-by-number file told = told ∙ ap (λ (a : Answer Lies). numberOf a) (asked-by-number file)
+  refusal-by-number file told = told ∙ ap (λ (a : Answer Stretch). numberOf a) (asked-by-number file)
 
   -- No second answer fits
   pub row-once : (other : RowAsked) → other ≡ rowAskedOf (rowAskingIn (rowsOf records) number) → answer ≡ other
@@ -179,7 +179,7 @@ module _ (file : List ℕ) (plain : Bytes file) (patterns instruments : List ℕ
       ∙ List·getD-map codeRow (sampleRows (c .found)) number noRow
 
   -- is handed back as the content's stretch,
-  pub stored-asked : askingRows file (rowsOf after) number ≡ gives (liesAt (sampleRows (c .found)) number)
+  pub stored-asked : askingRows file (rowsOf after) number ≡ gives (stretchAt (sampleRows (c .found)) number)
   stored-asked =
       ap (λ (answer : Answer CheckReport). askingRows file (rowsOf (recordsAfter answer records)) number) accepted
       ∙ ap (λ (rows : List paper.SampleRow). askingRows file rows number) (rows-in-front (sampleRows (c .found)) records)

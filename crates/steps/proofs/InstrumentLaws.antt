@@ -10,7 +10,7 @@ use Rattle.xm.specs.Number.{Bytes, byteAt, wordAt, longAt, part}
 use Rattle.xm.specs.ModuleKind.{ModuleKind, normal, stripped}
 use Rattle.xm.specs.Got.{Got, got, refused, AllHold, _at_}
 use Rattle.xm.specs.Format.{each}
-use Rattle.xm.specs.Sample.{Stretch, headFormat, dataFormat, SamplesFound, samplesFormat, sizeOfFirst}
+use Rattle.xm.specs.Sample.{StretchFound, headFormat, dataFormat, SamplesFound, samplesFormat, sizeOfFirst}
 use Rattle.xm.specs.Instrument.{samplesMost, instrumentSizeAt, countAt, sampleHeadSizeAt, fieldsOf, instrumentTests, InstrumentFound, voiceOf, readInstrument}
 use Rattle.xm.proofs.Number.{bytes-drop}
 use Rattle.xm.proofs.Got.{no-true, pass, step, step-refused, passed, bind-got, got-carry}
@@ -71,7 +71,7 @@ same-sizes : (k : ℕ) (s : List ℕ) → replicate k (headSizeOf k s) ≡ repli
 same-sizes zero s = refl
 same-sizes (suc k) s = refl
 
-size-first : (k : ℕ) (s : List ℕ) (heads : List Stretch) → length heads ≡ k → (1 ≤ k → sizeOfFirst heads ≡ headSizeOf k s) → headSizeOf k s ≡ sizeOfFirst heads
+size-first : (k : ℕ) (s : List ℕ) (heads : List StretchFound) → length heads ≡ k → (1 ≤ k → sizeOfFirst heads ≡ headSizeOf k s) → headSizeOf k s ≡ sizeOfFirst heads
 size-first zero s [] c f = refl
 size-first zero s (h ∷ hs) c f = absurd (omega arith)
 size-first (suc k) s heads c f = sym (f (omega arith))

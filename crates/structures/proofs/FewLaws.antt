@@ -11,7 +11,7 @@ use Rattle.xm.specs.Format.{Region, sampleHeader, sampleData, joined}
 use Rattle.xm.specs.ModuleKind.{ModuleKind}
 use Rattle.xm.specs.Header.{channelsAt, patternsAt, instrumentsAt, headerEnd, kindAt}
 use Rattle.xm.specs.PatternInFile.{PatternFound, patternFormat}
-use Rattle.xm.specs.Sample.{Stretch, stretchRegion}
+use Rattle.xm.specs.Sample.{StretchFound, stretchRegion}
 use Rattle.xm.specs.Instrument.{InstrumentFound, instrumentFormat}
 use Rattle.xm.specs.Module.{Found, fileMost, readFile}
 use Rattle.xm.specs.Structure.{isStructure, structuresOf, structures}
@@ -32,11 +32,11 @@ count-append (r ∷ xs) ys = go (isStructure (r .kind)) (count-append xs ys)
     go true e = omega (arith, e)
     go false e = e
 
-heads-count : (hs : List Stretch) → count (joined (stretchRegion sampleHeader) hs) ≡ length hs
+heads-count : (hs : List StretchFound) → count (joined (stretchRegion sampleHeader) hs) ≡ length hs
 heads-count [] = refl
 heads-count (h ∷ hs) = ap suc (heads-count hs)
 
-data-count : (ds : List Stretch) → count (joined (stretchRegion sampleData) ds) ≡ 0
+data-count : (ds : List StretchFound) → count (joined (stretchRegion sampleData) ds) ≡ 0
 data-count [] = refl
 data-count (d ∷ ds) = data-count ds
 

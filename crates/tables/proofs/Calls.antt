@@ -19,7 +19,7 @@ use Rattle.xm.specs.Table.{PatternRow, patternRows, sampleRows, CheckReport, ch
 use Rattle.xm.specs.Table.{sampleNumbers, Tables, Room, roomOf, tablesAfter}
 use Rattle.xm.specs.Asking.{stretchOf, askingFlat, noRow}
 use Rattle.xm.specs.Region.{ofKind}
-use Rattle.xm.specs.Demands.{headsIn, bytesIn, RowUnpacks, RowsUnpack, LoopReads, AcceptedFile, liesAt}
+use Rattle.xm.specs.Demands.{headsIn, bytesIn, RowUnpacks, RowsUnpack, LoopReads, AcceptedFile, stretchAt}
 use Rattle.xm.proofs.Accepted.{accepted-files, number-at, nowhere, loop-at, decodes-at, normal-byte}
 use Rattle.refusal.specs.declared.Refusal.{Refusal}
 use Rattle.walk.specs.declared.Verdict.{Verdict}
@@ -80,7 +80,7 @@ module _ (file : List ℕ) (plain : Bytes file) (lent : Tables) (c : CheckReport
 
   -- each sample is handed back as the content's stretch,
   pub filled-asked : (number : ℕ) → number < length (sampleRows (c .found))
-      → askingFlat file (filled .samples) number ≡ gives (liesAt (sampleRows (c .found)) number)
+      → askingFlat file (filled .samples) number ≡ gives (stretchAt (sampleRows (c .found)) number)
   unfolding tablesAfter
   filled-asked number low = rw accepted (found .asked .flat (drop (length (joined sampleNumbers (sampleRows (c .found)))) (lent .samples)) number low)
 

@@ -11,7 +11,7 @@ use Rattle.xm.specs.ModuleKind.{ModuleKind}
 use Rattle.xm.specs.Got.{got, AllHold}
 use Rattle.xm.specs.Format.{each}
 use Rattle.xm.specs.Header.{kindAt}
-use Rattle.xm.specs.Sample.{headBytes, dataSize, Stretch, readHead, readData, headFormat, dataFormat, SamplesFound}
+use Rattle.xm.specs.Sample.{headBytes, dataSize, StretchFound, readHead, readData, headFormat, dataFormat, SamplesFound}
 use Rattle.xm.specs.Instrument.{instrumentSizeAt, countAt, sampleHeadSizeAt, fieldsOf, instrumentTests, InstrumentFound, readInstrument, instrumentFormat}
 use Rattle.xm.specs.Module.{fileMost}
 use Rattle.xm.specs.Table.{sampleCount, sampleRowAt, sampleRow, sampleRowsOf, sampleRowsIn}
@@ -29,16 +29,16 @@ use Rattle.tables.specs.Place.{dataBefore, dataStart, dataEnd, Instrumen
 use Rattle.tables.proofs.Reading.{reads-next}
 
 -- One header, and the data that it says
-pub head-found : (size place : ℕ) (s : List ℕ) {i : Stretch} {n : ℕ} → readHead size place s ≡ got i n
+pub head-found : (size place : ℕ) (s : List ℕ) {i : StretchFound} {n : ℕ} → readHead size place s ≡ got i n
     → (i ≡ record { place = place; size = size; bytes = headBytes size s }) × (n ≡ size)
 unfolding readHead
 head-found size place s e = passed _ _ e λ h e. (sym (got-value e), sym (got-used e))
 
-data-found : (head : List ℕ) (place : ℕ) (s : List ℕ) {i : Stretch} {n : ℕ} → readData head place s ≡ got i n → (i .place ≡ place) × (n ≡ dataSize head)
+data-found : (head : List ℕ) (place : ℕ) (s : List ℕ) {i : StretchFound} {n : ℕ} → readData head place s ≡ got i n → (i .place ≡ place) × (n ≡ dataSize head)
 unfolding readData
-data-found head place s e = passed _ _ e λ h e. (ap Stretch.place (sym (got-value e)), sym (got-used e))
+data-found head place s e = passed _ _ e λ h e. (ap StretchFound.place (sym (got-value e)), sym (got-used e))
 
-row-first : (h d : Stretch) (place bytesPlace size : ℕ) (head : List ℕ) → h ≡ record { place = place; size = size; bytes = head } → d .place ≡ bytesPlace
+row-first : (h d : StretchFound) (place bytesPlace size : ℕ) (head : List ℕ) → h ≡ record { place = place; size = size; bytes = head } → d .place ≡ bytesPlace
     → sampleRow h d ≡ sampleRowAt place bytesPlace head
 row-first h d place bytesPlace size head p q = rw (p, q)
 
@@ -46,18 +46,18 @@ rows-path : (k H : ℕ) {a b c e : ℕ} {s t : List ℕ} → a ≡ b → c ≡ e
 rows-path k H p q r = cc
 
 -- All headers, and then the data of each: the rows, and the bytes of the data
-record SamplesRead (k H place bytesPlace : ℕ) (s : List ℕ) (heads bytes : List Stretch) (used : ℕ) : Type 0 where
+record SamplesRead (k H place bytesPlace : ℕ) (s : List ℕ) (heads bytes : List StretchFound) (used : ℕ) : Type 0 where
   rows : sampleRowsOf heads bytes ≡ rowsFrom k H place bytesPlace s
   long : used ≡ dataBefore k H s
 
-samples-more : (k H place bytesPlace : ℕ) (s t : List ℕ) (h d : Stretch) (hs ds : List Stretch) (a c f : ℕ) → readHead H place s ≡ got h a
+samples-more : (k H place bytesPlace : ℕ) (s t : List ℕ) (h d : StretchFound) (hs ds : List StretchFound) (a c f : ℕ) → readHead H place s ≡ got h a
     → readData (h .bytes) bytesPlace t ≡ got d c
     → SamplesRead k H (place + a) (bytesPlace + c) (drop a s) hs ds f → SamplesRead (suc k) H place bytesPlace s (h ∷ hs) (d ∷ ds) (c + f)
 unfolding dataBefore rowsFrom
 samples-more k H place bytesPlace s t h d hs ds a c f eh ed w =
     let u = head-found H place s eh in
     let v = data-found (h .bytes) bytesPlace t ed in
-    let size : c ≡ dataSize (headBytes H s) = v .1 ∙ ap (λ (x : Stretch). dataSize (x .bytes)) (u .0) in
+    let size : c ≡ dataSize (headBytes H s) = v .1 ∙ ap (λ (x : StretchFound). dataSize (x .bytes)) (u .0) in
     let behind : drop a s ≡ drop H s = ap (λ (n : ℕ). drop n s) (u .1) in
     record {
       rows = cons-path (row-first h d place bytesPlace H (headBytes H s) (u .0) (v .0))
@@ -65,19 +65,19 @@ samples-more k H place bytesPlace s t h d hs ds a c f eh ed w =
       long = omega (arith, size, w .long, ap (dataBefore k H) behind);
     }
 
-samples-read : (k H place bytesPlace : ℕ) (s t : List ℕ) (heads bytes : List Stretch) (n m : ℕ) → each headFormat .read (replicate k H) place s ≡ got heads n
-    → each dataFormat .read (map Stretch.bytes heads) bytesPlace t ≡ got bytes m → SamplesRead k H place bytesPlace s heads bytes m
+samples-read : (k H place bytesPlace : ℕ) (s t : List ℕ) (heads bytes : List StretchFound) (n m : ℕ) → each headFormat .read (replicate k H) place s ≡ got heads n
+    → each dataFormat .read (map StretchFound.bytes heads) bytesPlace t ≡ got bytes m → SamplesRead k H place bytesPlace s heads bytes m
 unfolding dataBefore rowsFrom
 samples-read zero H place bytesPlace s t heads bytes n m eh ed =
-    got-carry (λ (hs : List Stretch) (u : ℕ). each dataFormat .read (map Stretch.bytes hs) bytesPlace t ≡ got bytes m
+    got-carry (λ (hs : List StretchFound) (u : ℕ). each dataFormat .read (map StretchFound.bytes hs) bytesPlace t ≡ got bytes m
     → SamplesRead 0 H place bytesPlace s hs bytes m) eh
     (λ e. record { rows = refl; long = sym (got-used e) }) ed
 samples-read (suc k) H place bytesPlace s t heads bytes n m eh ed =
     bind-got _ _ eh λ h a ea e₁. bind-got _ _ e₁ λ hs b eb e₂.
-    got-carry (λ (hs : List Stretch) (u : ℕ). each dataFormat .read (map Stretch.bytes hs) bytesPlace t ≡ got bytes m
+    got-carry (λ (hs : List StretchFound) (u : ℕ). each dataFormat .read (map StretchFound.bytes hs) bytesPlace t ≡ got bytes m
     → SamplesRead (suc k) H place bytesPlace s hs bytes m) e₂
     (λ ed. bind-got _ _ ed λ d c ec e₃. bind-got _ _ e₃ λ ds f ef e₄.
-    got-carry (λ (ds : List Stretch) (u : ℕ). SamplesRead (suc k) H place bytesPlace s (h ∷ hs) ds u) e₄
+    got-carry (λ (ds : List StretchFound) (u : ℕ). SamplesRead (suc k) H place bytesPlace s (h ∷ hs) ds u) e₄
     (samples-more k H place bytesPlace s t h d hs ds a c f ea ec (samples-read k H (place + a) (bytesPlace + c) (drop a s) (drop c t) hs ds b f eb ef))) ed
 
 -- Of an instrument without samples no H matters
@@ -130,14 +130,14 @@ module _ (file : List ℕ) (place : ℕ) where
   abbrev H : ℕ
   H = sampleHeadSizeAt fields
 
-  stands-rows : {hs ds : List Stretch} {b : ℕ} → SamplesRead k H (place + I) (place + I + k * H) (drop I from) hs ds b
+  stands-rows : {hs ds : List StretchFound} {b : ℕ} → SamplesRead k H (place + I) (place + I + k * H) (drop I from) hs ds b
       → sampleRowsOf hs ds ≡ rowsFrom k (headSizeOf k fields) (place + I) (place + I + k * headSizeOf k fields) (drop (place + I) file)
   stands-rows w =
       w .rows
       ∙ rows-path k H refl (ap (λ (n : ℕ). place + I + n) (sym (size-times k fields))) (drop-drop I place file)
       ∙ sym (size-rows k fields (place + I) (place + I + k * headSizeOf k fields) (drop (place + I) file))
 
-  stands-next : {hs ds : List Stretch} {b : ℕ} → SamplesRead k H (place + I) (place + I + k * H) (drop I from) hs ds b
+  stands-next : {hs ds : List StretchFound} {b : ℕ} → SamplesRead k H (place + I) (place + I + k * H) (drop I from) hs ds b
       → place + (I + (k * H + b)) ≡ dataEnd file (instrumentAt file place)
   stands-next w =
       let last : dataBefore k (headSizeOf k fields) (drop (place + I) file) ≡ dataBefore k H (drop I from) =

@@ -11,7 +11,7 @@ use Rattle.xm.specs.Format.{Format, each, joined}
 use Rattle.xm.specs.Stored.{writeStored}
 use Rattle.xm.specs.Header.{kindAt}
 use Rattle.xm.specs.PatternInFile.{PatternFound, readPattern, patternFormat}
-use Rattle.xm.specs.Sample.{Stretch}
+use Rattle.xm.specs.Sample.{StretchFound}
 use Rattle.xm.specs.Instrument.{Instrument, InstrumentFound, readInstrument, instrumentView, writeInstrument, instrumentFormat}
 use Rattle.xm.specs.Table.{sampleCount, sampleRowsIn}
 use Rattle.xm.proofs.Number.{bytes-drop}
@@ -205,7 +205,7 @@ module _ (file : List ℕ) (start count : ℕ) where
         → InstrumentsTried file start count (j + 1) (part .next) (samples + part .samples)
     counted-on h b e = instrument-got place _ e λ i n ei q c.
         let k = instrument-keeps kind .keeps place (drop place file) i n (bytes-drop place b) ei in
-        let heads = length-map (i .samples .0) Stretch.bytes in
+        let heads = length-map (i .samples .0) StretchFound.bytes in
         let rows = rows-length (i .samples .0) (i .samples .1) (instrument-tells kind .tells place file i n b ei .sizes) in
         record {
           reached =

@@ -15,7 +15,7 @@ use Rattle.xm.specs.Cell.{lengthBy, fieldsBy, cellAt, readCell, kept, ma
 use Rattle.xm.specs.Stored.{readCells, readStored, allZero, needsNoData, writeStored, cellsOf}
 use Rattle.xm.specs.Header.{kindAt, restartInside, restartOf, trackerAt, readHeader, writeHeader}
 use Rattle.xm.specs.PatternInFile.{PatternFound, readPattern, writePattern}
-use Rattle.xm.specs.Sample.{Stretch, Samples, headBytes, lengthOf, loopKind, loopFrom, loopCount, adpcm, dataSize, readHead, readData, smallestHead}
+use Rattle.xm.specs.Sample.{StretchFound, Samples, headBytes, lengthOf, loopKind, loopFrom, loopCount, adpcm, dataSize, readHead, readData, smallestHead}
 use Rattle.xm.specs.Instrument.{InstrumentFound, countAt, fieldsOf, readInstrument, writeVoice, writeFields, writeInstrument, instrumentFormat}
 use Rattle.xm.specs.Module.{readWhole, plays}
 use Rattle.xm.specs.Packing.{unpacking, unpackNumbers, unpackAfter, packing, packNumbers, packLoader}
@@ -51,7 +51,7 @@ unfolding readPattern _>>=_ _>>_ ensure checked readStored readCells readCell ce
 long-header = refl
 
 -- A sample of one byte, 5, with another behind it
-pub one-byte : numbersIn Stretch.bytes (readData (1 ∷ replicate 39 0) 0 (5 ∷ 6 ∷ [])) ≡ 1 ∷ 5 ∷ []
+pub one-byte : numbersIn StretchFound.bytes (readData (1 ∷ replicate 39 0) 0 (5 ∷ 6 ∷ [])) ≡ 1 ∷ 5 ∷ []
 unfolding readData dataSize _>>_ ensure checked longAt
 one-byte = refl
 
@@ -72,7 +72,7 @@ pub adpcm-values : adpcmDecoded 3 (0 ∷ 100 ∷ 60 ∷ replicate 13 7 ++ 0x21 �
 unfolding adpcmDecoded chosen halves decoded storedNumbers pairs sums signed
 adpcm-values = refl
 
-pub adpcm-heads : map (λ (type : ℕ). numbersIn Stretch.bytes (readHead 40 0 (adpcmHead 0 type))) (0 ∷ 16 ∷ []) ≡ (40 ∷ adpcmHead 0 0) ∷ [] ∷ []
+pub adpcm-heads : map (λ (type : ℕ). numbersIn StretchFound.bytes (readHead 40 0 (adpcmHead 0 type))) (0 ∷ 16 ∷ []) ≡ (40 ∷ adpcmHead 0 0) ∷ [] ∷ []
 unfolding readHead padded _>>_ ensure checked longAt
 adpcm-heads = refl
 

@@ -14,7 +14,7 @@ use Rattle.xm.specs.Format.{sampleHeader, sampleData, joined, EachGood, 
 use Rattle.xm.specs.ModuleKind.{ModuleKind, normal}
 use Rattle.xm.specs.Got.{got}
 use Rattle.xm.specs.PatternInFile.{PatternFound, GoodStored, patternFormat}
-use Rattle.xm.specs.Sample.{leastHead, Stretch, lengthOf, loopStart, loopLength, loopBits, isWide}
+use Rattle.xm.specs.Sample.{leastHead, StretchFound, lengthOf, loopStart, loopLength, loopBits, isWide}
 use Rattle.xm.specs.Sample.{loops, loopKind, loopFrom, loopCount, headBytes, kindOf, dataSize}
 use Rattle.xm.specs.Header.{kindAt}
 use Rattle.xm.specs.Instrument.{Instrument, InstrumentFound, instrumentView}
@@ -25,9 +25,9 @@ use Rattle.xm.specs.Table.{sampleRowsOf, sampleRowsIn, sampleRows, sampl
 use Rattle.xm.specs.Press.{contentOf}
 use Rattle.xm.specs.Answer.{gives}
 use Rattle.xm.specs.Region.{ofKind}
-use Rattle.xm.specs.Asking.{Lies, asking, stretchOf, askingFlat, askingRows, noRow, liesOf}
+use Rattle.xm.specs.Asking.{Stretch, asking, stretchOf, askingFlat, askingRows, noRow, rowStretch}
 use Rattle.xm.specs.Demands.{headsIn, bytesIn, RowUnpacks, RowsUnpack, FindsRows, HeadStands, HeadsStand, EachSample, RowReads}
-use Rattle.xm.specs.Demands.{LoopReads, RowLoops, RowDecodes, liesAt, Asked, AsksExactly, LoopInside, AcceptedFile, AcceptedFiles}
+use Rattle.xm.specs.Demands.{LoopReads, RowLoops, RowDecodes, stretchAt, Asked, AsksExactly, LoopInside, AcceptedFile, AcceptedFiles}
 use Rattle.xm.proofs.Cut.{padded-at, byte-cut}
 use Rattle.xm.proofs.Got.{pass}
 use Rattle.xm.proofs.Answer.{answer-gives, answer-refuses, tests-fail}
@@ -72,25 +72,25 @@ cut-byte file size place k l =
     ∙ byte-cut size k (drop place file)
     ∙ ap (λ (n : ℕ). cond (ltb k size) n 0) (getD-drop place file k 0)
 
-head-stands : (file : List ℕ) (h : Stretch) → HeadTold file h → HeadStands file (lies h) (h .bytes)
+head-stands : (file : List ℕ) (h : StretchFound) → HeadTold file h → HeadStands file (lies h) (h .bytes)
 head-stands file h t k l = ap (byteAt k) (t .bytes) ∙ cut-byte file (h .size) (h .place) k l
 
-some-stand : (file : List ℕ) (heads : List Stretch) (ls : List Lies) (hs : List (List ℕ)) → All (HeadTold file) heads → HeadsStand file ls hs
-    → HeadsStand file (map lies heads ++ ls) (map Stretch.bytes heads ++ hs)
+some-stand : (file : List ℕ) (heads : List StretchFound) (ls : List Stretch) (hs : List (List ℕ)) → All (HeadTold file) heads → HeadsStand file ls hs
+    → HeadsStand file (map lies heads ++ ls) (map StretchFound.bytes heads ++ hs)
 some-stand file [] ls hs t r = r
 some-stand file (h ∷ heads) ls hs t r = (head-stands file h (t .0), some-stand file heads ls hs (t .1) r)
 
 all-stand : (file : List ℕ) (is : List InstrumentFound) → All (λ (i : InstrumentFound). SamplesTold file (i .samples)) is
-    → HeadsStand file (joined (λ (i : InstrumentFound). map lies (i .samples .0)) is) (joined (λ (i : InstrumentFound). map Stretch.bytes (i .samples .0)) is)
+    → HeadsStand file (joined (λ (i : InstrumentFound). map lies (i .samples .0)) is) (joined (λ (i : InstrumentFound). map StretchFound.bytes (i .samples .0)) is)
 all-stand file [] t = tt
 all-stand file (i ∷ is) t = some-stand file (i .samples .0) _ _ (t .0 .heads) (all-stand file is (t .1))
 
 -- What holds of each sample that is found holds of each row with its header and data
 module _ (file : List ℕ) (P : SampleRow → (head bytes : List ℕ) → Type 0)
-    (one : (h b : Stretch) → HeadTold file h → DataTold file b → b .size ≡ dataSize (h .bytes) → P (sampleRow h b) (h .bytes) (b .bytes)) where
-  some-samples : (heads bytes : List Stretch) (rows : List SampleRow) (hs bs : List (List ℕ))
-      → All (HeadTold file) heads → All (DataTold file) bytes → Sized (map Stretch.bytes heads) bytes → EachSample P rows hs bs
-      → EachSample P (sampleRowsOf heads bytes ++ rows) (map Stretch.bytes heads ++ hs) (map Stretch.bytes bytes ++ bs)
+    (one : (h b : StretchFound) → HeadTold file h → DataTold file b → b .size ≡ dataSize (h .bytes) → P (sampleRow h b) (h .bytes) (b .bytes)) where
+  some-samples : (heads bytes : List StretchFound) (rows : List SampleRow) (hs bs : List (List ℕ))
+      → All (HeadTold file) heads → All (DataTold file) bytes → Sized (map StretchFound.bytes heads) bytes → EachSample P rows hs bs
+      → EachSample P (sampleRowsOf heads bytes ++ rows) (map StretchFound.bytes heads ++ hs) (map StretchFound.bytes bytes ++ bs)
   some-samples [] [] rows hs bs t d z r = r
   some-samples [] (b ∷ bytes) rows hs bs t d z r = absurd z
   some-samples (h ∷ heads) [] rows hs bs t d z r = absurd z
@@ -98,8 +98,8 @@ module _ (file : List ℕ) (P : SampleRow → (head bytes : List ℕ) → Type 0
 
   all-samples : (is : List InstrumentFound) → All (λ (i : InstrumentFound). SamplesTold file (i .samples)) is
       → EachSample P (joined sampleRowsIn is)
-      (joined (λ (i : InstrumentFound). map Stretch.bytes (i .samples .0)) is)
-      (joined (λ (i : InstrumentFound). map Stretch.bytes (i .samples .1)) is)
+      (joined (λ (i : InstrumentFound). map StretchFound.bytes (i .samples .0)) is)
+      (joined (λ (i : InstrumentFound). map StretchFound.bytes (i .samples .1)) is)
   all-samples [] t = tt
   all-samples (i ∷ is) t = some-samples (i .samples .0) (i .samples .1) _ _ _ (t .0 .heads) (t .0 .bytes) (t .0 .sizes) (all-samples is (t .1))
 
@@ -109,7 +109,7 @@ module _ (file : List ℕ) (P : SampleRow → (head bytes : List ℕ) → Type 0
   content-samples is t = rw (joined-map _ instrumentView is, joined-map _ instrumentView is) (all-samples is t)
 
 -- A row says what its header says
-row-reads : (h b : Stretch) → RowReads (sampleRow h b) (h .bytes) (b .bytes)
+row-reads : (h b : StretchFound) → RowReads (sampleRow h b) (h .bytes) (b .bytes)
 unfolding dataSize
 row-reads h b = (refl, refl, refl, refl)
 
@@ -128,7 +128,7 @@ samples-inside true false start size n h = omega (arith, h refl)
 samples-inside false wide start size n h = omega arith
 
 -- Its loop is its header's
-row-loops : (file : List ℕ) (h b : Stretch) → HeadTold file h → RowLoops (sampleRow h b) (h .bytes) (b .bytes)
+row-loops : (file : List ℕ) (h b : StretchFound) → HeadTold file h → RowLoops (sampleRow h b) (h .bytes) (b .bytes)
 unfolding loopKind loopFrom loopCount
 row-loops file h b t =
     let head = h .bytes in (
@@ -143,7 +143,7 @@ row-loops file h b t =
     few false n = omega arith
 
 -- Its stretch is the data, and decodes
-row-decodes : (file : List ℕ) (h b : Stretch) → HeadTold file h → DataTold file b → b .size ≡ dataSize (h .bytes)
+row-decodes : (file : List ℕ) (h b : StretchFound) → HeadTold file h → DataTold file b → b .size ≡ dataSize (h .bytes)
     → RowDecodes file (sampleRow h b) (h .bytes) (b .bytes)
 unfolding loopFrom loopCount
 row-decodes file h b t d z =
@@ -157,7 +157,7 @@ row-decodes file h b t d z =
     )
 
 -- An instrument's own rows stand where its row says
-pub rows-length : (heads bytes : List Stretch) → Sized (map Stretch.bytes heads) bytes → length (sampleRowsOf heads bytes) ≡ length heads
+pub rows-length : (heads bytes : List StretchFound) → Sized (map StretchFound.bytes heads) bytes → length (sampleRowsOf heads bytes) ≡ length heads
 rows-length [] bytes z = refl
 rows-length (h ∷ hs) [] z = absurd z
 rows-length (h ∷ hs) (b ∷ bs) z = ap suc (rows-length hs bs (z .1))
@@ -213,22 +213,22 @@ module _ (file : List ℕ) (rows : List SampleRow) (heads bytes : List (List ℕ
   row-inside : (number : ℕ) → number < length rows → getD rows number noRow .dataPlace + getD rows number noRow .size ≤ length file
   row-inside number h = all-at (λ (row : SampleRow). row .dataPlace + row .size ≤ length file) rows number noRow inside h
 
-  asked-flat : (stale : List ℕ) (number : ℕ) → number < length rows → askingFlat file (joined sampleNumbers rows ++ stale) number ≡ gives (liesAt rows number)
+  asked-flat : (stale : List ℕ) (number : ℕ) → number < length rows → askingFlat file (joined sampleNumbers rows ++ stale) number ≡ gives (stretchAt rows number)
   asked-flat stale number h =
       let table = joined sampleNumbers rows ++ stale in
       let start = sampleStride * number in
       let column = number-at sampleStride sampleNumbers (λ row. refl) rows noRow stale number in
-      let lies : _≡_ {A = Lies} (record { place = getD table (start + 1) 0; size = getD table (start + 2) 0 }) (liesAt rows number) =
+      let lies : _≡_ {A = Stretch} (record { place = getD table (start + 1) 0; size = getD table (start + 2) 0 }) (stretchAt rows number) =
       ap₂ (λ (p s : ℕ). record { place = p; size = s }) (column 1 h (omega arith)) (column 2 h (omega arith)) in
       ap (asking file (length table / sampleStride) number) lies
-      ∙ asks-exactly file (length table / sampleStride) number (liesAt rows number) .0
+      ∙ asks-exactly file (length table / sampleStride) number (stretchAt rows number) .0
       (omega (arith, length-append (joined sampleNumbers rows) stale, joined-length sampleStride sampleNumbers (λ row. refl) rows), row-inside number h)
 
-  asked-record : (stale : List SampleRow) (number : ℕ) → number < length rows → askingRows file (rows ++ stale) number ≡ gives (liesAt rows number)
+  asked-record : (stale : List SampleRow) (number : ℕ) → number < length rows → askingRows file (rows ++ stale) number ≡ gives (stretchAt rows number)
   asked-record stale number h =
       let same : getD (rows ++ stale) number noRow ≡ getD rows number noRow = List·getD-append rows stale noRow number h in
-      ap (λ (row : SampleRow). asking file (length (rows ++ stale)) number (liesOf row)) same
-      ∙ asks-exactly file (length (rows ++ stale)) number (liesAt rows number) .0 (omega (arith, length-append rows stale), row-inside number h)
+      ap (λ (row : SampleRow). asking file (length (rows ++ stale)) number (rowStretch row)) same
+      ∙ asks-exactly file (length (rows ++ stale)) number (stretchAt rows number) .0 (omega (arith, length-append rows stale), row-inside number h)
 
   asked-rows : Asked file rows bytes
   asked-rows = record {
@@ -257,15 +257,15 @@ rows-unpack file channels [] low high t g = tt
 rows-unpack file channels (p ∷ ps) low high t g = (row-unpacks file channels p low high (t .0) (g .0), rows-unpack file channels ps low high (t .1) (g .1))
 
 -- A loop lies inside its sample
-loop-inside : (file : List ℕ) (head : Stretch) → HeadTold file head → LoopInside (head .bytes)
+loop-inside : (file : List ℕ) (head : StretchFound) → HeadTold file head → LoopInside (head .bytes)
 loop-inside file head t q = omega (arith, t .tests .1 .1 .1 .0 q)
 
 -- In a normal file no sample header's region is too short
 normal-heads : (file : List ℕ) (found : Found) (end : ℕ) → Bytes file → moduleFormat normal .read tt 0 file ≡ got found end
-    → All (λ (l : Lies). leastHead ≤ l .size) (joined (λ (i : InstrumentFound). map lies (i .samples .0)) (found .1 .1))
+    → All (λ (l : Stretch). leastHead ≤ l .size) (joined (λ (i : InstrumentFound). map lies (i .samples .0)) (found .1 .1))
 normal-heads file found end b e =
-    all-joined (λ (i : InstrumentFound). All (λ (h : Stretch). leastHead ≤ h .size) (i .samples .0)) _ _
-    (λ i w. all-map (λ (h : Stretch). leastHead ≤ h .size) _ lies (λ h l. l) (i .samples .0) w) (found .1 .1)
+    all-joined (λ (i : InstrumentFound). All (λ (h : StretchFound). leastHead ≤ h .size) (i .samples .0)) _ _
+    (λ i w. all-map (λ (h : StretchFound). leastHead ≤ h .size) _ lies (λ h l. l) (i .samples .0) w) (found .1 .1)
     (module-told normal normal-wide file found end b e .1)
 
 pub accepted-files : AcceptedFiles
@@ -305,14 +305,14 @@ accepted-files file found end b e =
           asked-rows file (sampleRows found) _ _ inside decode;
       loops-inside =
           all-map (λ (i : InstrumentFound). SamplesTold file (i .samples)) _ instrumentView
-          (λ i s. all-map (HeadTold file) LoopInside Stretch.bytes (loop-inside file) (i .samples .0) (s .heads)) (found .1 .1) (t .instruments);
+          (λ i s. all-map (HeadTold file) LoopInside StretchFound.bytes (loop-inside file) (i .samples .0) (s .heads)) (found .1 .1) (t .instruments);
     }
 
 -- The header of a sample, where its row says that it stands and as far as its region goes: each byte, and the length that its first four say
-abbrev pub nowhere : Lies
+abbrev pub nowhere : Stretch
 nowhere = record { place = 0; size = 0 }
 
-stands-at : (file : List ℕ) (ls : List Lies) (heads : List (List ℕ)) (number : ℕ) → number < length ls → HeadsStand file ls heads
+stands-at : (file : List ℕ) (ls : List Stretch) (heads : List (List ℕ)) (number : ℕ) → number < length ls → HeadsStand file ls heads
     → HeadStands file (getD ls number nowhere) (getD heads number [])
 stands-at file [] heads number h e = absurd (omega arith)
 stands-at file (x ∷ ls) [] number h e = absurd e
@@ -334,18 +334,18 @@ module _ (file : List ℕ) (found : Found) (end : ℕ) (accepted : AcceptedFile 
   bytesAt = getD (bytesIn (contentOf found)) number []
 
   -- what is read there, H being the size of the header's region
-  abbrev heads : List Lies
+  abbrev heads : List Stretch
   heads = ofKind sampleHeader (regionsOf found)
 
   abbrev pub headIn : List ℕ
   headIn = headBytes (getD heads number nowhere .size) (drop (row .headerPlace) file)
 
   low-head : number < length heads
-  low-head = omega (arith, ap length (accepted .tables .heads), length-map heads Lies.place, length-map (sampleRows found) SampleRow.headerPlace)
+  low-head = omega (arith, ap length (accepted .tables .heads), length-map heads Stretch.place, length-map (sampleRows found) SampleRow.headerPlace)
 
   head-place : getD heads number nowhere .place ≡ row .headerPlace
   head-place =
-      sym (List·getD-map Lies.place heads number nowhere)
+      sym (List·getD-map Stretch.place heads number nowhere)
       ∙ ap (λ (all : List ℕ). getD all number 0) (accepted .tables .heads)
       ∙ List·getD-map SampleRow.headerPlace (sampleRows found) number noRow
 
@@ -374,5 +374,5 @@ module _ (file : List ℕ) (found : Found) (end : ℕ) (accepted : AcceptedFile 
   -- In a normal file nothing of a header is cut off
   pub normal-byte : found .0 .kind ≡ normal → (k : ℕ) → k < leastHead → byteAt k headIn ≡ byteAt (row .headerPlace + k) file
   normal-byte q k l =
-      let wide = all-at (λ (l : Lies). leastHead ≤ l .size) heads number nowhere (accepted .heads-whole q) low-head in
+      let wide = all-at (λ (l : Stretch). leastHead ≤ l .size) heads number nowhere (accepted .heads-whole q) low-head in
       cut-byte file (getD heads number nowhere .size) (row .headerPlace) k l ∙ rw (lt-ltb k (getD heads number nowhere .size) (omega arith))

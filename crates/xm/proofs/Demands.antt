@@ -12,7 +12,7 @@ use Rattle.xm.specs.Got.{Refusal, got, refused, AllHold}
 use Rattle.xm.specs.Format.{joined, All}
 use Rattle.xm.specs.Answer.{Answer, gives, refuses, behind, numbers, inFront, loaderNumber}
 use Rattle.xm.specs.Header.{Header, songLengthAt, restartAt, restartInside, restartOf, headerOf, readHeader, kindAt}
-use Rattle.xm.specs.Sample.{Stretch}
+use Rattle.xm.specs.Sample.{StretchFound}
 use Rattle.xm.specs.Instrument.{Instrument, InstrumentFound, instrumentView}
 use Rattle.xm.specs.Module.{Found, Content, moduleFormat, fileMost, readFile, plays}
 use Rattle.xm.specs.Delta.{sums, storedNumbers, decoded, decoding, coding, countWritten, deltaMost, limitTest}
@@ -56,8 +56,8 @@ samples-counted : (file : List ℕ) (is : List InstrumentFound) → All (λ (i :
 samples-counted file [] t = refl
 samples-counted file (i ∷ is) t =
     length-append (sampleRowsIn i) (joined sampleRowsIn is)
-    ∙ ap₂ _+_ (rows-length (i .samples .0) (i .samples .1) (t .0 .sizes) ∙ sym (length-map (i .samples .0) Stretch.bytes)) (samples-counted file is (t .1))
-    ∙ sym (length-append (map Stretch.bytes (i .samples .0)) (joined (λ (x : Instrument). x .samples .0) (map instrumentView is)))
+    ∙ ap₂ _+_ (rows-length (i .samples .0) (i .samples .1) (t .0 .sizes) ∙ sym (length-map (i .samples .0) StretchFound.bytes)) (samples-counted file is (t .1))
+    ∙ sym (length-append (map StretchFound.bytes (i .samples .0)) (joined (λ (x : Instrument). x .samples .0) (map instrumentView is)))
 
 found-counts : (file : List ℕ) (found : Found) (end : ℕ) → Bytes file → readFile file ≡ got found end
     → checkNumbers file ≡ 0 ∷ 0 ∷ end ∷ countsOf (contentOf found)

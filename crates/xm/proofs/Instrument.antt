@@ -12,7 +12,7 @@ use lib.Seq.{drop-at, drop-drop, length-take-le}
 use Rattle.xm.specs.Number.{Bytes, byteAt, wordAt, longAt, part, byte, word, long}
 use Rattle.xm.specs.Got.{got, AllHold, present, atLeast, atMost, when, _at_}
 use Rattle.xm.specs.Format.{each, joined, flat, EachGood, All}
-use Rattle.xm.specs.Sample.{leastHead, Samples, SamplesFound, samplesFormat, Stretch, readHead, headFormat}
+use Rattle.xm.specs.Sample.{leastHead, Samples, SamplesFound, samplesFormat, StretchFound, readHead, headFormat}
 use Rattle.xm.specs.Instrument.{leastInstrument, samplesMost, instrumentTests, Instrument, InstrumentFound, voiceSize, voiceOf, readInstrument}
 use Rattle.xm.specs.Instrument.{writeVoice, countOf, writeInstrument, GoodVoice, GoodInstrument, instrumentView, instrumentFormat, fieldsOf}
 use Rattle.xm.specs.Region.{Adjoin}
@@ -295,13 +295,13 @@ same-head : (I k H : ℕ) (s t : List ℕ) (n : ℕ) → TestsOf I k H (length s
 same-head I zero H s t n h l a = refl
 same-head I (suc k) H s t n h l a = ap (replicate (suc k)) (sym (agree-long a 29 (omega (arith, least-size I (suc k) H (length s) h))))
 
-pub heads-used : (k H place : ℕ) (s : List ℕ) (is : List Stretch) (n : ℕ) → each headFormat .read (replicate k H) place s ≡ got is n → n ≡ k * H
+pub heads-used : (k H place : ℕ) (s : List ℕ) (is : List StretchFound) (n : ℕ) → each headFormat .read (replicate k H) place s ≡ got is n → n ≡ k * H
 unfolding readHead
-heads-used zero H place s is n e = got-carry (λ (r : List Stretch) (u : ℕ). u ≡ 0 * H) e (sym (zero-mul H))
+heads-used zero H place s is n e = got-carry (λ (r : List StretchFound) (u : ℕ). u ≡ 0 * H) e (sym (zero-mul H))
 heads-used (suc k) H place s is n e =
     bind-got _ _ e λ i m ei e₁. bind-got _ _ e₁ λ js j ej e₂.
     passed _ _ ei λ h ei.
-    got-carry (λ (r : List Stretch) (u : ℕ). u ≡ suc k * H) e₂ (omega (arith, got-used ei, heads-used k H (place + m) (drop m s) js j ej, suc-mul k H))
+    got-carry (λ (r : List StretchFound) (u : ℕ). u ≡ suc k * H) e₂ (omega (arith, got-used ei, heads-used k H (place + m) (drop m s) js j ej, suc-mul k H))
 
 pub samples-used : (k H place : ℕ) (s : List ℕ) (v : SamplesFound) (n : ℕ) → samplesFormat .read (replicate k H) place s ≡ got v n → k * H ≤ n
 samples-used k H place s v n e =
@@ -358,33 +358,33 @@ instrument-tells kind = record {
 }
 
 -- The sample headers found are of H bytes each
-heads-sized : (k H place : ℕ) (s : List ℕ) (is : List Stretch) (n : ℕ) → each headFormat .read (replicate k H) place s ≡ got is n
-    → All (λ (h : Stretch). h .size ≡ H) is
+heads-sized : (k H place : ℕ) (s : List ℕ) (is : List StretchFound) (n : ℕ) → each headFormat .read (replicate k H) place s ≡ got is n
+    → All (λ (h : StretchFound). h .size ≡ H) is
 unfolding readHead
-heads-sized zero H place s is n e = got-carry (λ (r : List Stretch) (u : ℕ). All (λ (h : Stretch). h .size ≡ H) r) e tt
+heads-sized zero H place s is n e = got-carry (λ (r : List StretchFound) (u : ℕ). All (λ (h : StretchFound). h .size ≡ H) r) e tt
 heads-sized (suc k) H place s is n e =
     bind-got _ _ e λ i m ei e₁. bind-got _ _ e₁ λ js j ej e₂.
     passed _ _ ei λ h ei.
-    got-carry (λ (r : List Stretch) (u : ℕ). All (λ (h : Stretch). h .size ≡ H) r) e₂
-    (ap Stretch.size (sym (got-value ei)), heads-sized k H (place + m) (drop m s) js j ej)
+    got-carry (λ (r : List StretchFound) (u : ℕ). All (λ (h : StretchFound). h .size ≡ H) r) e₂
+    (ap StretchFound.size (sym (got-value ei)), heads-sized k H (place + m) (drop m s) js j ej)
 
 pub samples-sizes : (k H place : ℕ) (s : List ℕ) (v : SamplesFound) (n : ℕ) → samplesFormat .read (replicate k H) place s ≡ got v n
-    → All (λ (h : Stretch). h .size ≡ H) (v .0)
+    → All (λ (h : StretchFound). h .size ≡ H) (v .0)
 samples-sizes k H place s v n e =
     bind-got _ _ e λ i m ei e₁. bind-got _ _ e₁ λ j u ej e₂.
-    got-carry (λ (r : SamplesFound) (t : ℕ). All (λ (h : Stretch). h .size ≡ H) (r .0)) e₂ (heads-sized k H place s i m ei)
+    got-carry (λ (r : SamplesFound) (t : ℕ). All (λ (h : StretchFound). h .size ≡ H) (r .0)) e₂ (heads-sized k H place s i m ei)
 
-pub all-low : (low H : ℕ) (is : List Stretch) → low ≤ H → All (λ (h : Stretch). h .size ≡ H) is → All (λ (h : Stretch). low ≤ h .size) is
+pub all-low : (low H : ℕ) (is : List StretchFound) → low ≤ H → All (λ (h : StretchFound). h .size ≡ H) is → All (λ (h : StretchFound). low ≤ h .size) is
 all-low low H [] l a = tt
 all-low low H (i ∷ is) l a = (omega (arith, a .0), all-low low H is l (a .1))
 
 -- so in a normal file of 40 or more
 samples-wide : (k H : ℕ) (v : SamplesFound) → (ltb 0 k ≡ true → leastHead ≤ H) → length (v .0) ≡ k
-    → All (λ (h : Stretch). h .size ≡ H) (v .0) → All (λ (h : Stretch). leastHead ≤ h .size) (v .0)
+    → All (λ (h : StretchFound). h .size ≡ H) (v .0) → All (λ (h : StretchFound). leastHead ≤ h .size) (v .0)
 samples-wide k H ([], ds) l c a = tt
 samples-wide k H (i ∷ is, ds) l c a = all-low leastHead H (i ∷ is) (l (lt-ltb 0 k (omega (arith, c)))) a
 
-pub normal-wide : Tells (instrumentFormat normal) tt (λ file i. All (λ (h : Stretch). leastHead ≤ h .size) (i .samples .0))
+pub normal-wide : Tells (instrumentFormat normal) tt (λ file i. All (λ (h : StretchFound). leastHead ≤ h .size) (i .samples .0))
 unfolding readInstrument
 normal-wide = record {
   tells = λ place file i n b e.
@@ -395,6 +395,6 @@ normal-wide = record {
       let c : length (v .0) ≡ k = bind-got _ _ ev λ i u ei e₁. bind-got _ _ e₁ λ j t ej e₂.
       got-carry (λ (r : SamplesFound) (q : ℕ). length (r .0) ≡ k) e₂
       (read-length headFormat (replicate k H) (place + longAt 0 s) (drop (longAt 0 s) s) i u ei ∙ length-replicate k H) in
-      got-carry (λ (r : InstrumentFound) (u : ℕ). All (λ (h : Stretch). leastHead ≤ h .size) (r .samples .0)) e
+      got-carry (λ (r : InstrumentFound) (u : ℕ). All (λ (h : StretchFound). leastHead ≤ h .size) (r .samples .0)) e
       (samples-wide k H v (h .1 .1 .1 .1 .1 .0) c (samples-sizes k H (place + longAt 0 s) (drop (longAt 0 s) s) v m ev));
 }

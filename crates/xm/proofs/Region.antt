@@ -7,7 +7,7 @@ use native.Mathlib.Omega.{arith}
 use lib.Dec.{eqb}
 use lib.ListN.{length}
 use Rattle.xm.specs.Format.{Kind, Region, joined, All}
-use Rattle.xm.specs.Asking.{Lies}
+use Rattle.xm.specs.Asking.{Stretch}
 use Rattle.xm.specs.Region.{Adjoin, regionAt, ofKind}
 use Rattle.xm.specs.Demands.{RegionsApart}
 use Rattle.xm.specs.Structure.{kindNumber}
@@ -43,7 +43,7 @@ adjoin-regions file rs e c h = record {
 }
 
 -- All lie before the end, and so do those of one kind
-abbrev pub Before : ℕ → Lies → Type 0
+abbrev pub Before : ℕ → Stretch → Type 0
 Before e l = l .place + l .size ≤ e
 
 pub kind-before : (kind : Kind) (a e : ℕ) (rs : List Region) → Adjoin a rs e → All (Before e) (ofKind kind rs)
@@ -67,4 +67,4 @@ kind-append kind (r ∷ rs) ts = go (eqb (kindNumber kind) (kindNumber (r .kind)
 
 pub kind-joined : {A : Type 0} (kind : Kind) (f : A → List Region) (xs : List A) → ofKind kind (joined f xs) ≡ joined (λ (x : A). ofKind kind (f x)) xs
 kind-joined kind f [] = refl
-kind-joined kind f (x ∷ xs) = kind-append kind (f x) (joined f xs) ∙ ap (λ (l : List Lies). ofKind kind (f x) ++ l) (kind-joined kind f xs)
+kind-joined kind f (x ∷ xs) = kind-append kind (f x) (joined f xs) ∙ ap (λ (l : List Stretch). ofKind kind (f x) ++ l) (kind-joined kind f xs)

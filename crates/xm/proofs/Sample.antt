@@ -11,7 +11,7 @@ use lib.Seq.{length-take-le, take-at}
 use Rattle.xm.specs.Number.{part}
 use Rattle.xm.specs.Got.{got, refused, AllHold, present, unlike, when, _at_, Got, _>>=_}
 use Rattle.xm.specs.Format.{each, All, EachGood, joined}
-use Rattle.xm.specs.Sample.{leastHead, headBytes, kindOf, isWide, adpcm, dataSize, headTests, Stretch, readHead, headFormat}
+use Rattle.xm.specs.Sample.{leastHead, headBytes, kindOf, isWide, adpcm, dataSize, headTests, StretchFound, readHead, headFormat}
 use Rattle.xm.specs.Sample.{readData, dataFormat, SamplesFound, samplesFormat, cutHeadFormat, cutSamplesFormat, smallestHead}
 use Rattle.xm.specs.ModuleKind.{padded, trimmed}
 use Rattle.xm.specs.Region.{Adjoin}
@@ -45,11 +45,11 @@ pub thirteen-exactly : ThirteenExactly
 thirteen-exactly = thirteen-so
 
 -- What is found of a stretch, at its place of the file
-pub record HeadTold (file : List ℕ) (i : Stretch) : Type 0 where
+pub record HeadTold (file : List ℕ) (i : StretchFound) : Type 0 where
   pub bytes : i .bytes ≡ headBytes (i .size) (drop (i .place) file)
   pub tests : AllHold (headTests 0 (i .bytes))
 
-pub record DataTold (file : List ℕ) (i : Stretch) : Type 0 where
+pub record DataTold (file : List ℕ) (i : StretchFound) : Type 0 where
   pub bytes : i .bytes ≡ part (i .place) (i .size) file
   pub long : length (i .bytes) ≡ i .size
 
@@ -83,14 +83,14 @@ head-keeps size l = record {
   keeps = λ place s i n b e.
       passed _ _ e λ h e.
       let z = padded-length leastHead (take size s) in
-      got-carry (λ (r : Stretch) (t : ℕ). Held headFormat size place s r t) e
+      got-carry (λ (r : StretchFound) (t : ℕ). Held headFormat size place s r t) e
       (record { inside = h .0; good = record { size = z; plain = padded-bytes leastHead (bytes-take size b); tests = h .1 }; short = omega arith });
 }
 
 pub head-adjoins : (size : ℕ) → Adjoins headFormat size
 unfolding readHead
 head-adjoins size = record {
-  adjoins = λ place s i n e. passed _ _ e λ h e. got-carry (λ (r : Stretch) (t : ℕ). Adjoin place (headFormat .regions r) (place + t)) e (refl, refl);
+  adjoins = λ place s i n e. passed _ _ e λ h e. got-carry (λ (r : StretchFound) (t : ℕ). Adjoin place (headFormat .regions r) (place + t)) e (refl, refl);
 }
 
 pub head-firm : (size : ℕ) → Firm headFormat size
@@ -98,7 +98,7 @@ unfolding readHead
 head-firm size = record {
   firm = λ place s t i n e a.
       passed _ _ e λ h e.
-      got-carry (λ (r : Stretch) (u : ℕ). u ≡ n → readHead size place t ≡ got r u) e
+      got-carry (λ (r : StretchFound) (u : ℕ). u ≡ n → readHead size place t ≡ got r u) e
       (λ q.
       let z : headBytes size s ≡ headBytes size t = ap (padded leastHead) (agree-take a size (omega arith)) in
       pass _ (omega (arith, a .long), rw (← z) (h .1)) (rw (← z) refl)) refl;
@@ -108,7 +108,7 @@ pub head-tells : (size : ℕ) → Tells headFormat size HeadTold
 unfolding readHead
 head-tells size = record {
   tells = λ place file i n b e.
-      passed _ _ e λ h e. got-carry (λ (r : Stretch) (u : ℕ). HeadTold file r) e (record { bytes = refl; tests = h .1 });
+      passed _ _ e λ h e. got-carry (λ (r : StretchFound) (u : ℕ). HeadTold file r) e (record { bytes = refl; tests = h .1 });
 }
 
 -- Sample headers of which so many bytes are written
@@ -135,7 +135,7 @@ cut-keeps size = record {
   keeps = λ place s i n b e.
       passed _ _ e λ h e.
       let z = padded-length leastHead (take size s) in
-      got-carry (λ (r : Stretch) (t : ℕ). Held (cutHeadFormat size) size place s r t) e
+      got-carry (λ (r : StretchFound) (t : ℕ). Held (cutHeadFormat size) size place s r t) e
       (record {
         inside = h .0;
         good = record {
@@ -164,14 +164,14 @@ data-keeps head = record {
   keeps = λ place s i n b e.
       passed _ _ e λ h e.
       let z : length (take (dataSize head) s) ≡ dataSize head = length-take-le (dataSize head) s (h .0) in
-      got-carry (λ (r : Stretch) (t : ℕ). Held dataFormat head place s r t) e
+      got-carry (λ (r : StretchFound) (t : ℕ). Held dataFormat head place s r t) e
       (record { inside = h .0; good = record { size = z; plain = bytes-take (dataSize head) b }; short = omega arith });
 }
 
 pub data-adjoins : (head : List ℕ) → Adjoins dataFormat head
 unfolding readData
 data-adjoins head = record {
-  adjoins = λ place s i n e. passed _ _ e λ h e. got-carry (λ (r : Stretch) (t : ℕ). Adjoin place (dataFormat .regions r) (place + t)) e (refl, refl);
+  adjoins = λ place s i n e. passed _ _ e λ h e. got-carry (λ (r : StretchFound) (t : ℕ). Adjoin place (dataFormat .regions r) (place + t)) e (refl, refl);
 }
 
 pub data-firm : (head : List ℕ) → Firm dataFormat head
@@ -179,7 +179,7 @@ unfolding readData
 data-firm head = record {
   firm = λ place s t i n e a.
       passed _ _ e λ h e.
-      got-carry (λ (r : Stretch) (u : ℕ). u ≡ n → readData head place t ≡ got r u) e
+      got-carry (λ (r : StretchFound) (u : ℕ). u ≡ n → readData head place t ≡ got r u) e
       (λ q. pass _ (omega (arith, a .long), tt) (rw (← agree-take a (dataSize head) (omega arith)) refl)) refl;
 }
 
@@ -188,7 +188,7 @@ unfolding readData
 data-tells head = record {
   tells = λ place file i n b e.
       passed _ _ e λ h e.
-      got-carry (λ (r : Stretch) (u : ℕ). DataTold file r) e
+      got-carry (λ (r : StretchFound) (u : ℕ). DataTold file r) e
       (record { bytes = refl; long = length-take-le (dataSize head) (drop place file) (h .0) });
 }
 
@@ -218,15 +218,15 @@ unfolding _>>=_
 heads-alike kept place [] s = refl
 heads-alike kept place (h ∷ hs) s = go (readHead h place s) (λ n. heads-alike kept (place + n) hs (drop n s))
   where
-    go : (g : Got Stretch) → ((n : ℕ) → each (cutHeadFormat kept) .read hs (place + n) (drop n s) ≡ each headFormat .read hs (place + n) (drop n s))
-        → _≡_ {A = Got (List Stretch)} (g >>= (λ (i, n). each (cutHeadFormat kept) .read hs (place + n) (drop n s) >>= (λ (is, m). got (i ∷ is) (n + m))))
+    go : (g : Got StretchFound) → ((n : ℕ) → each (cutHeadFormat kept) .read hs (place + n) (drop n s) ≡ each headFormat .read hs (place + n) (drop n s))
+        → _≡_ {A = Got (List StretchFound)} (g >>= (λ (i, n). each (cutHeadFormat kept) .read hs (place + n) (drop n s) >>= (λ (is, m). got (i ∷ is) (n + m))))
         (g >>= (λ (i, n). each headFormat .read hs (place + n) (drop n s) >>= (λ (is, m). got (i ∷ is) (n + m))))
-    go (got i n) same = ap (λ (g : Got (List Stretch)). g >>= (λ (is, m). got (i ∷ is) (n + m))) (same n)
+    go (got i n) same = ap (λ (g : Got (List StretchFound)). g >>= (λ (is, m). got (i ∷ is) (n + m))) (same n)
     go (refused r) same = refl
 
 pub samples-alike : (kept place : ℕ) (hs : List ℕ) (s : List ℕ) → cutSamplesFormat kept .read hs place s ≡ samplesFormat .read hs place s
 samples-alike kept place hs s =
-    ap (λ (g : Got (List Stretch)). g >>= (λ (i, n). each dataFormat .read (map Stretch.bytes i) (place + n) (drop n s) >>= (λ (j, m). got (i, j) (n + m))))
+    ap (λ (g : Got (List StretchFound)). g >>= (λ (i, n). each dataFormat .read (map StretchFound.bytes i) (place + n) (drop n s) >>= (λ (j, m). got (i, j) (n + m))))
     (heads-alike kept place hs s)
 
 -- The smallest H: no more than any that cuts off nothing but zeros, and such a one itself
@@ -277,19 +277,19 @@ samples-firm k size =
     then-firm (λ sizes heads. heads) (many-firm headFormat k (head-firm size)) (λ heads. each-firm dataFormat heads (all data-firm heads))
 
 -- each data has the size that its header says
-abbrev pub Sized : (heads : List (List ℕ)) → List Stretch → Type 0
+abbrev pub Sized : (heads : List (List ℕ)) → List StretchFound → Type 0
 Sized [] [] = Unit {0}
 Sized [] (d ∷ ds) = ⊥
 Sized (h ∷ hs) [] = ⊥
 Sized (h ∷ hs) (d ∷ ds) = (d .size ≡ dataSize h) × Sized hs ds
 
-data-sized : (heads : List (List ℕ)) (place : ℕ) (s : List ℕ) (ds : List Stretch) (n : ℕ) → each dataFormat .read heads place s ≡ got ds n → Sized heads ds
+data-sized : (heads : List (List ℕ)) (place : ℕ) (s : List ℕ) (ds : List StretchFound) (n : ℕ) → each dataFormat .read heads place s ≡ got ds n → Sized heads ds
 unfolding readData
-data-sized [] place s ds n e = got-carry (λ (r : List Stretch) (u : ℕ). Sized [] r) e tt
+data-sized [] place s ds n e = got-carry (λ (r : List StretchFound) (u : ℕ). Sized [] r) e tt
 data-sized (h ∷ hs) place s ds n e =
     bind-got _ _ e λ i k ei e₁. bind-got _ _ e₁ λ js m ej e₂.
     passed _ _ ei λ hi ei.
-    got-carry (λ (r : List Stretch) (u : ℕ). Sized (h ∷ hs) r) e₂ (ap Stretch.size (sym (got-value ei)), data-sized hs (place + k) (drop k s) js m ej)
+    got-carry (λ (r : List StretchFound) (u : ℕ). Sized (h ∷ hs) r) e₂ (ap StretchFound.size (sym (got-value ei)), data-sized hs (place + k) (drop k s) js m ej)
 
 pub record SamplesTold (file : List ℕ) (v : SamplesFound) : Type 0 where
   pub heads : All (HeadTold file) (v .0)

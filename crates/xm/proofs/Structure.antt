@@ -17,13 +17,13 @@ use Rattle.xm.specs.Format.{Kind, header, patternHeader, patternData, in
 use Rattle.xm.specs.Answer.{gives, refuses, answered}
 use Rattle.xm.specs.Header.{HeaderFound, channelsAt, headerEnd, kindAt, readHeader}
 use Rattle.xm.specs.PatternInFile.{leastPattern, patternHeadSizeAt, dataSizeAt, PatternFound, readPattern, patternFormat}
-use Rattle.xm.specs.Sample.{Stretch, sizeOfFirst, stretchRegion, readHead, headFormat}
+use Rattle.xm.specs.Sample.{StretchFound, sizeOfFirst, stretchRegion, readHead, headFormat}
 use Rattle.xm.specs.Instrument.{instrumentSizeAt, countAt, sampleHeadSizeAt, fieldsOf, instrumentTests}
 use Rattle.xm.specs.Instrument.{InstrumentFound, voiceOf, readInstrument, instrumentFormat}
 use Rattle.xm.specs.Module.{Found, patternsFor, instrumentsFor, moduleFormat, regionsOf, fileMost, readFile}
 use Rattle.xm.specs.Structure.{isStructure, kindNumber, structuresOf, structures, Standing, stands, ended, handed, reading, Ahead, Handed}
 use Rattle.xm.specs.Structure.{endsAt, handHead, handPattern, handInstrument, handOver, aheadAtFirst, started, called, readOn, readFor}
-use Rattle.xm.specs.Asking.{Lies}
+use Rattle.xm.specs.Asking.{Stretch}
 use Rattle.xm.specs.Region.{ofKind, regionAt}
 use Rattle.xm.specs.Demands.{ReadersTell}
 use Rattle.xm.proofs.Number.{bytes-drop}
@@ -56,7 +56,7 @@ none-left-out : (kind : Kind) (rs : List Region) → isStructure kind ≡ true �
 none-left-out kind [] h = refl
 none-left-out kind (r ∷ rs) h = go (isStructure (r .kind)) refl (eqb (kindNumber kind) (kindNumber (r .kind))) refl (none-left-out kind rs h)
   where
-    lies : Lies
+    lies : Stretch
     lies = record { place = r .place; size = r .size }
 
     go : (t : Bool) → isStructure (r .kind) ≡ t → (u : Bool) → eqb (kindNumber kind) (kindNumber (r .kind)) ≡ u
@@ -112,34 +112,34 @@ abbrev pub headsStanding : (k size head : ℕ) → List Standing
 headsStanding zero size head = []
 headsStanding (suc k) size head = stands sampleHeader head ∷ headsStanding k size (head + size)
 
-head-found : (size place : ℕ) (s : List ℕ) {i : Stretch} {n : ℕ} → readHead size place s ≡ got i n → (i .place ≡ place) × (i .size ≡ size) × (n ≡ size)
+head-found : (size place : ℕ) (s : List ℕ) {i : StretchFound} {n : ℕ} → readHead size place s ≡ got i n → (i .place ≡ place) × (i .size ≡ size) × (n ≡ size)
 unfolding readHead
-head-found size place s e = passed _ _ e λ h e. (ap Stretch.place (sym (got-value e)), ap Stretch.size (sym (got-value e)), sym (got-used e))
+head-found size place s e = passed _ _ e λ h e. (ap StretchFound.place (sym (got-value e)), ap StretchFound.size (sym (got-value e)), sym (got-used e))
 
-record HeadsTold (k size head : ℕ) (hs : List Stretch) : Type 0 where
+record HeadsTold (k size head : ℕ) (hs : List StretchFound) : Type 0 where
   all : structuresTold (joined (stretchRegion sampleHeader) hs) ≡ headsStanding k size head
   count : length hs ≡ k
   first : 0 < k → sizeOfFirst hs ≡ size
 
-heads-told : (k size head : ℕ) (s : List ℕ) (hs : List Stretch) (n : ℕ) → each headFormat .read (replicate k size) head s ≡ got hs n → HeadsTold k size head hs
+heads-told : (k size head : ℕ) (s : List ℕ) (hs : List StretchFound) (n : ℕ) → each headFormat .read (replicate k size) head s ≡ got hs n → HeadsTold k size head hs
 heads-told zero size head s hs n e =
-    got-carry (λ (hs : List Stretch) (u : ℕ). HeadsTold zero size head hs) e (record { all = refl; count = refl; first = λ l. absurd (omega (arith, l)) })
+    got-carry (λ (hs : List StretchFound) (u : ℕ). HeadsTold zero size head hs) e (record { all = refl; count = refl; first = λ l. absurd (omega (arith, l)) })
 heads-told (suc k) size head s hs n e =
     bind-got _ _ e λ h a ea e₁. bind-got _ _ e₁ λ hs b eb e₂.
     let u = head-found size head s ea in
     let w = heads-told k size (head + a) (drop a s) hs b eb in
-    got-carry (λ (hs : List Stretch) (u : ℕ). HeadsTold (suc k) size head hs) e₂ (record {
+    got-carry (λ (hs : List StretchFound) (u : ℕ). HeadsTold (suc k) size head hs) e₂ (record {
       all = cons-path (ap (stands sampleHeader) (u .0)) (w .all ∙ ap (λ (o : ℕ). headsStanding k size (head + o)) (u .2));
       count = ap suc (w .count);
       first = λ l. u .1;
     })
 
-data-told : (ds : List Stretch) → structuresTold (joined (stretchRegion sampleData) ds) ≡ []
+data-told : (ds : List StretchFound) → structuresTold (joined (stretchRegion sampleData) ds) ≡ []
 data-told [] = refl
 data-told (d ∷ ds) = data-told ds
 
 -- The size of a header does not matter where there are none
-heads-by : (k size head : ℕ) (hs : List Stretch) → HeadsTold k size head hs
+heads-by : (k size head : ℕ) (hs : List StretchFound) → HeadsTold k size head hs
     → (structuresTold (joined (stretchRegion sampleHeader) hs) ≡ headsStanding (length hs) (sizeOfFirst hs) head) × (length hs * sizeOfFirst hs ≡ k * size)
 heads-by zero size head hs w =
     let first = sizeOfFirst hs in
@@ -167,7 +167,7 @@ instrument-told kind place s i n e =
     passed _ _ e λ h e₁. bind-got _ _ e₁ λ v m ev e₂. bind-got _ _ ev λ hs a eh e₃. bind-got _ _ e₃ λ ds b ed e₄.
     let f = fieldsOf kind s in
     let w = heads-by _ _ _ hs (heads-told (countAt f) (sampleHeadSizeAt f) (place + instrumentSizeAt s) (drop (instrumentSizeAt s) s) hs a eh) in
-    let found : List Stretch × List Stretch → InstrumentFound = λ v. record {
+    let found : List StretchFound × List StretchFound → InstrumentFound = λ v. record {
       place = place;
       size = instrumentSizeAt s;
       name = part 4 22 f;
@@ -176,7 +176,7 @@ instrument-told kind place s i n e =
       samples = v;
     } in
     got-carry (λ (r : InstrumentFound) (u : ℕ). InstrumentTold kind place r u) e₂
-    (got-carry (λ (v : List Stretch × List Stretch) (u : ℕ). InstrumentTold kind place (found v) (instrumentSizeAt s + u)) e₄
+    (got-carry (λ (v : List StretchFound × List StretchFound) (u : ℕ). InstrumentTold kind place (found v) (instrumentSizeAt s + u)) e₄
     (record {
       all =
           let apart = told-append (joined (stretchRegion sampleHeader) hs) (joined (stretchRegion sampleData) ds) in

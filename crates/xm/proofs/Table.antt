@@ -5,13 +5,13 @@ use mathlib.Core.List.{List, [], _∷_, _++_, map, append-nil}
 use mathlib.Core.Path.{_≡_, refl, sym, ap, ap₂, _∙_}
 use lib.Dec.{eqb}
 use Rattle.xm.specs.Format.{Kind, header, patternHeader, patternData, instrument, sampleHeader, sampleData, joined, All}
-use Rattle.xm.specs.Sample.{Stretch, stretchRegion, SamplesFound, samplesFormat}
+use Rattle.xm.specs.Sample.{StretchFound, stretchRegion, SamplesFound, samplesFormat}
 use Rattle.xm.specs.PatternInFile.{PatternFound, patternFormat}
 use Rattle.xm.specs.Instrument.{InstrumentFound, instrumentFormat}
 use Rattle.xm.specs.Module.{Found, regionsOf}
 use Rattle.xm.specs.Table.{PatternRow, InstrumentRow, SampleRow, patternRow, patternRows, sampleCount}
 use Rattle.xm.specs.Table.{instrumentRowsFrom, instrumentRows, sampleRowsOf, sampleRowsIn, sampleRows}
-use Rattle.xm.specs.Asking.{Lies, liesOf}
+use Rattle.xm.specs.Asking.{Stretch, rowStretch}
 use Rattle.xm.specs.Structure.{kindNumber}
 use Rattle.xm.specs.Region.{ofKind}
 use Rattle.xm.specs.Demands.{TablesStand}
@@ -49,14 +49,14 @@ map-map f g [] = refl
 map-map f g (x ∷ xs) = cons-path refl (map-map f g xs)
 
 -- The stretches of one kind, asked for by a kind
-abbrev pub lies : Stretch → Lies
+abbrev pub lies : StretchFound → Stretch
 lies v = record { place = v .place; size = v .size }
 
-stretches-same : (kind other : Kind) → eqb (kindNumber kind) (kindNumber other) ≡ true → (vs : List Stretch)
+stretches-same : (kind other : Kind) → eqb (kindNumber kind) (kindNumber other) ≡ true → (vs : List StretchFound)
     → ofKind kind (joined (stretchRegion other) vs) ≡ map lies vs
 stretches-same kind other e vs = kind-joined kind (stretchRegion other) vs ∙ joined-one _ lies (λ v. rw e) vs
 
-stretches-other : (kind other : Kind) → eqb (kindNumber kind) (kindNumber other) ≡ false → (vs : List Stretch)
+stretches-other : (kind other : Kind) → eqb (kindNumber kind) (kindNumber other) ≡ false → (vs : List StretchFound)
     → ofKind kind (joined (stretchRegion other) vs) ≡ []
 stretches-other kind other e vs = kind-joined kind (stretchRegion other) vs ∙ joined-none _ (λ v. rw e) vs
 
@@ -70,18 +70,18 @@ samples-none : (kind : Kind) → eqb (kindNumber kind) (kindNumber sampleHeader)
     → (v : SamplesFound) → ofKind kind (samplesFormat .regions v) ≡ []
 samples-none kind p q v =
     samples-regions kind v
-    ∙ ap₂ (λ (a b : List Lies). a ++ b) (stretches-other kind sampleHeader p (v .0)) (stretches-other kind sampleData q (v .1))
+    ∙ ap₂ (λ (a b : List Stretch). a ++ b) (stretches-other kind sampleHeader p (v .0)) (stretches-other kind sampleData q (v .1))
 
 heads-regions : (v : SamplesFound) → ofKind sampleHeader (samplesFormat .regions v) ≡ map lies (v .0)
 heads-regions v =
     samples-regions sampleHeader v
-    ∙ ap₂ (λ (a b : List Lies). a ++ b) (stretches-same sampleHeader sampleHeader refl (v .0)) (stretches-other sampleHeader sampleData refl (v .1))
+    ∙ ap₂ (λ (a b : List Stretch). a ++ b) (stretches-same sampleHeader sampleHeader refl (v .0)) (stretches-other sampleHeader sampleData refl (v .1))
     ∙ append-nil (map lies (v .0))
 
 bytes-regions : (v : SamplesFound) → ofKind sampleData (samplesFormat .regions v) ≡ map lies (v .1)
 bytes-regions v =
     samples-regions sampleData v
-    ∙ ap₂ (λ (a b : List Lies). a ++ b) (stretches-other sampleData sampleHeader refl (v .0)) (stretches-same sampleData sampleData refl (v .1))
+    ∙ ap₂ (λ (a b : List Stretch). a ++ b) (stretches-other sampleData sampleHeader refl (v .0)) (stretches-same sampleData sampleData refl (v .1))
 
 -- Of a module: what the patterns and the instruments have of a kind
 module-regions : (kind : Kind) → eqb (kindNumber kind) (kindNumber header) ≡ false → (found : Found) → ofKind kind (regionsOf found)
@@ -91,14 +91,14 @@ module-regions kind e found =
     let p = patternFormat .regions in
     let i = instrumentFormat (found .0 .kind) .regions in
     rw e (kind-append kind (joined p (found .1 .0)) (joined i (found .1 .1))
-    ∙ ap₂ (λ (a b : List Lies). a ++ b) (kind-joined kind p (found .1 .0)) (kind-joined kind i (found .1 .1)))
+    ∙ ap₂ (λ (a b : List Stretch). a ++ b) (kind-joined kind p (found .1 .0)) (kind-joined kind i (found .1 .1)))
 
 -- Patterns: a row for each data region
 patterns-stand : (found : Found)
     → ofKind patternData (regionsOf found) ≡ map (λ (row : PatternRow). record { place = row .dataPlace; size = row .size }) (patternRows found)
 patterns-stand found =
     module-regions patternData refl found
-    ∙ ap₂ (λ (a b : List Lies). a ++ b)
+    ∙ ap₂ (λ (a b : List Stretch). a ++ b)
     (joined-one _ (λ (p : PatternFound). record { place = p .dataPlace; size = p .dataSize }) (λ p. refl) (found .1 .0))
     (joined-none _ (λ i. samples-none patternData refl refl (i .samples)) (found .1 .1))
     ∙ append-nil _
@@ -113,24 +113,24 @@ no-patterns : (kind : Kind) → eqb (kindNumber kind) (kindNumber patternHeader)
     → (ps : List PatternFound) → joined (λ (p : PatternFound). ofKind kind (patternFormat .regions p)) ps ≡ []
 no-patterns kind e q ps = joined-none _ (λ p. rw (e, q)) ps
 
-instruments-stand : (found : Found) → map Lies.place (ofKind instrument (regionsOf found)) ≡ map InstrumentRow.place (instrumentRows found)
+instruments-stand : (found : Found) → map Stretch.place (ofKind instrument (regionsOf found)) ≡ map InstrumentRow.place (instrumentRows found)
 instruments-stand found =
-    ap (map Lies.place)
+    ap (map Stretch.place)
     (module-regions instrument refl found
-    ∙ ap₂ (λ (a b : List Lies). a ++ b) (no-patterns instrument refl refl (found .1 .0))
+    ∙ ap₂ (λ (a b : List Stretch). a ++ b) (no-patterns instrument refl refl (found .1 .0))
     (joined-one _ (λ (i : InstrumentFound). record { place = i .place; size = i .size })
     (λ i. cons-path refl (samples-none instrument refl refl (i .samples))) (found .1 .1)))
     ∙ map-map _ _ (found .1 .1)
     ∙ sym (instrument-places 0 (found .1 .1))
 
 -- Samples: a row for each header and its data, which are as many
-row-heads : (heads : List Stretch) (bytes : List Stretch) → Sized (map Stretch.bytes heads) bytes
-    → map SampleRow.headerPlace (sampleRowsOf heads bytes) ≡ map Lies.place (map lies heads)
+row-heads : (heads : List StretchFound) (bytes : List StretchFound) → Sized (map StretchFound.bytes heads) bytes
+    → map SampleRow.headerPlace (sampleRowsOf heads bytes) ≡ map Stretch.place (map lies heads)
 row-heads [] bytes z = refl
 row-heads (h ∷ hs) [] z = absurd z
 row-heads (h ∷ hs) (b ∷ bs) z = cons-path refl (row-heads hs bs (z .1))
 
-row-bytes : (heads bytes : List Stretch) → Sized (map Stretch.bytes heads) bytes → map liesOf (sampleRowsOf heads bytes) ≡ map lies bytes
+row-bytes : (heads bytes : List StretchFound) → Sized (map StretchFound.bytes heads) bytes → map rowStretch (sampleRowsOf heads bytes) ≡ map lies bytes
 row-bytes [] [] z = refl
 row-bytes [] (b ∷ bs) z = absurd z
 row-bytes (h ∷ hs) [] z = absurd z
@@ -140,21 +140,21 @@ module _ (file : List ℕ) (found : Found) (told : All (λ (i : InstrumentFound)
   pub heads-lie : ofKind sampleHeader (regionsOf found) ≡ joined (λ (i : InstrumentFound). map lies (i .samples .0)) (found .1 .1)
   heads-lie =
       module-regions sampleHeader refl found
-      ∙ ap₂ (λ (a b : List Lies). a ++ b) (no-patterns sampleHeader refl refl (found .1 .0)) refl
+      ∙ ap₂ (λ (a b : List Stretch). a ++ b) (no-patterns sampleHeader refl refl (found .1 .0)) refl
       ∙ joined-same (λ (i : InstrumentFound). SamplesTold file (i .samples)) _ _ (λ i t. heads-regions (i .samples)) (found .1 .1) told
 
-  heads-stand : map Lies.place (ofKind sampleHeader (regionsOf found)) ≡ map SampleRow.headerPlace (sampleRows found)
+  heads-stand : map Stretch.place (ofKind sampleHeader (regionsOf found)) ≡ map SampleRow.headerPlace (sampleRows found)
   heads-stand =
-      ap (map Lies.place) heads-lie
-      ∙ map-joined Lies.place (λ (i : InstrumentFound). map lies (i .samples .0)) (found .1 .1)
+      ap (map Stretch.place) heads-lie
+      ∙ map-joined Stretch.place (λ (i : InstrumentFound). map lies (i .samples .0)) (found .1 .1)
       ∙ joined-same (λ (i : InstrumentFound). SamplesTold file (i .samples)) _ _
       (λ i t. sym (row-heads (i .samples .0) (i .samples .1) (t .sizes))) (found .1 .1) told
       ∙ sym (map-joined SampleRow.headerPlace sampleRowsIn (found .1 .1))
 
-  bytes-stand : ofKind sampleData (regionsOf found) ≡ map liesOf (sampleRows found)
+  bytes-stand : ofKind sampleData (regionsOf found) ≡ map rowStretch (sampleRows found)
   bytes-stand =
       module-regions sampleData refl found
-      ∙ ap₂ (λ (a b : List Lies). a ++ b) (no-patterns sampleData refl refl (found .1 .0)) refl
+      ∙ ap₂ (λ (a b : List Stretch). a ++ b) (no-patterns sampleData refl refl (found .1 .0)) refl
       ∙ joined-same (λ (i : InstrumentFound). SamplesTold file (i .samples)) _ _
       (λ i t. bytes-regions (i .samples) ∙ sym (row-bytes (i .samples .0) (i .samples .1) (t .sizes))) (found .1 .1) told
       ∙ sym (map-joined _ sampleRowsIn (found .1 .1))

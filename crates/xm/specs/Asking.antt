@@ -9,11 +9,11 @@ use Rattle.xm.specs.Answer.{Answer, gives, refuses, answered, numbers}
 use Rattle.xm.specs.Table.{SampleRow, sampleRowAt, sampleStride}
 
 -- Where the data lies that a row speaks of.
-pub record Lies : Type 0 where
+pub record Stretch : Type 0 where
   pub place : ℕ
   pub size : ℕ
 
-unfoldable pub asking : (file : List ℕ) (rows : ℕ) (number : ℕ) (row : Lies) → Answer Lies
+unfoldable pub asking : (file : List ℕ) (rows : ℕ) (number : ℕ) (row : Stretch) → Answer Stretch
 asking file rows number row = answered (λ lies used. lies) (do
   checked (
       present (number + 1) rows (16 at 0)
@@ -23,15 +23,15 @@ asking file rows number row = answered (λ lies used. lies) (do
   got row 0)
 
 -- The stretch; "tells 0 from 16"; and its place and length as numbers.
-abbrev pub stretchOf : (file : List ℕ) → Answer Lies → List ℕ
+abbrev pub stretchOf : (file : List ℕ) → Answer Stretch → List ℕ
 stretchOf file (gives lies) = part (lies .place) (lies .size) file
 stretchOf file (refuses r) = []
 
-abbrev pub askNumbers : Answer Lies → List ℕ
-askNumbers = numbers (Lies.place ∷ Lies.size ∷ [])
+abbrev pub askNumbers : Answer Stretch → List ℕ
+askNumbers = numbers (Stretch.place ∷ Stretch.size ∷ [])
 
 -- Of a table over flat numbers, and of one of records.
-abbrev pub askingFlat : (file table : List ℕ) (number : ℕ) → Answer Lies
+abbrev pub askingFlat : (file table : List ℕ) (number : ℕ) → Answer Stretch
 askingFlat file table number =
     let start = sampleStride * number in
     asking file (length table / sampleStride) number (record { place = getD table (start + 1) 0; size = getD table (start + 2) 0 })
@@ -41,8 +41,8 @@ abbrev pub noRow : SampleRow
 noRow = sampleRowAt 0 0 []
 
 -- The data that a row speaks of.
-abbrev pub liesOf : SampleRow → Lies
-liesOf row = record { place = row .dataPlace; size = row .size }
+abbrev pub rowStretch : SampleRow → Stretch
+rowStretch row = record { place = row .dataPlace; size = row .size }
 
-abbrev pub askingRows : (file : List ℕ) (rows : List SampleRow) (number : ℕ) → Answer Lies
-askingRows file rows number = asking file (length rows) number (liesOf (getD rows number noRow))
+abbrev pub askingRows : (file : List ℕ) (rows : List SampleRow) (number : ℕ) → Answer Stretch
+askingRows file rows number = asking file (length rows) number (rowStretch (getD rows number noRow))

@@ -22,7 +22,7 @@ use Rattle.xm.specs.Header.{mark, version, markAt, versionAt, sizeAt, so
 use Rattle.xm.specs.PatternInFile.{dataMost, leastPattern, writePattern}
 use Rattle.xm.specs.Packing.{argumentTests, cellBytes, unpacking, unpackNumbers, unpackAfter, unpackLoader}
 use Rattle.xm.specs.Packing.{patternOf, packing, packNumbers, packAfter, packLoader}
-use Rattle.xm.specs.Sample.{Stretch, leastHead, headBytes, lengthOf, loopStart, loopLength, kindOf, loopBits, isWide, loops}
+use Rattle.xm.specs.Sample.{StretchFound, leastHead, headBytes, lengthOf, loopStart, loopLength, kindOf, loopBits, isWide, loops}
 use Rattle.xm.specs.Sample.{adpcm, deltaTable, adpcmSize, dataSizeBy, readHead, smallestHead}
 use Rattle.xm.specs.Instrument.{leastStripped, Instrument, InstrumentFound, instrumentView, readInstrument, writeFields}
 use Rattle.xm.specs.Module.{Found, Content, moduleFormat, regionsOf, fileMost, readWhole, readFile, plays}
@@ -31,7 +31,7 @@ use Rattle.xm.specs.Delta.{allFit, coding, codeNumbers, codeAfter, codin
 use Rattle.xm.specs.Adpcm.{chosen, adpcmDecoded, adpcmDecoding, adpcmLimited, adpcmLoader, decodingBy, valuesOf}
 use Rattle.xm.specs.Table.{PatternRow, InstrumentRow, SampleRow, patternRows, instrumentRows, sampleRowsIn, sampleRows, sampleNumbers}
 use Rattle.xm.specs.Table.{CheckReport, checkedAs, checking, checkNumbers, checkLoader, Room, checkingInto, checkIntoLoader, Tables, roomOf, tablesAfter}
-use Rattle.xm.specs.Asking.{Lies, asking, stretchOf, askingFlat, askingRows, noRow, liesOf}
+use Rattle.xm.specs.Asking.{Stretch, asking, stretchOf, askingFlat, askingRows, noRow, rowStretch}
 use Rattle.xm.specs.Structure.{isStructure, structures, ended, handed, reading, called, readFor}
 use Rattle.xm.specs.Region.{Adjoin, regionAt, ofKind}
 use Rattle.xm.specs.Press.{contentOf, pressed, pressingAs, pressing, pressNumbersAs, pressAfterAs, pressLoader}
@@ -279,7 +279,7 @@ KindsTold = (kind : ModuleKind) (content : Content) (file : List ℕ) → FileOf
 
 -- "Our stripped press uses the smallest H, then the smallest I": no instrument that is read as the same content has smaller ones.
 pub record SmallestIn (i : InstrumentFound) : Type 0 where
-  pub head : All (λ (head : Stretch). smallestHead (instrumentView i .samples .0) ≤ head .size) (i .samples .0)
+  pub head : All (λ (head : StretchFound). smallestHead (instrumentView i .samples .0) ≤ head .size) (i .samples .0)
   pub size : leastStripped + length (writeFields (instrumentView i)) ≤ i .size
 
 abbrev pub SmallestSizes : Type 0
@@ -339,9 +339,9 @@ pub record RegionsApart (file : List ℕ) (rs : List Region) (end : ℕ) : Type 
 -- Every place in a table is the start of its region, and every size the size: the regions of a kind, in file order, are the rows'.
 pub record TablesStand (found : Found) : Type 0 where
   pub patterns : ofKind patternData (regionsOf found) ≡ map (λ (row : PatternRow). record { place = row .dataPlace; size = row .size }) (patternRows found)
-  pub instruments : map Lies.place (ofKind instrument (regionsOf found)) ≡ map InstrumentRow.place (instrumentRows found)
-  pub heads : map Lies.place (ofKind sampleHeader (regionsOf found)) ≡ map SampleRow.headerPlace (sampleRows found)
-  pub bytes : ofKind sampleData (regionsOf found) ≡ map liesOf (sampleRows found)
+  pub instruments : map Stretch.place (ofKind instrument (regionsOf found)) ≡ map InstrumentRow.place (instrumentRows found)
+  pub heads : map Stretch.place (ofKind sampleHeader (regionsOf found)) ≡ map SampleRow.headerPlace (sampleRows found)
+  pub bytes : ofKind sampleData (regionsOf found) ≡ map rowStretch (sampleRows found)
 
 -- A pattern row and its data unpack to the content's rows and cells.
 abbrev pub RowUnpacks : (file : List ℕ) (channels : ℕ) → PatternRow → Pattern → Type 0
@@ -363,10 +363,10 @@ FindsRows all (row ∷ rows) (i ∷ is) = (take (row .samples) (drop (row .first
 
 -- A sample header in the content is what stands in its region of the file; of a stripped one, whose region may be shorter, what is beyond
 -- reads as 0.
-abbrev pub HeadStands : (file : List ℕ) → Lies → (head : List ℕ) → Type 0
+abbrev pub HeadStands : (file : List ℕ) → Stretch → (head : List ℕ) → Type 0
 HeadStands file lies head = (k : ℕ) → k < leastHead → byteAt k head ≡ cond (ltb k (lies .size)) (byteAt (lies .place + k) file) 0
 
-abbrev pub HeadsStand : (file : List ℕ) → List Lies → (heads : List (List ℕ)) → Type 0
+abbrev pub HeadsStand : (file : List ℕ) → List Stretch → (heads : List (List ℕ)) → Type 0
 HeadsStand file [] [] = Unit {0}
 HeadsStand file [] (h ∷ hs) = ⊥
 HeadsStand file (l ∷ ls) [] = ⊥
@@ -416,12 +416,12 @@ RowDecodes file row head bytes =
 
 -- A sample asked for by number, of the tables as the check leaves them, whatever stood in them beyond: the row's stretch, which holds the
 -- content's data.
-abbrev pub liesAt : List SampleRow → ℕ → Lies
-liesAt rows number = liesOf (getD rows number noRow)
+abbrev pub stretchAt : List SampleRow → ℕ → Stretch
+stretchAt rows number = rowStretch (getD rows number noRow)
 
 pub record Asked (file : List ℕ) (rows : List SampleRow) (bytes : List (List ℕ)) : Type 0 where
-  pub flat : (stale : List ℕ) (number : ℕ) → number < length rows → askingFlat file (joined sampleNumbers rows ++ stale) number ≡ gives (liesAt rows number)
-  pub records : (stale : List SampleRow) (number : ℕ) → number < length rows → askingRows file (rows ++ stale) number ≡ gives (liesAt rows number)
+  pub flat : (stale : List ℕ) (number : ℕ) → number < length rows → askingFlat file (joined sampleNumbers rows ++ stale) number ≡ gives (stretchAt rows number)
+  pub records : (stale : List SampleRow) (number : ℕ) → number < length rows → askingRows file (rows ++ stale) number ≡ gives (stretchAt rows number)
   pub flat-bytes : (stale : List ℕ) (number : ℕ) → number < length rows
       → stretchOf file (askingFlat file (joined sampleNumbers rows ++ stale) number) ≡ getD bytes number []
   pub record-bytes : (stale : List SampleRow) (number : ℕ) → number < length rows
@@ -429,7 +429,7 @@ pub record Asked (file : List ℕ) (rows : List SampleRow) (bytes : List (List �
 
 -- and of any row at all: 16 exactly when the number is at or above the rows lent, or the data isn't inside the file.
 abbrev pub AsksExactly : Type 0
-AsksExactly = (file : List ℕ) (rows number : ℕ) (row : Lies)
+AsksExactly = (file : List ℕ) (rows number : ℕ) (row : Stretch)
     → ((number < rows) × (row .place + row .size ≤ length file) → asking file rows number row ≡ gives row)
     × (((number < rows) × (row .place + row .size ≤ length file) → ⊥) → asking file rows number row ≡ refuses (16 at 0))
 
@@ -462,7 +462,7 @@ pub record AcceptedFile (file : List ℕ) (found : Found) (end : ℕ) : Type 0 w
   pub rows-unpack : RowsUnpack file (found .0 .content .channels) (patternRows found) (contentOf found .1 .0)
   pub rows-found : FindsRows (sampleRows found) (instrumentRows found) (found .1 .1)
   pub heads-stand : HeadsStand file (ofKind sampleHeader (regionsOf found)) (headsIn (contentOf found))
-  pub heads-whole : found .0 .kind ≡ normal → All (λ (l : Lies). leastHead ≤ l .size) (ofKind sampleHeader (regionsOf found))
+  pub heads-whole : found .0 .kind ≡ normal → All (λ (l : Stretch). leastHead ≤ l .size) (ofKind sampleHeader (regionsOf found))
   pub rows-read : EachSample RowReads (sampleRows found) (headsIn (contentOf found)) (bytesIn (contentOf found))
   pub rows-loop : EachSample RowLoops (sampleRows found) (headsIn (contentOf found)) (bytesIn (contentOf found))
   pub rows-decode : EachSample (RowDecodes file) (sampleRows found) (headsIn (contentOf found)) (bytesIn (contentOf found))

@@ -112,16 +112,16 @@ headTests place head =
     ∷ []
 
 -- A stretch of the file, and what stands in it.
-pub record Stretch : Type 0 where
+pub record StretchFound : Type 0 where
   pub place : ℕ
   pub size : ℕ
   pub bytes : List ℕ
 
-abbrev pub stretchRegion : Kind → Stretch → List Region
+abbrev pub stretchRegion : Kind → StretchFound → List Region
 stretchRegion kind i = record { kind = kind; place = i .place; size = i .size } ∷ []
 
 -- That all headers are present is tried for the instrument, before the first of them is read.
-unfoldable pub readHead : (size : ℕ) → Reader Stretch
+unfoldable pub readHead : (size : ℕ) → Reader StretchFound
 readHead size place s = do
   checked (present size (length s) (1 at place) ∷ headTests place (headBytes size s))
   got (record { place = place; size = size; bytes = headBytes size s }) size
@@ -131,11 +131,11 @@ pub record GoodHead (head : List ℕ) : Type 0 where
   pub plain : Bytes head
   pub tests : AllHold (headTests 0 head)
 
-abbrev pub headFormat : Format ℕ Stretch (List ℕ)
+abbrev pub headFormat : Format ℕ StretchFound (List ℕ)
 headFormat = record { read = readHead; view = λ i. i .bytes; regions = stretchRegion sampleHeader; Good = λ size. GoodHead; write = λ head. head }
 
 -- "each sample's data present (1)", at "where that data would begin"
-unfoldable pub readData : (head : List ℕ) → Reader Stretch
+unfoldable pub readData : (head : List ℕ) → Reader StretchFound
 readData head place s = do
   checked (present (dataSize head) (length s) (1 at place) ∷ [])
   got (record { place = place; size = dataSize head; bytes = take (dataSize head) s }) (dataSize head)
@@ -144,17 +144,17 @@ pub record GoodData (head bytes : List ℕ) : Type 0 where
   pub size : length bytes ≡ dataSize head
   pub plain : Bytes bytes
 
-abbrev pub dataFormat : Format (List ℕ) Stretch (List ℕ)
+abbrev pub dataFormat : Format (List ℕ) StretchFound (List ℕ)
 dataFormat = record { read = readData; view = λ i. i .bytes; regions = stretchRegion sampleData; Good = GoodData; write = λ bytes. bytes }
 
 -- H, by the first header; 0 if there is none.
-abbrev pub sizeOfFirst : (heads : List Stretch) → ℕ
+abbrev pub sizeOfFirst : (heads : List StretchFound) → ℕ
 sizeOfFirst [] = 0
 sizeOfFirst (h ∷ hs) = h .size
 
 -- All headers, and then the data of each.
 abbrev pub SamplesFound : Type 0
-SamplesFound = List Stretch × List Stretch
+SamplesFound = List StretchFound × List StretchFound
 
 abbrev pub Samples : Type 0
 Samples = List (List ℕ) × List (List ℕ)
@@ -167,7 +167,7 @@ pub record GoodCut (kept : ℕ) (head : List ℕ) : Type 0 where
   pub good : GoodHead head
   pub cut : length (trimmed head) ≤ kept
 
-abbrev pub cutHeadFormat : (kept : ℕ) → Format ℕ Stretch (List ℕ)
+abbrev pub cutHeadFormat : (kept : ℕ) → Format ℕ StretchFound (List ℕ)
 cutHeadFormat kept = record { read = readHead; view = λ i. i .bytes; regions = stretchRegion sampleHeader; Good = λ size. GoodCut kept; write = take kept }
 
 abbrev pub cutSamplesFormat : (kept : ℕ) → Format (List ℕ) SamplesFound Samples

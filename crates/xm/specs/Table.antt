@@ -8,7 +8,7 @@ use Rattle.xm.specs.Got.{got, _>>=_, _>>_, Test, checked, present, _at_}
 use Rattle.xm.specs.Format.{joined}
 use Rattle.xm.specs.Answer.{Answer, gives, refuses, answered, numbers, inFront, after, loaderNumber}
 use Rattle.xm.specs.PatternInFile.{PatternFound}
-use Rattle.xm.specs.Sample.{Stretch, dataSize, widthOf, loopKind, loopFrom, loopCount, finetune, relativeNote}
+use Rattle.xm.specs.Sample.{StretchFound, dataSize, widthOf, loopKind, loopFrom, loopCount, finetune, relativeNote}
 use Rattle.xm.specs.Instrument.{InstrumentFound}
 use Rattle.xm.specs.Module.{Found, readFile}
 
@@ -68,10 +68,10 @@ sampleRowAt headerPlace dataPlace head = record {
   relativeNote = relativeNote head;
 }
 
-abbrev pub sampleRow : (head bytes : Stretch) → SampleRow
+abbrev pub sampleRow : (head bytes : StretchFound) → SampleRow
 sampleRow head bytes = sampleRowAt (head .place) (bytes .place) (head .bytes)
 
-abbrev pub sampleRowsOf : (heads bytes : List Stretch) → List SampleRow
+abbrev pub sampleRowsOf : (heads bytes : List StretchFound) → List SampleRow
 sampleRowsOf [] bytes = []
 sampleRowsOf (h ∷ hs) [] = []
 sampleRowsOf (h ∷ hs) (b ∷ bs) = sampleRow h b ∷ sampleRowsOf hs bs

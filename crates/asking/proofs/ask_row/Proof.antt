@@ -1,6 +1,6 @@
 -- `asking::ask_row` meets its contract. Assumes nothing.
 use native.Mathlib.Omega.{arith}
-use Rattle.asking.proofs.AskLaws.{ask-lies, ask-refused}
+use Rattle.asking.proofs.AskLaws.{ask-given, ask-refused}
 use borrow.Author.Needs.{needs}
 use Rattle.asking.proofs.ask_row.Statement.{statement}
 use Rattle.asking.proofs.ask_row.Tie as tie
@@ -12,7 +12,7 @@ returns : tie.Need-returns
 returns c =
     let s = c .before .before .before .before .before in
     let a = s .before .args in
-    ask-lies (a .file .now) (a .rows) (a .number) (a .row) (omega (arith, s .if1 .taken), omega (arith, c .before .before .before .if2 .taken, c .if3 .taken))
+    ask-given (a .file .now) (a .rows) (a .number) (a .row) (omega (arith, s .if1 .taken), omega (arith, c .before .before .before .if2 .taken, c .if3 .taken))
 
 returns-2 : tie.Need-returns-2
 returns-2 c =

@@ -4,7 +4,7 @@ use mathlib.Core.Path.{_≡_, sym, ap, _∙_}
 use native.Mathlib.Omega.{arith}
 use Rattle.xm.specs.Number.{part}
 use Rattle.asking.specs.Ask.{stretchAsked}
-use Rattle.asking.proofs.AskLaws.{lies-inside}
+use Rattle.asking.proofs.AskLaws.{given-inside}
 use borrow.Author.Needs.{needs}
 use Rattle.asking.proofs.asked_stretch.Statement.{statement}
 use Rattle.asking.proofs.asked_stretch.Tie as tie
@@ -30,7 +30,7 @@ returns c = search needs
 add-end : tie.Need-add-end
 add-end c =
     let s = c .before .before .before .before in
-    omega (arith, lies-inside (s .args .file .now) (s .pre) (c .before .before .asked .given .1))
+    omega (arith, given-inside (s .args .file .now) (s .pre) (c .before .before .asked .given .1))
 
 sub-result-2 : tie.Need-sub-result-2
 sub-result-2 c = search needs
@@ -41,7 +41,7 @@ part-result-start-2 c = search needs
 part-result-end-2 : tie.Need-part-result-end-2
 part-result-end-2 c =
     let s = c .before .before .before .before in
-    omega (arith, lies-inside (s .args .file .now) (s .pre) (c .before .before .asked .given .1))
+    omega (arith, given-inside (s .args .file .now) (s .pre) (c .before .before .asked .given .1))
 
 returns-2 : tie.Need-returns-2
 returns-2 c =
