@@ -31,6 +31,7 @@ fn low_half(pair: u8) -> usize
     (pair % 16) as usize
 }
 
+// The index in the high half of a byte.
 fn high_half(pair: u8) -> usize
     ensures { λ r. ⌜ (r ≡ pair / 16) × (r < deltaTable) ⌝ }
 {

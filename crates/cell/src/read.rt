@@ -5,7 +5,7 @@ ghost use mathlib.Core.Path.{_≡_};
 ghost use Prim.Native.Nat.{_+_, _%_, _<_, _≤_};
 ghost use mathlib.Core.Bool.{cond};
 ghost use lib.ListN.{length, getD, drop};
-ghost use Rattle.xm.specs.Cell.{five, lengthBy, fieldBy, cellAt, readCell, bit, kepts, plainBy};
+ghost use Rattle.xm.specs.Cell.{cellSize, five, lengthBy, fieldBy, cellAt, readCell, bit, kepts, plainBy};
 ghost use Rattle.xm.specs.Short.{shortestBy};
 ghost use Rattle.refusal.specs.Refusal.{placeStep};
 ghost use Rattle.cell.specs.Read.{bitsBy, fieldsFrom, FirstField, NextField, cellOf, keptCount};
@@ -87,6 +87,7 @@ pub fn first_field(lead: u8, place: usize) -> Field
     }
 }
 
+// The field behind one: its bit, and its place if this one is stored.
 pub fn next_field(field: Field) -> Field
     requires { ⌜ field .place + field .bits % 2 ≤ 18446744073709551615 ⌝ }
     ensures { λ r. ⌜ NextField field r ⌝ }
@@ -197,7 +198,7 @@ pub fn kept_count(cell: Cell) -> usize
 
 // The same of five bytes at a place, all of them fields.
 pub fn kept_in(cells: &[u8], place: usize) -> usize
-    requires { ⌜ place + 5 ≤ length (now cells) ⌝ }
+    requires { ⌜ place + cellSize ≤ length (now cells) ⌝ }
     ensures { λ r. ⌜ r ≡ length (kepts (five (drop place (now (cells .entry))))) ⌝ }
 {
     let note = bit_of(cells[place]);

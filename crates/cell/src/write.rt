@@ -8,13 +8,13 @@ ghost use lib.Dec.{ltb, eqb};
 ghost use lib.ListN.{length, drop, set};
 ghost use Rattle.xm.specs.Answer.{inFront};
 ghost use Rattle.xm.specs.Lay.{lay};
-ghost use Rattle.xm.specs.Cell.{five, bit, kept, marks, writeCell};
+ghost use Rattle.xm.specs.Cell.{cellSize, five, bit, kept, marks, writeCell};
 ghost use Rattle.cell.specs.Read.{cellFields};
 ghost use Rattle.cell.specs.Over.{overMost, Over};
 
 // The lead byte of a lent cell that is marked: a bit for each field that isn't 0.
 fn lead_of(cells: &[u8], place: usize) -> u8
-    requires { ⌜ place + 5 ≤ length (now cells) ⌝ }
+    requires { ⌜ place + cellSize ≤ length (now cells) ⌝ }
     ensures { λ r. ⌜ r ≡ 128 + marks (five (drop place (now (cells .entry)))) ⌝ }
 {
     let note = bit_of(cells[place]);
@@ -40,7 +40,7 @@ pub fn put(field: u8, place: usize, out: &mut [u8]) -> usize
 
 // All fields of a cell that was read as they stand, at the front of out.
 pub fn put_plain(cell: Cell, out: &mut [u8])
-    requires { ⌜ 5 ≤ length (now out) ⌝ }
+    requires { ⌜ cellSize ≤ length (now out) ⌝ }
     ensures { λ _. ⌜ now (out .exit) ≡ inFront (cellFields cell) (now (out .entry)) ⌝ }
 {
     out[0] = cell.note;
@@ -52,8 +52,8 @@ pub fn put_plain(cell: Cell, out: &mut [u8])
 
 // The same of a lent cell.
 fn copy_plain(cells: &[u8], place: usize, out: &mut [u8])
-    requires { ⌜ place + 5 ≤ length (now cells) ⌝ }
-    requires { ⌜ 5 ≤ length (now out) ⌝ }
+    requires { ⌜ place + cellSize ≤ length (now cells) ⌝ }
+    requires { ⌜ cellSize ≤ length (now out) ⌝ }
     ensures { λ _. ⌜ now (out .exit) ≡ inFront (five (drop place (now (cells .entry)))) (now (out .entry)) ⌝ }
 {
     out[0] = cells[place];
@@ -73,7 +73,7 @@ fn goes_plain(lead: u8, note: u8) -> bool
 
 // A lent cell in its shortest form at the front of out; its length.
 pub fn write_cell(cells: &[u8], place: usize, out: &mut [u8]) -> usize
-    requires { ⌜ place + 5 ≤ length (now cells) ⌝ }
+    requires { ⌜ place + cellSize ≤ length (now cells) ⌝ }
     requires { ⌜ length (writeCell (five (drop place (now cells)))) ≤ length (now out) ⌝ }
     ensures { λ r. ⌜ r ≡ length (writeCell (five (drop place (now (cells .entry))))) ⌝ }
     ensures { λ _. ⌜ now (out .exit) ≡ inFront (writeCell (five (drop place (now (cells .entry))))) (now (out .entry)) ⌝ }
@@ -112,7 +112,7 @@ pub fn first_place(plain: bool) -> usize
 
 // As `write_cell`, with no branch: it may change the bytes behind the cell too, which the caller still has to write.
 pub fn write_over(cells: &[u8], place: usize, out: &mut [u8]) -> usize
-    requires { ⌜ place + 5 ≤ length (now cells) ⌝ }
+    requires { ⌜ place + cellSize ≤ length (now cells) ⌝ }
     requires { ⌜ overMost ≤ length (now out) ⌝ }
     ensures { λ r. ⌜ r ≡ length (writeCell (five (drop place (now (cells .entry))))) ⌝ }
     ensures { λ _. ⌜ Over (writeCell (five (drop place (now (cells .entry))))) (now (out .entry)) (now (out .exit)) ⌝ }

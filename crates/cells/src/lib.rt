@@ -16,6 +16,7 @@ ghost use Rattle.xm.specs.Answer.{inFront};
 ghost use Rattle.xm.specs.Stored.{readRun};
 ghost use Rattle.xm.specs.Run.{cellsIn};
 ghost use Rattle.xm.specs.Packing.{unpacking, unpackAfter};
+ghost use Rattle.xm.specs.Cell.{cellSize};
 ghost use Rattle.cells.specs.Unpacked.{firstFields, unpackedOf};
 
 pub enum Unpacked {
@@ -27,7 +28,7 @@ pub enum Unpacked {
 fn fill_each(stored: &[u8], from: usize, count: usize, out: &mut [u8])
     requires { ⌜ from ≤ length (now stored) ⌝ }
     requires { ⌜ accepted (readRun count from (drop from (now stored))) ≡ true ⌝ }
-    requires { ⌜ count * 5 ≤ length (now out) ⌝ }
+    requires { ⌜ count * cellSize ≤ length (now out) ⌝ }
     ensures { λ _. ⌜ now (out .exit) ≡ inFront (flat (cellsIn count (drop from (now (stored .entry))))) (now (out .entry)) ⌝ }
 {
     let mut at = from;
@@ -58,7 +59,7 @@ fn fill_first(stored: &[u8], place: usize, eight: u64, out: &mut [u8])
 // A run of cells that were accepted, five bytes each, at the front, two or more at a time.
 fn fill_cells(stored: &[u8], count: usize, out: &mut [u8])
     requires { ⌜ accepted (readRun count 0 (now stored)) ≡ true ⌝ }
-    requires { ⌜ count * 5 ≤ length (now out) ⌝ }
+    requires { ⌜ count * cellSize ≤ length (now out) ⌝ }
     ensures { λ _. ⌜ now (out .exit) ≡ inFront (flat (cellsIn count (now (stored .entry)))) (now (out .entry)) ⌝ }
 {
     let mut at: usize = 0;

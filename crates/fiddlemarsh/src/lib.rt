@@ -11,6 +11,7 @@ ghost use Rattle.xm.specs.Adpcm.{adpcmLoader, adpcmLimitedAfter};
 ghost use Rattle.periods.specs.Period.{periodLoader};
 ghost use Rattle.tables.specs.Into.{lent, tablesThen};
 
+// The end of the last structure.
 #[no_mangle]
 pub extern "C" fn fiddlemarsh_check(file: &[u8]) -> u64
     ensures { λ r. ⌜ r ≡ checkLoader (now (file .entry)) ⌝ }
@@ -19,6 +20,7 @@ pub extern "C" fn fiddlemarsh_check(file: &[u8]) -> u64
     loader::check_number(verdict)
 }
 
+// The rows that were unpacked.
 #[no_mangle]
 pub extern "C" fn fiddlemarsh_unpack(
     rows: usize,
@@ -33,6 +35,7 @@ pub extern "C" fn fiddlemarsh_unpack(
     loader::unpack_number(unpacked)
 }
 
+// Length + 65,536 × rows.
 #[no_mangle]
 pub extern "C" fn fiddlemarsh_pack(
     rows: usize,
@@ -47,6 +50,7 @@ pub extern "C" fn fiddlemarsh_pack(
     loader::pack_number(packed)
 }
 
+// The pressed length.
 #[no_mangle]
 pub extern "C" fn fiddlemarsh_press(file: &[u8], out: &mut [u8]) -> u64
     ensures answer { λ r. ⌜ r ≡ pressLoader (now (file .entry)) (length (now (out .entry))) ⌝ }
@@ -93,6 +97,7 @@ pub extern "C" fn fiddlemarsh_tables(
     loader::check_number(verdict)
 }
 
+// How many values were written.
 #[no_mangle]
 pub extern "C" fn fiddlemarsh_decode(width: usize, bytes: &[u8], values: &mut [i16]) -> u64
     ensures answer { λ r. ⌜ r ≡ decodeLoader width (now (bytes .entry)) (length (now (values .entry))) ⌝ }
@@ -102,6 +107,7 @@ pub extern "C" fn fiddlemarsh_decode(width: usize, bytes: &[u8], values: &mut [i
     loader::decode_number(decoded)
 }
 
+// How many bytes were written.
 #[no_mangle]
 pub extern "C" fn fiddlemarsh_code(width: usize, values: &[i16], bytes: &mut [u8]) -> u64
     ensures answer { λ r. ⌜ r ≡ codeLoader width (now (values .entry)) (length (now (bytes .entry))) ⌝ }
@@ -121,6 +127,7 @@ pub extern "C" fn fiddlemarsh_adpcm(count: usize, bytes: &[u8], values: &mut [i1
     loader::decode_number(decoded)
 }
 
+// E + 65,536 × 2^(octave + 1).
 #[no_mangle]
 pub extern "C" fn fiddlemarsh_period(note: u64, finetune: i64) -> u64
     ensures { λ r. ⌜ r ≡ periodLoader note finetune ⌝ }

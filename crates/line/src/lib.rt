@@ -19,6 +19,7 @@ ghost use Rattle.line.specs.Filled.{acceptedLine, refusedLine, countedLi
 // "65,536 or more input bytes give `refused 2 0`."
 const LISTED_MOST: usize = 65535;
 
+// The last decimal digit of a number, as a letter.
 fn last_digit(number: usize) -> u8
     ensures { λ r. ⌜ r ≡ lastDigit number ⌝ }
 {
@@ -68,6 +69,7 @@ fn put_line(text: &[u8], numbers: &[usize], line: &mut [u8]) -> usize
     put_numbers(numbers, line, text.len())
 }
 
+// An accepted file's line; its length.
 fn put_accepted(end: usize, channels: usize, counts: Counts, line: &mut [u8; 128]) -> usize
     ensures size { λ r. ⌜ r ≡ length (acceptedLine end channels counts) ⌝ }
     ensures memory { λ _. ⌜ now (line .exit) ≡ inFront (acceptedLine end channels counts) (now (line .entry)) ⌝ }
@@ -83,6 +85,7 @@ fn put_accepted(end: usize, channels: usize, counts: Counts, line: &mut [u8; 128
     put_line(b"ok", &numbers, line)
 }
 
+// A refused file's line; its length.
 fn put_refused(refusal: Refusal, line: &mut [u8; 128]) -> usize
     ensures size { λ r. ⌜ r ≡ length (refusedLine refusal) ⌝ }
     ensures memory { λ _. ⌜ now (line .exit) ≡ inFront (refusedLine refusal) (now (line .entry)) ⌝ }

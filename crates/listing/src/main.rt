@@ -2,6 +2,7 @@
 use libc::STDIN_FILENO;
 use libc::STDOUT_FILENO;
 
+// One line for what standard input has.
 fn main() {
     let mut input = io::large_buffer(); // one byte more than the most, which shows that there is more
     let size = io::read_full(STDIN_FILENO, &mut input);

@@ -14,6 +14,7 @@ ghost use mathlib.Core.Path.{_≡_};
 ghost use Prim.Native.Nat.{_^_, _<_};
 ghost use Rattle.loader.specs.Number.{refusalNumber, checkNumber, unpackNumber, packNumber, pressNumber, decodeNumber, codeNumber, periodNumber};
 
+// Refusal number × 2^32 + place.
 fn refusal_number(refusal: Refusal) -> u64
     requires { ⌜ refusalNumber refusal < 2 ^ 64 ⌝ }
     ensures { λ r. ⌜ r ≡ refusalNumber refusal ⌝ }
@@ -21,6 +22,7 @@ fn refusal_number(refusal: Refusal) -> u64
     (refusal.number as u64) * 4294967296 + (refusal.place as u64)
 }
 
+// Of the check: the end.
 pub fn check_number(verdict: Verdict) -> u64
     requires { ⌜ checkNumber verdict < 2 ^ 64 ⌝ }
     ensures { λ r. ⌜ r ≡ checkNumber verdict ⌝ }
@@ -31,6 +33,7 @@ pub fn check_number(verdict: Verdict) -> u64
     }
 }
 
+// Of unpacking: the rows.
 pub fn unpack_number(unpacked: Unpacked) -> u64
     requires { ⌜ unpackNumber unpacked < 2 ^ 64 ⌝ }
     ensures { λ r. ⌜ r ≡ unpackNumber unpacked ⌝ }
@@ -41,6 +44,7 @@ pub fn unpack_number(unpacked: Unpacked) -> u64
     }
 }
 
+// Of packing: length + 65,536 × rows.
 pub fn pack_number(packed: Packed) -> u64
     requires { ⌜ packNumber packed < 2 ^ 64 ⌝ }
     ensures { λ r. ⌜ r ≡ packNumber packed ⌝ }
@@ -51,6 +55,7 @@ pub fn pack_number(packed: Packed) -> u64
     }
 }
 
+// Of pressing: the length.
 pub fn press_number(pressed: Pressed) -> u64
     requires { ⌜ pressNumber pressed < 2 ^ 64 ⌝ }
     ensures { λ r. ⌜ r ≡ pressNumber pressed ⌝ }
@@ -61,6 +66,7 @@ pub fn press_number(pressed: Pressed) -> u64
     }
 }
 
+// Of decoding: how many values.
 pub fn decode_number(decoded: Decoded) -> u64
     requires { ⌜ decodeNumber decoded < 2 ^ 64 ⌝ }
     ensures { λ r. ⌜ r ≡ decodeNumber decoded ⌝ }
@@ -71,6 +77,7 @@ pub fn decode_number(decoded: Decoded) -> u64
     }
 }
 
+// Of coding: how many bytes.
 pub fn code_number(coded: Coded) -> u64
     requires { ⌜ codeNumber coded < 2 ^ 64 ⌝ }
     ensures { λ r. ⌜ r ≡ codeNumber coded ⌝ }
@@ -81,6 +88,7 @@ pub fn code_number(coded: Coded) -> u64
     }
 }
 
+// Of a period: E + 65,536 × its divisor.
 pub fn period_number(tuned: Tuned) -> u64
     requires { ⌜ periodNumber tuned < 2 ^ 64 ⌝ }
     ensures { λ r. ⌜ r ≡ periodNumber tuned ⌝ }

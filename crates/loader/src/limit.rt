@@ -15,6 +15,7 @@ const DELTA_MOST: usize = 16777216;
 
 const ADPCM_MOST: usize = 33554432;
 
+// The refusal of more than the limit.
 fn above_limit() -> Refusal
     ensures { λ r. ⌜ r ≡ codeRefusal (16 at 0) ⌝ }
 {

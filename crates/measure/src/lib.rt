@@ -68,6 +68,7 @@ fn some_in_block(stored: &[u8], place: usize) -> u8
     sum
 }
 
+// How many bytes up to an end are not 0, 64 at once.
 fn some_up_to(stored: &[u8], end: usize) -> usize
     requires { ⌜ end ≤ length (now stored) ⌝ }
     ensures { λ r. ⌜ r ≡ someOf end (now (stored .entry)) ⌝ }

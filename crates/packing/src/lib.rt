@@ -31,7 +31,7 @@ pub enum Packed {
 
 // The first pass over lent cells: how many bytes they take in their shortest form. Above what data can be, the rest are not measured.
 fn measure_cells(cells: &[u8], count: usize) -> usize
-    requires { ⌜ count * 5 ≤ length (now cells) ⌝ }
+    requires { ⌜ count * cellSize ≤ length (now cells) ⌝ }
     requires { ⌜ count ≤ rowsMost * channelsMost ⌝ }
     ensures { λ r. ⌜ LimitedLength (length (joined writeCell (cellsOf count (now (cells .entry))))) r ⌝ }
 {
@@ -49,7 +49,7 @@ fn measure_cells(cells: &[u8], count: usize) -> usize
 
 // A number that is 0 only for an empty cell: four of its bytes are one load.
 fn weight(cells: &[u8], place: usize) -> u64
-    requires { ⌜ place + 5 ≤ length (now cells) ⌝ }
+    requires { ⌜ place + cellSize ≤ length (now cells) ⌝ }
     ensures { λ r. ⌜ (r ≡ 0 → five (drop place (now (cells .entry))) ≡ replicate cellSize 0) ⌝ }
 {
     let first = wide(cells[place]);
@@ -62,7 +62,7 @@ fn weight(cells: &[u8], place: usize) -> u64
 
 // Lent cells from a place on, one by one, each in its shortest form at the front of out.
 fn write_each(cells: &[u8], from: usize, count: usize, out: &mut [u8])
-    requires { ⌜ from + count * 5 ≤ length (now cells) ⌝ }
+    requires { ⌜ from + count * cellSize ≤ length (now cells) ⌝ }
     requires { ⌜ length (joined writeCell (cellsOf count (drop from (now cells)))) ≤ length (now out) ⌝ }
     ensures { λ _. ⌜ now (out .exit) ≡ inFront (joined writeCell (cellsOf count (drop from (now (cells .entry))))) (now (out .entry)) ⌝ }
 {
@@ -79,7 +79,7 @@ fn write_each(cells: &[u8], from: usize, count: usize, out: &mut [u8])
 // The second pass over lent cells: each in its shortest form, at the front of out. A cell takes a byte at least: five behind this one
 // leave room for six bytes. Where the rest begins is told by the count, so that the loop needs no more than a pointer.
 fn write_cells(cells: &[u8], count: usize, out: &mut [u8])
-    requires { ⌜ count * 5 ≤ length (now cells) ⌝ }
+    requires { ⌜ count * cellSize ≤ length (now cells) ⌝ }
     requires { ⌜ length (joined writeCell (cellsOf count (now cells))) ≤ length (now out) ⌝ }
     ensures { λ _. ⌜ now (out .exit) ≡ inFront (joined writeCell (cellsOf count (now (cells .entry)))) (now (out .entry)) ⌝ }
 {
@@ -101,6 +101,7 @@ fn write_cells(cells: &[u8], count: usize, out: &mut [u8])
     write_each(cells, (count - left) * 5, left, &mut out[to..]);
 }
 
+// Refused with this number, at place 0.
 fn refused(number: u32) -> Packed
     ensures { λ r. ⌜ r ≡ packedOf (refuses (number at 0)) ⌝ }
 {

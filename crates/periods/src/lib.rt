@@ -22,6 +22,7 @@ pub enum Tuned {
 
 const NOTE_MOST: u64 = 118;
 
+// The refusal of a note or finetune outside its range.
 fn out_of_range() -> Refusal
     ensures { λ r. ⌜ r ≡ codeRefusal (16 at 0) ⌝ }
 {
@@ -43,6 +44,7 @@ fn rounded_down(finetune: i64) -> i64
     }
 }
 
+// f: what remains of a finetune divided by 16.
 fn what_remains(finetune: i64) -> usize
     ensures { λ r. ⌜ r ≡ remaining finetune 16 ⌝ }
 {
@@ -62,6 +64,7 @@ fn position(note: u64, finetune: i64) -> i64
     (8 * note) as i64 + rounded_down(finetune)
 }
 
+// The period of a note and finetune that are in range, by q and f.
 fn period_at(q: usize, f: usize) -> Quotient
     requires { ⌜ (q < 960) × (f < 16) ⌝ }
     ensures { λ r. ⌜ r ≡ quotientOf (periodAt q f) ⌝ }
@@ -74,6 +77,7 @@ fn period_at(q: usize, f: usize) -> Quotient
     }
 }
 
+// The period of a real note and its finetune.
 pub fn period(note: u64, finetune: i64) -> Tuned
     ensures { λ r. ⌜ r ≡ tunedOf (tuning note finetune) ⌝ }
 {

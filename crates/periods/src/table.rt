@@ -1558,6 +1558,7 @@ const ROW_5: [u16; 256] = [
     14519,
 ];
 
+// E from 0 on.
 fn row_0(column: usize) -> u16
     requires { ⌜ column < 256 ⌝ }
     ensures { λ r. ⌜ r ≡ entryE (0 + column) ⌝ }
@@ -1565,6 +1566,7 @@ fn row_0(column: usize) -> u16
     ROW_0[column]
 }
 
+// E from 256 on.
 fn row_1(column: usize) -> u16
     requires { ⌜ column < 256 ⌝ }
     ensures { λ r. ⌜ r ≡ entryE (256 + column) ⌝ }
@@ -1572,6 +1574,7 @@ fn row_1(column: usize) -> u16
     ROW_1[column]
 }
 
+// E from 512 on.
 fn row_2(column: usize) -> u16
     requires { ⌜ column < 256 ⌝ }
     ensures { λ r. ⌜ r ≡ entryE (512 + column) ⌝ }
@@ -1579,6 +1582,7 @@ fn row_2(column: usize) -> u16
     ROW_2[column]
 }
 
+// E from 768 on.
 fn row_3(column: usize) -> u16
     requires { ⌜ column < 256 ⌝ }
     ensures { λ r. ⌜ r ≡ entryE (768 + column) ⌝ }
@@ -1586,6 +1590,7 @@ fn row_3(column: usize) -> u16
     ROW_3[column]
 }
 
+// E from 1024 on.
 fn row_4(column: usize) -> u16
     requires { ⌜ column < 256 ⌝ }
     ensures { λ r. ⌜ r ≡ entryE (1024 + column) ⌝ }
@@ -1593,6 +1598,7 @@ fn row_4(column: usize) -> u16
     ROW_4[column]
 }
 
+// E from 1280 on.
 fn row_5(column: usize) -> u16
     requires { ⌜ column < 256 ⌝ }
     ensures { λ r. ⌜ r ≡ entryE (1280 + column) ⌝ }
@@ -1600,6 +1606,7 @@ fn row_5(column: usize) -> u16
     ROW_5[column]
 }
 
+// E, by its place in the table.
 pub fn entry(place: usize) -> u16
     requires { ⌜ place < tableSize ⌝ }
     ensures { λ r. ⌜ r ≡ entryE place ⌝ }

@@ -14,6 +14,7 @@ use structures::hand;
 use structures::start;
 use walk::Verdict;
 
+// The check's numbers.
 pub fn put_verdict(verdict: Verdict) {
     match verdict {
         Verdict::Accepted(module) => {
@@ -26,6 +27,7 @@ pub fn put_verdict(verdict: Verdict) {
     }
 }
 
+// A structure's kind and place; true, for it is not the end.
 fn put_structure(kind: &[u8], place: usize) -> bool {
     say(kind);
     put(place);
@@ -52,6 +54,7 @@ fn put_standing(standing: Standing) -> bool {
 // More structures than any file of the script has.
 const STRUCTURES_MOST: usize = 1000;
 
+// All structures in order, and the end.
 pub fn put_structures(file: &[u8]) {
     let mut reached = start(file);
     let mut on = true;
@@ -85,6 +88,7 @@ pub fn put_line(file: &[u8]) {
     say(&text[..length]);
 }
 
+// The numbers of a press.
 fn of_pressed(pressed: Pressed) -> Answer {
     match pressed {
         Pressed::Length(length) => accepted(length, 0),

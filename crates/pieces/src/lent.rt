@@ -10,6 +10,7 @@ pub fn memory() -> [u8; 81936]
     [90; 81936]
 }
 
+// The lesser of two numbers.
 pub fn least(a: usize, b: usize) -> usize
     ensures { λ r. ⌜ r ≤ a ⌝ }
     ensures { λ r. ⌜ r ≤ b ⌝ }

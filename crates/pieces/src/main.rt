@@ -48,6 +48,7 @@ fn run_call(file: &[u8], numbers: Numbers, first: u8, second: u8) {
     tabling::run_tables(file, numbers, first);
 }
 
+// The call of a line, on the file that was opened.
 fn run_opened(handle: i32, line: &[u8], length: usize) {
     let mut bytes = memory();
     let size = io::read_full(handle, &mut bytes);
@@ -57,6 +58,7 @@ fn run_opened(handle: i32, line: &[u8], length: usize) {
     run_call(&bytes[..size], numbers_of(line), call, next);
 }
 
+// A line: it is written again, and then the answer.
 fn run_line(line: &[u8]) {
     say(line);
     let length = script::name_length(line);
@@ -70,6 +72,7 @@ fn run_line(line: &[u8]) {
     say(b"\n");
 }
 
+// Every line of the script.
 fn run_script(script: &[u8]) {
     let mut from: usize = 0;
     for end in 0..script.len() {
@@ -80,6 +83,7 @@ fn run_script(script: &[u8]) {
     }
 }
 
+// The script comes from standard input.
 fn main() {
     let mut script = memory();
     let size = io::read_full(STDIN_FILENO, &mut script);

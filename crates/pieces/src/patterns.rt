@@ -9,6 +9,7 @@ use crate::write::put_lent;
 use crate::write::refused;
 use cells::Unpacked;
 
+// A table's number.
 fn wide(number: u32) -> usize {
     number as usize
 }
@@ -24,6 +25,7 @@ fn stored_of<'a>(file: &'a [u8], patterns: &[u32], row: usize) -> &'a [u8] {
     part(file, entry(patterns, at), entry(patterns, at + 1))
 }
 
+// The numbers of unpacking.
 fn of_unpacked(unpacked: Unpacked) -> Answer {
     match unpacked {
         Unpacked::Rows(rows) => accepted(rows, 0),

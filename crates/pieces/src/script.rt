@@ -24,6 +24,7 @@ pub fn letter(line: &[u8], length: usize, behind: usize) -> u8 {
     if at < line.len() { line[at] } else { 0 }
 }
 
+// A number with one decimal digit more.
 fn with_digit(number: usize, digit: u8) -> usize {
     number % 1000000000 * 10 + (digit % 16) as usize
 }
@@ -52,6 +53,7 @@ pub struct Numbers {
     pub fifth: usize,
 }
 
+// The numbers behind the names of a file and a call.
 pub fn numbers_of(line: &[u8]) -> Numbers {
     Numbers {
         first: number(line, 2),

@@ -21,6 +21,7 @@ use asking::sample_stretch;
 use samples::Coded;
 use samples::Decoded;
 
+// The numbers of asking for a sample.
 fn of_asked(asked: Asked) -> Answer {
     match asked {
         Asked::Given(stretch) => accepted(stretch.place, stretch.length),
@@ -40,6 +41,7 @@ pub fn put_ask(file: &[u8], numbers: Numbers, samples: &[u32]) {
     put_sum(sum::of_bytes(stretch));
 }
 
+// The numbers of decoding.
 fn of_decoded(decoded: Decoded) -> Answer {
     match decoded {
         Decoded::Values(count) => accepted(count, 0),
@@ -47,6 +49,7 @@ fn of_decoded(decoded: Decoded) -> Answer {
     }
 }
 
+// A byte as a number.
 fn wide(byte: u8) -> usize
     ensures { λ r. ⌜ r ≤ 255 ⌝ }
 {
@@ -75,6 +78,7 @@ fn decode_by(head: &[u8], width: usize, data: &[u8], values: &mut [i16]) -> Deco
     samples::decode(width, data, values)
 }
 
+// Decodes by the header into some of the values, and writes the answer.
 fn put_decoded(head: &[u8], width: usize, data: &[u8], wanted: usize, values: &mut [i16]) {
     let room = least(wanted, values.len());
     let decoded = decode_by(head, width, data, &mut values[0..room]);
@@ -112,6 +116,7 @@ fn put_decode(width: usize, stretch: &[u8], wanted: usize, values: &mut [i16]) -
     answer.first
 }
 
+// The numbers of coding.
 fn of_coded(coded: Coded) -> Answer {
     match coded {
         Coded::Bytes(count) => accepted(count, 0),
@@ -119,6 +124,7 @@ fn of_coded(coded: Coded) -> Answer {
     }
 }
 
+// Codes values into some of the lent memory, and writes the answer.
 fn put_code(width: usize, values: &[i16], wanted: usize, lent: &mut [u8]) {
     let room = least(wanted, lent.len());
     let coded = samples::code(width, values, &mut lent[0..room]);
@@ -126,6 +132,7 @@ fn put_code(width: usize, values: &[i16], wanted: usize, lent: &mut [u8]) {
     put_lent(lent, room);
 }
 
+// Decodes, and codes what came out.
 fn put_both(numbers: Numbers, stretch: &[u8], values: &mut [i16], lent: &mut [u8]) {
     let decoded = put_decode(numbers.second, stretch, numbers.third, values);
     let count = least(decoded, values.len());

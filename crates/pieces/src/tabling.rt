@@ -26,6 +26,7 @@ fn rooms(call: u8, numbers: Numbers) -> Numbers {
     if call == b't' { numbers } else { ALL }
 }
 
+// The check's numbers, and the sum of all four tables.
 fn put_tables(
     verdict: Verdict,
     patterns: &[u32; 776],

@@ -5,10 +5,12 @@ use crate::sum;
 use libc::STDOUT_FILENO;
 use refusal::Refusal;
 
+// Words, as they stand.
 pub fn say(words: &[u8]) {
     io::write_all(STDOUT_FILENO, words);
 }
 
+// A space, and a number.
 pub fn put(number: usize) {
     say(b" ");
     io::print_decimal(STDOUT_FILENO, number as u64);
@@ -22,6 +24,7 @@ pub struct Answer {
     pub second: usize,
 }
 
+// An answer that was accepted, with two results.
 pub fn accepted(first: usize, second: usize) -> Answer {
     Answer {
         number: 0,
@@ -31,6 +34,7 @@ pub fn accepted(first: usize, second: usize) -> Answer {
     }
 }
 
+// An answer that was refused.
 pub fn refused(refusal: Refusal) -> Answer {
     Answer {
         number: refusal.number as usize,
@@ -40,6 +44,7 @@ pub fn refused(refusal: Refusal) -> Answer {
     }
 }
 
+// Number, place and two results.
 pub fn put_answer(answer: Answer) {
     put(answer.number);
     put(answer.place);
@@ -47,6 +52,7 @@ pub fn put_answer(answer: Answer) {
     put(answer.second);
 }
 
+// A checksum.
 pub fn put_sum(sum: u64) {
     say(b" sum");
     put(sum as usize);

@@ -2,6 +2,7 @@
 use crate::Pressed;
 use crate::module::write_module;
 use refusal::Refusal;
+use walk::FILE_MOST;
 use walk::WalkStep;
 use walk::refusal_of_walk;
 ghost use mathlib.Core.Path.{_≡_};
@@ -9,9 +10,6 @@ ghost use lib.ListN.{length};
 ghost use Rattle.xm.specs.ModuleKind.{kindBy};
 ghost use Rattle.xm.specs.Convert.{converting, convertAfter};
 ghost use Rattle.press.specs.Pressed.{pressedOf};
-
-// "2 | file over 16,777,216 bytes"
-const FILE_MOST: usize = 16777216;
 
 // Converts a file to a stripped module or to a normal one, in the same two passes. Its tracker name is not kept; what is written may be
 // longer than the file, and too long.

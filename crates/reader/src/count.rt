@@ -24,6 +24,7 @@ pub enum Counted {
     Refused(Refusal),
 }
 
+// No structure counted yet.
 fn none_counted() -> Counts
     ensures { λ r. ⌜ r ≡ structureCounts [] ⌝ }
 {

@@ -18,7 +18,7 @@ ghost use lib.Dec.{eqb};
 ghost use lib.ListN.{length, getD, drop, set};
 ghost use Rattle.xm.specs.Answer.{inFront};
 ghost use Rattle.xm.specs.Lay.{lay};
-ghost use Rattle.xm.specs.Cell.{five, lengthBy, fieldBy, cellAt, bit, kept, kepts, plainBy, writeCell};
+ghost use Rattle.xm.specs.Cell.{cellSize, five, lengthBy, fieldBy, cellAt, bit, kept, kepts, plainBy, writeCell};
 ghost use Rattle.cell.specs.Over.{overMost, Over};
 ghost use Rattle.rewrite.specs.Rewrite.{Moved};
 
@@ -89,7 +89,7 @@ fn both(a: bool, b: bool) -> bool
 
 // Whether a stored cell goes plain: all five fields are stored, and go so.
 fn stored_plain(stored: &[u8], first: Field) -> bool
-    requires { ⌜ first .place + 5 ≤ length (now stored) ⌝ }
+    requires { ⌜ first .place + cellSize ≤ length (now stored) ⌝ }
     ensures { λ r. ⌜ r ≡ (eqb (first .bits % 32) 31 && plainBy (getD (now (stored .entry)) (first .place) 0) (length (kepts (five (drop (first .place) (now (stored .entry))))))) ⌝ }
 {
     let from = first.place;

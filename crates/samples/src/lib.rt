@@ -33,6 +33,7 @@ pub fn bad_argument() -> Refusal
     }
 }
 
+// The refusal of lent memory that is too short.
 pub fn no_room() -> Refusal
     ensures { λ r. ⌜ r ≡ codeRefusal (14 at 0) ⌝ }
 {
@@ -49,6 +50,7 @@ pub fn value8(number: u8) -> i16
     signed_byte(number) as i16
 }
 
+// A stored number of 16 bits as a signed value.
 fn value16(number: u16) -> i16
     ensures { λ r. ⌜ r ≡ signed 16 number ⌝ }
 {
@@ -59,12 +61,14 @@ fn value16(number: u16) -> i16
     }
 }
 
+// The value behind one, at 8 bits: the sum wraps.
 pub fn sum8(before: u8, stored: u8) -> u8
     ensures { λ r. ⌜ r ≡ (before + stored) % 2 ^ 8 ⌝ }
 {
     std::num::wrapping_add_u8(before, stored)
 }
 
+// The same at 16 bits.
 fn sum16(before: u16, stored: u16) -> u16
     ensures { λ r. ⌜ r ≡ (before + stored) % 2 ^ 16 ⌝ }
 {
@@ -163,18 +167,21 @@ fn residue8(value: i16) -> u8
     (residue16(value) % 256) as u8
 }
 
+// What is stored for a value behind another, at 8 bits: the difference wraps.
 fn difference8(before: u8, value: u8) -> u8
     ensures { λ r. ⌜ r ≡ difference 8 before value ⌝ }
 {
     std::num::wrapping_sub_u8(value, before)
 }
 
+// The same at 16 bits.
 fn difference16(before: u16, value: u16) -> u16
     ensures { λ r. ⌜ r ≡ difference 16 before value ⌝ }
 {
     std::num::wrapping_sub_u16(value, before)
 }
 
+// Whether a value can be coded at 8 bits.
 fn fits8(value: i16) -> bool
     ensures { λ r. ⌜ r ≡ fits 8 value ⌝ }
 {

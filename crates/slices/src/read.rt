@@ -5,6 +5,7 @@ ghost use lib.ListN.{length, take, drop};
 ghost use Rattle.xm.specs.Number.{signed};
 ghost use Rattle.slices.specs.Number.{Byte, Word, Long};
 
+// The byte at an offset from a place.
 pub fn byte(file: &[u8], place: usize, offset: usize) -> usize
     requires { ⌜ place + offset < length (now file) ⌝ }
     ensures { λ r. ⌜ Byte offset (drop place (now (file .entry))) r ⌝ }
@@ -12,6 +13,7 @@ pub fn byte(file: &[u8], place: usize, offset: usize) -> usize
     file[place + offset] as usize
 }
 
+// The two bytes there, the low one first.
 pub fn word(file: &[u8], place: usize, offset: usize) -> usize
     requires { ⌜ place + offset + 2 ≤ length (now file) ⌝ }
     ensures { λ r. ⌜ Word offset (drop place (now (file .entry))) r ⌝ }
@@ -19,6 +21,7 @@ pub fn word(file: &[u8], place: usize, offset: usize) -> usize
     byte(file, place, offset) + 256 * byte(file, place, offset + 1)
 }
 
+// The four bytes there, the lowest first.
 pub fn long(file: &[u8], place: usize, offset: usize) -> usize
     requires { ⌜ place + offset + 4 ≤ length (now file) ⌝ }
     ensures { λ r. ⌜ Long offset (drop place (now (file .entry))) r ⌝ }
@@ -56,6 +59,7 @@ pub fn byte_in(file: &[u8], place: usize, size: usize, offset: usize) -> usize
     0
 }
 
+// The same of two bytes: a cut may go through them.
 pub fn word_in(file: &[u8], place: usize, size: usize, offset: usize) -> usize
     requires { ⌜ place + size ≤ length (now file) ⌝ }
     requires { ⌜ offset < 65536 ⌝ }
@@ -64,6 +68,7 @@ pub fn word_in(file: &[u8], place: usize, size: usize, offset: usize) -> usize
     byte_in(file, place, size, offset) + 256 * byte_in(file, place, size, offset + 1)
 }
 
+// The same of four bytes.
 pub fn long_in(file: &[u8], place: usize, size: usize, offset: usize) -> usize
     requires { ⌜ place + size ≤ length (now file) ⌝ }
     requires { ⌜ offset < 65534 ⌝ }

@@ -29,6 +29,7 @@ pub fn clear(count: usize, out: &mut [u8])
     }
 }
 
+// One byte.
 pub fn put_byte(number: u8, out: &mut [u8])
     requires { ⌜ 1 ≤ length (now out) ⌝ }
     ensures { λ _. ⌜ now (out .exit) ≡ inFront (byte number) (now (out .entry)) ⌝ }
@@ -36,6 +37,7 @@ pub fn put_byte(number: u8, out: &mut [u8])
     out[0] = number;
 }
 
+// A number in two bytes, the low one first.
 pub fn put_word(number: usize, out: &mut [u8])
     requires { ⌜ number < 65536 ⌝ }
     requires { ⌜ 2 ≤ length (now out) ⌝ }
@@ -45,6 +47,7 @@ pub fn put_word(number: usize, out: &mut [u8])
     out[1] = (number / 256) as u8;
 }
 
+// A number in four bytes, the lowest first.
 pub fn put_long(number: usize, out: &mut [u8])
     requires { ⌜ number < 4294967296 ⌝ }
     requires { ⌜ 4 ≤ length (now out) ⌝ }

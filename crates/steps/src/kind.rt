@@ -17,12 +17,14 @@ pub fn is_stripped(file: &[u8]) -> bool
     word_in(file, 0, size, 58) == 0
 }
 
+// The mark, byte 37.
 pub fn mark_by(stripped: bool) -> usize
     ensures { λ r. ⌜ r ≡ mark (kindBy stripped) ⌝ }
 {
     if stripped { 0 } else { 0x1A }
 }
 
+// The version.
 pub fn version_by(stripped: bool) -> usize
     ensures { λ r. ⌜ r ≡ version (kindBy stripped) ⌝ }
 {

@@ -11,6 +11,7 @@ ghost use Prim.Native.Nat.{_+_, _≤_};
 ghost use lib.ListN.{length, drop};
 ghost use Rattle.xm.specs.PatternInFile.{leastPattern, patternTests, readPattern, dataMost};
 ghost use Rattle.xm.specs.Module.{fileMost};
+ghost use Rattle.xm.specs.Stored.{channelsMost};
 ghost use Rattle.refusal.specs.Refusal.{placeStep};
 ghost use Rattle.refusal.specs.Test.{firstRefusal};
 ghost use Rattle.steps.specs.Step.{patternHead, patternStep, patternRefusal, storedRefusal, refusalFrom};
@@ -102,10 +103,11 @@ fn pattern_refusal(file: &[u8], at: usize) -> u32
     0
 }
 
+// A pattern, tried and measured: its first fault, or what the press needs of it.
 pub fn read_pattern(file: &[u8], at: usize, channels: usize) -> PatternStep
     requires { ⌜ at ≤ length (now file) ⌝ }
     requires { ⌜ length (now file) ≤ fileMost ⌝ }
-    requires { ⌜ (1 ≤ channels) × (channels ≤ 64) ⌝ }
+    requires { ⌜ (1 ≤ channels) × (channels ≤ channelsMost) ⌝ }
     ensures { λ r. ⌜ r ≡ patternStep (now (file .entry)) at (readPattern channels at (drop at (now (file .entry)))) ⌝ }
 {
     let refusal = pattern_refusal(file, at);
@@ -133,7 +135,7 @@ pub fn read_pattern(file: &[u8], at: usize, channels: usize) -> PatternStep
 pub fn scan_pattern(file: &[u8], at: usize, channels: usize) -> Step
     requires { ⌜ at ≤ length (now file) ⌝ }
     requires { ⌜ length (now file) ≤ fileMost ⌝ }
-    requires { ⌜ (1 ≤ channels) × (channels ≤ 64) ⌝ }
+    requires { ⌜ (1 ≤ channels) × (channels ≤ channelsMost) ⌝ }
     ensures { λ r. ⌜ r ≡ placeStep at (readPattern channels at (drop at (now (file .entry)))) ⌝ }
 {
     let refusal = pattern_refusal(file, at);

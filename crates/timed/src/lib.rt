@@ -7,6 +7,7 @@ ghost use Rattle.xm.specs.Answer.{result};
 ghost use Rattle.reader.specs.Count.{total, counting};
 ghost use Rattle.timed.specs.Number.{countedNumber};
 
+// All counts together; 0 of a refused file.
 fn counted_number(counted: Counted) -> usize
     requires { ⌜ countedNumber counted < 2 ^ 64 ⌝ }
     ensures { λ r. ⌜ r ≡ countedNumber counted ⌝ }

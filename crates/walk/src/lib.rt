@@ -30,13 +30,14 @@ ghost use Rattle.xm.specs.PatternInFile.{PatternFound, patternFormat};
 ghost use Rattle.xm.specs.Instrument.{instrumentFormat};
 ghost use Rattle.xm.specs.Module.{Found, fileMost, readWhole, readFile};
 ghost use Rattle.xm.specs.Table.{checking};
+ghost use Rattle.xm.specs.Stored.{channelsMost};
 ghost use Rattle.refusal.specs.Refusal.{placeStep};
 ghost use Rattle.mark.specs.Mark.{Marks};
 ghost use Rattle.steps.specs.Step.{headerStep};
 ghost use Rattle.walk.specs.File.{patternsStep, instrumentsStep, runRefusal, runPressed, countStep, countRefusal, walkStep, walkRefusal, verdictOf};
 
 // "2 | file over 16,777,216 bytes"
-const FILE_MOST: usize = 16777216;
+pub const FILE_MOST: usize = 16777216;
 
 // A run of structures, one after the other: where they end, and the bytes of their pressed forms.
 struct Run {
@@ -90,6 +91,7 @@ fn refusal_of_run(step: RunStep) -> Refusal
     }
 }
 
+// The refusal of a run of instruments, to be passed on.
 fn refusal_of_count(step: CountStep) -> Refusal
     ensures { λ r. ⌜ r ≡ countRefusal step ⌝ }
 {
@@ -119,7 +121,7 @@ fn read_patterns(
 ) -> RunStep
     requires { ⌜ at ≤ length (now file) ⌝ }
     requires { ⌜ length (now file) ≤ fileMost ⌝ }
-    requires { ⌜ (1 ≤ channels) × (channels ≤ 64) ⌝ }
+    requires { ⌜ (1 ≤ channels) × (channels ≤ channelsMost) ⌝ }
     requires { ⌜ count ≤ 256 ⌝ }
     requires { ⌜ length (now marks) ≡ 8 ⌝ }
     ensures answer { λ r. ⌜ r ≡ patternsStep at (each patternFormat .read (replicate count channels) at (drop at (now (file .entry)))) ⌝ }
@@ -148,7 +150,7 @@ fn read_patterns(
 fn scan_patterns(file: &[u8], at: usize, channels: usize, count: usize) -> Step
     requires { ⌜ at ≤ length (now file) ⌝ }
     requires { ⌜ length (now file) ≤ fileMost ⌝ }
-    requires { ⌜ (1 ≤ channels) × (channels ≤ 64) ⌝ }
+    requires { ⌜ (1 ≤ channels) × (channels ≤ channelsMost) ⌝ }
     ensures { λ r. ⌜ r ≡ placeStep at (each patternFormat .read (replicate count channels) at (drop at (now (file .entry)))) ⌝ }
 {
     let mut place = at;
