@@ -17,6 +17,7 @@ use Rattle.refusal.specs.declared.Refusal.{Refusal}
 use Rattle.walk.specs.declared.Module.{Module}
 use Rattle.walk.specs.declared.Verdict.{Verdict}
 use Rattle.walk.specs.declared.Verdict.the-variants as verdict
+use Rattle.walk.proofs.FileLaws.{same-module}
 use Rattle.walk.specs.File.{verdictOf}
 use Rattle.reader.specs.declared.count.Counted.{Counted}
 use Rattle.reader.specs.Count.{structureCounts, counting, countedOf, countedNumbers, countResults}
@@ -30,9 +31,6 @@ filled-as text lent e f = (f .0 ∙ ap length e, (f .1 .0 ∙ ap (λ (text : Lis
 
 never-accepted : {A : Type 0} {found : Module} {refusal : Refusal} → verdict.Accepted found ≡ verdict.Refused refusal → A
 never-accepted e = absurd (let z : _≡_ {A = ℕ} 0 1 = cc in omega arith)
-
-same-module : {a b : Module} → verdict.Accepted a ≡ verdict.Accepted b → a ≡ b
-same-module e = cc
 
 refused-text : (x : Answer CheckReport) {refusal : Refusal} → verdict.Refused refusal ≡ verdictOf x → refusedLine refusal ≡ lineOf x
 refused-text (gives c) e = never-accepted (sym e)

@@ -10,7 +10,7 @@ use lib.Pow.{pow-mono}
 use borrow.Author.Tests.{ltb-true, eqb-true}
 use Rattle.periods.specs.Period.{periodTab, doubled, sumAt, entryE, tableSize}
 use Rattle.periods.specs.Promise.{tabEntry, FollowsRule, FallsStrictly}
-use Rattle.periods.proofs.Tabulate.{allFrom, each-from}
+use Rattle.periods.proofs.Tabulate.{each-from}
 
 -- One after the other: a test that is computed at all of them
 lower : ℕ → Bool

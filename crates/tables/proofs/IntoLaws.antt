@@ -15,7 +15,8 @@ use Rattle.xm.specs.Header.{Header, channelsAt, patternsAt, instrumentsAt, head
 use Rattle.xm.specs.PatternInFile.{patternFormat}
 use Rattle.xm.specs.Instrument.{InstrumentFound, instrumentFormat}
 use Rattle.xm.specs.Module.{Found, readFile}
-use Rattle.xm.specs.Table.{patternRow, patternRows, sampleCount, instrumentRowsFrom, instrumentRows, sampleRows, CheckReport, checkedAs, checking, checkingInto}
+use Rattle.xm.specs.Table.{patternRow, patternRows, sampleCount, instrumentRowsFrom, instrumentRows, sampleRows, CheckReport, checkedAs, checking}
+use Rattle.xm.specs.Table.{checkingInto}
 use Rattle.xm.specs.Table.{Tables, Room, roomOf, roomTests, tablesAfter, patternStride, instrumentStride, sampleStride, tuneStride, patternNumbers}
 use Rattle.xm.specs.Table.{instrumentNumbers, sampleNumbers, sampleTunes}
 use Rattle.xm.specs.Demands.{HasRoom}
@@ -29,14 +30,12 @@ use Rattle.walk.specs.File.{verdictOf}
 use Rattle.walk.specs.declared.Module.{Module}
 use Rattle.walk.specs.declared.Verdict.{Verdict}
 use Rattle.walk.specs.declared.Verdict.the-variants as verdict
+use Rattle.walk.proofs.FileLaws.{same-module}
 use Rattle.xm.proofs.Got.{all-hold}
 use Rattle.refusal.proofs.TestLaws.{not-all-hold}
 use Rattle.tables.specs.Into.{lent, roomBeside, roomTestsOf, patternsAfter, instrumentsAfter}
 use Rattle.tables.proofs.Reading.{file-reads}
 use Rattle.tables.proofs.VerdictLaws.{never, verdict-got, verdict-refused}
-
-same-module : {x y : Module} → verdict.Accepted x ≡ verdict.Accepted y → x ≡ y
-same-module e = cc
 
 -- As many rows as the check counts
 rows-from : (first : ℕ) (is : List InstrumentFound) → length (instrumentRowsFrom first is) ≡ length is

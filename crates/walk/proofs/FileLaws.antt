@@ -38,7 +38,12 @@ use Rattle.walk.specs.declared.Count.{Count}
 use Rattle.walk.specs.declared.CountStep.{CountStep}
 use Rattle.walk.specs.declared.CountStep.the-variants as counted
 use Rattle.walk.specs.declared.WalkStep.the-variants as walked
+use Rattle.walk.specs.declared.Module.{Module}
 use Rattle.walk.specs.declared.Verdict.the-variants as verdict
+
+-- An accepted verdict tells what it is of
+pub same-module : {one other : Module} → verdict.Accepted one ≡ verdict.Accepted other → one ≡ other
+same-module e = cc
 
 -- What a step's answer says of its reading
 run-got : {R H I A : Type 0} (F : Format H I A) (place : ℕ) (g : Got (List I)) {part : Run} → run.Read part ≡ runStep F place g

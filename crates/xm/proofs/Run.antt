@@ -9,12 +9,12 @@ use native.Mathlib.Omega.{arith}
 use borrow.Author.Tests.{eq-eqb, ne-eqb, eqb-true, eqb-false}
 use lib.Dec.{leb, eqb}
 use lib.ListN.{length, getD, drop, length-append, length-drop}
-use Rattle.xm.specs.Got.{Got, got, refused, _>>=_, _>>_, ensure, checked, atMost, accepted, _at_}
+use Rattle.xm.specs.Got.{Got, got, refused, _>>=_, _>>_, ensure, checked, atMost, _at_}
 use Rattle.xm.specs.Format.{joined, flat}
 use Rattle.xm.specs.Cell.{needed, cellAt, readCell, bit, kepts, goesPlain, writeCell}
 use Rattle.xm.specs.Stored.{Pattern, readRun, readCells, readStored, allZero, needsNoData, writeStored}
 use Rattle.xm.specs.Run.{cellsIn, sizeBy}
-use Rattle.xm.proofs.Got.{not-both, accepted-got, got-accepted, bind-got, got-value, got-used}
+use Rattle.xm.proofs.Got.{not-both, bind-got, got-value, got-used}
 use Rattle.xm.proofs.Format.{cons-path}
 use Rattle.xm.proofs.Cell.{bit-none, bit-some, kept-length, marked-length, length-some, cell-length}
 use Rattle.xm.proofs.Cell.{cell-read, write-plain, write-marked, write-some, write-short, plain-many}

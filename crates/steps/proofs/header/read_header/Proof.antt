@@ -1,7 +1,6 @@
 -- `steps::header::read_header` meets its contract: a test's refusal, or the header's counts and start. Assumes nothing.
 use mathlib.Core.Path.{_≡_, sym, ap, _∙_}
-use native.Mathlib.Omega.{arith}
-use Rattle.xm.specs.ModuleKind.{ModuleKind, kindBy}
+use Rattle.xm.specs.ModuleKind.{ModuleKind}
 use Rattle.xm.specs.Header.{kindAt, headerTests}
 use Rattle.refusal.specs.Test.{firstRefusal}
 use Rattle.steps.specs.Step.{headerStep}
