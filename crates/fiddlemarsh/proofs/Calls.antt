@@ -21,7 +21,8 @@ use Rattle.xm.specs.Demands.{LoaderTells}
 use Rattle.xm.proofs.Demands.{loaders-tell}
 use Rattle.periods.specs.Period.{Period, tuning, bothNumbers}
 use Rattle.periods.proofs.Calls as periods
-use Rattle.fiddlemarsh.specs.Promise.{LoaderChecks, LoaderUnpacks, LoaderPacks, LoaderPresses, LoaderConverts, LoaderFills, LoaderDecodes, LoaderCodes, LoaderDecodesAdpcm, LoaderTunes, NumberTells, NumberTellsKept}
+use Rattle.fiddlemarsh.specs.Promise.{LoaderChecks, LoaderUnpacks, LoaderPacks, LoaderPresses, LoaderConverts, LoaderFills, LoaderDecodes, LoaderCodes}
+use Rattle.fiddlemarsh.specs.Promise.{LoaderDecodesAdpcm, LoaderTunes, NumberTells, NumberTellsKept}
 
 -- At least 2^32 exactly when refused
 refused-exactly : {A : Type 0} (value : A → ℕ) (answer : Answer A) {number : ℕ} → LoaderTells value answer number
@@ -68,7 +69,8 @@ module _ (rows channels : ℕ) (stored lent : List ℕ) where
       tells-kept rowsRead cellBytes (unpacking rows channels stored (length lent)) lent (met .0) (met .1)
       (loaders-tell .unpack rows channels stored (length lent) b)
 
-  pub unpack-once : {number other : ℕ} {held kept : List ℕ} → LoaderUnpacks rows channels stored lent number held → LoaderUnpacks rows channels stored lent other kept
+  pub unpack-once : {number other : ℕ} {held kept : List ℕ} → LoaderUnpacks rows channels stored lent number held
+      → LoaderUnpacks rows channels stored lent other kept
       → (number ≡ other) × (held ≡ kept)
   unpack-once = once
 
@@ -97,7 +99,8 @@ module _ (file lent : List ℕ) where
   press-tells met b =
       tells-kept pressedLength (λ (bytes : List ℕ). bytes) (pressing file (length lent)) lent (met .0) (met .1) (loaders-tell .press file (length lent) b)
 
-  pub press-once : {number other : ℕ} {held kept : List ℕ} → LoaderPresses file lent number held → LoaderPresses file lent other kept → (number ≡ other) × (held ≡ kept)
+  pub press-once : {number other : ℕ} {held kept : List ℕ} → LoaderPresses file lent number held → LoaderPresses file lent other kept
+      → (number ≡ other) × (held ≡ kept)
   press-once = once
 
 -- To either kind
@@ -121,7 +124,8 @@ module _ (file : List ℕ) (lent : Tables) where
       kept CheckReport.end (λ a. tablesAfter a lent) (checkingInto (roomOf lent) file) lent (λ r. refl) (met .0) (met .1)
       (loaders-tell .tables (roomOf lent) file b)
 
-  pub tables-once : {number other : ℕ} {held kept : Tables} → LoaderFills file lent number held → LoaderFills file lent other kept → (number ≡ other) × (held ≡ kept)
+  pub tables-once : {number other : ℕ} {held kept : Tables} → LoaderFills file lent number held → LoaderFills file lent other kept
+      → (number ≡ other) × (held ≡ kept)
   tables-once = once
 
 -- Deltas to values

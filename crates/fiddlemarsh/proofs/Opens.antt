@@ -30,12 +30,14 @@ use Rattle.tables.proofs.Calls.{headAt, rowHeadSize, valuesAt, sample-number, f
 use Rattle.fiddlemarsh.specs.Promise.{LoaderUnpacks, LoaderFills, LoaderDecodes, LoaderDecodesAdpcm}
 
 -- A number and a memory of an answer that gives something
-given-number : {A B : Type 0} (value : A → ℕ) (written : A → List B) (answer : Answer A) (lent : List B) {number : ℕ} {held : List B} {a : A} → answer ≡ gives a
+given-number : {A B : Type 0} (value : A → ℕ) (written : A → List B) (answer : Answer A) (lent : List B) {number : ℕ} {held : List B} {a : A}
+    → answer ≡ gives a
     → (number ≡ loaderNumber value answer) × (held ≡ after written answer lent) → (number ≡ value a) × (held ≡ inFront (written a) lent)
 unfolding loaderNumber
 given-number value written answer lent e met = (met .0 ∙ ap (loaderNumber value) e, met .1 ∙ ap (λ (a : Answer _). after written a lent) e)
 
-module _ (file : List ℕ) (plain : Bytes file) (lent : Tables) (c : CheckReport) (accepted : checkingInto (roomOf lent) file ≡ gives c) {number : ℕ} {held : Tables}
+module _ (file : List ℕ) (plain : Bytes file) (lent : Tables) (c : CheckReport) (accepted : checkingInto (roomOf lent) file ≡ gives c) {number : ℕ}
+    {held : Tables}
     (met : LoaderFills file lent number held)
   where
     abbrev channels : ℕ
@@ -52,7 +54,8 @@ module _ (file : List ℕ) (plain : Bytes file) (lent : Tables) (c : CheckReport
         → length (cellBytes (patternIn k)) ≤ length cells
         → LoaderUnpacks (patternNumber k 2) channels (part (patternNumber k 0) (patternNumber k 1) file) cells answer then
         → (answer ≡ patternIn k .rows) × (then ≡ inFront (cellBytes (patternIn k)) cells)
-    opens-pattern k cells low enough = rw (met .1) (given-number rowsRead cellBytes _ cells (filled-unpacks file plain lent c accepted k (length cells) low enough))
+    opens-pattern k cells low enough =
+        rw (met .1) (given-number rowsRead cellBytes _ cells (filled-unpacks file plain lent c accepted k (length cells) low enough))
 
     -- of a sample's row: header place, data place, length, width, loop kind, loop start, loop length; and of its header, as far as its region goes,
     -- the length and the kind

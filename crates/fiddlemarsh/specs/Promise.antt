@@ -23,7 +23,8 @@ abbrev pub LoaderChecks : (file : List ℕ) (number : ℕ) → Type 0
 LoaderChecks file number = number ≡ checkLoader file
 
 abbrev pub LoaderUnpacks : (rows channels : ℕ) (stored lent : List ℕ) (number : ℕ) (held : List ℕ) → Type 0
-LoaderUnpacks rows channels stored lent number held = (number ≡ unpackLoader rows channels stored (length lent)) × (held ≡ unpackAfter rows channels stored lent)
+LoaderUnpacks rows channels stored lent number held =
+    (number ≡ unpackLoader rows channels stored (length lent)) × (held ≡ unpackAfter rows channels stored lent)
 
 abbrev pub LoaderPacks : (rows channels : ℕ) (cells lent : List ℕ) (number : ℕ) (held : List ℕ) → Type 0
 LoaderPacks rows channels cells lent number held = (number ≡ packLoader rows channels cells (length lent)) × (held ≡ packAfter rows channels cells lent)

@@ -14,7 +14,8 @@ use Rattle.xm.specs.ModuleKind.{padded}
 use Rattle.xm.specs.Answer.{inFront}
 use Rattle.xm.specs.Got.{Got, got, refused, _>>=_, _>>_, checked, _at_}
 use Rattle.xm.specs.Format.{each}
-use Rattle.xm.specs.Sample.{leastHead, headBytes, adpcm, adpcmSize, dataSizeBy, dataSize, StretchFound, readHead, readData, headFormat, dataFormat, SamplesFound}
+use Rattle.xm.specs.Sample.{leastHead, headBytes, adpcm, adpcmSize, dataSizeBy, dataSize, StretchFound, readHead, readData, headFormat, dataFormat}
+use Rattle.xm.specs.Sample.{SamplesFound}
 use Rattle.xm.specs.Sample.{samplesFormat, sizeOfFirst}
 use Rattle.xm.proofs.Number.{Agree, agree-byte, agree-long}
 use Rattle.xm.proofs.Cut.{padded-length, take-padded, front-padded, padded-zeros}
@@ -231,7 +232,8 @@ module _ (file : List ℕ) (heads size count start : ℕ) where
         inside = omega (arith, w .inside, data-inside _ place (drop place file) ei, length-drop place file);
       }
 
-      pub data-out : {step : Step} {f : Refusal} → step ≡ placeStep place (readData (headBytes size (drop head file)) place (drop place file)) → step ≡ Refused f
+      pub data-out : {step : Step} {f : Refusal} → step ≡ placeStep place (readData (headBytes size (drop head file)) place (drop place file))
+          → step ≡ Refused f
           → step ≡ placeStep start (each dataFormat .read (headsFrom count size (drop heads file)) start (drop start file))
       data-out e told = refused-on place start _ _ e told λ r er.
           reached-out dataFormat _ file start (w .reached) (headBytes size (drop head file)) (rw length-heads h) (same-head _) er

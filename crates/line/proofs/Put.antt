@@ -80,7 +80,8 @@ module _ (held : List ℕ) (at : ℕ) (numbers : List ℕ) where
             length-append (space ∷ decimal (getD numbers done 0)) (numbered (drop (done + 1) numbers)),
           )
 
-      pub written-more : done < length numbers → {end : ℕ} {out : List ℕ} → PieceStands (set line next space) (next + 1) (decimal (getD numbers done 0)) end out
+      pub written-more : done < length numbers → {end : ℕ} {out : List ℕ}
+          → PieceStands (set line next space) (next + 1) (decimal (getD numbers done 0)) end out
           → NumbersWritten held at numbers (done + 1) end out
       written-more h {end} {out} s =
           let n = decimal (getD numbers done 0) in

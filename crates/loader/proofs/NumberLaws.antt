@@ -82,7 +82,8 @@ module _ (file : List ℕ) {verdict : Verdict} (met : verdict ≡ verdictOf (che
 
   pub check-fits : Bytes file → checkNumber verdict < 2 ^ 64
   check-fits b =
-      rw check-same (fits CheckReport.end (checking file) (checkLoader file) (loaders-tell .check file b) (λ r e. omega (arith, demand₁ .check file r b e .0 .1)))
+      rw check-same (fits CheckReport.end (checking file) (checkLoader file) (loaders-tell .check file b)
+      (λ r e. omega (arith, demand₁ .check file r b e .0 .1)))
 
 module _ (rows channels : ℕ) (stored : List ℕ) (room : ℕ) {unpacked : Unpacked} (met : unpacked ≡ unpackedOf (unpacking rows channels stored room)) where
   pub unpack-same : unpackNumber unpacked ≡ unpackLoader rows channels stored room

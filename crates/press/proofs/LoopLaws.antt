@@ -69,7 +69,8 @@ module _ (file lent : List ℕ) (at channels count : ℕ) (marks : List ℕ) whe
 
       pub pattern-told : {mark : ℕ} → mark ≡ patternMark marks done → Told (λ i. Marked file i mark) (readAt patternFormat channels file place)
       pattern-told e =
-          rw e (got-told (λ i. Marked file i (patternMark marks done)) (each-first patternFormat patternFormat channels file lent goal end (w .writes) some .read)
+          rw e (got-told (λ i. Marked file i (patternMark marks done))
+          (each-first patternFormat patternFormat channels file lent goal end (w .writes) some .read)
           (first-marked .0))
 
       pub pattern-room : to + length (pressedAt patternFormat channels file place) ≤ length out

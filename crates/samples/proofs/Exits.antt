@@ -53,7 +53,8 @@ pub code-refused : (width : ℕ) (values : List ℤ) (lent : List ℕ) {r : pape
 code-refused width values lent f e = rw (e, f) (refl, refl)
 
 module _ (width : ℕ) (known : Holds (widthTest width)) (values : List ℤ) (covered : Covered width values) (lent : List ℕ) where
-  pub code-short : {refusal : Refusal} → refusal ≡ codeRefusal (14 at 0) → length lent < width / 8 * length values → Codes width values lent (codes.Refused refusal) lent
+  pub code-short : {refusal : Refusal} → refusal ≡ codeRefusal (14 at 0) → length lent < width / 8 * length values
+      → Codes width values lent (codes.Refused refusal) lent
   code-short f h = code-refused width values lent f (coding-room width values (length lent) known covered (rw (coded-length width known) h))
 
   pub code-done : {count : ℕ} {held : List ℕ} → count ≡ width / 8 * length values → count ≤ length lent → held ≡ inFront (coded width values) lent

@@ -95,7 +95,8 @@ module _ {s : List ℕ} {answer : Step} where
       (omega (arith, ap Walk.at e)))
 
 -- A block with some bytes has one cell or more
-pub block-less : (lengths : List ℕ) (size : ℕ) {left : ℕ} {walk : Walk} → 0 < size → 0 < left → walk ≡ walkOf (blockPassed lengths size left 0) → walk .left < left
+pub block-less : (lengths : List ℕ) (size : ℕ) {left : ℕ} {walk : Walk} → 0 < size → 0 < left → walk ≡ walkOf (blockPassed lengths size left 0)
+    → walk .left < left
 block-less lengths size {left} h k e = rw e (walked-some (λ at u. u) lengths size left tt h k)
 
 -- A stored pattern with some data, by what its cells came to

@@ -71,7 +71,8 @@ same-sizes : (k : ℕ) (s : List ℕ) → replicate k (headSizeOf k s) ≡ repli
 same-sizes zero s = refl
 same-sizes (suc k) s = refl
 
-size-first : (k : ℕ) (s : List ℕ) (heads : List StretchFound) → length heads ≡ k → (1 ≤ k → sizeOfFirst heads ≡ headSizeOf k s) → headSizeOf k s ≡ sizeOfFirst heads
+size-first : (k : ℕ) (s : List ℕ) (heads : List StretchFound) → length heads ≡ k → (1 ≤ k → sizeOfFirst heads ≡ headSizeOf k s)
+    → headSizeOf k s ≡ sizeOfFirst heads
 size-first zero s [] c f = refl
 size-first zero s (h ∷ hs) c f = absurd (omega arith)
 size-first (suc k) s heads c f = sym (f (omega arith))
@@ -159,7 +160,8 @@ module _ (file : List ℕ) (kind : ModuleKind) (place : ℕ) where
     abbrev samples : Got SamplesFound
     samples = samplesFormat .read (replicate (head .samples) (head .«head_size»)) (head .heads) (drop (head .heads) file)
 
-    same-samples : samplesFormat .read (replicate (countAt fields) (sampleHeadSizeAt fields)) (place + instrumentSizeAt from) (drop (instrumentSizeAt from) from)
+    same-samples : samplesFormat .read (replicate (countAt fields) (sampleHeadSizeAt fields)) (place + instrumentSizeAt from)
+        (drop (instrumentSizeAt from) from)
         ≡ samples
     same-samples = cc (eh, same-sizes (countAt fields) fields, drop-drop (instrumentSizeAt from) place file)
 
@@ -229,7 +231,8 @@ module _ (file : List ℕ) (kind : ModuleKind) (place : ℕ) where
     pub part-lies : PartLies
     part-lies =
         let w = fields-pass kind place from (r .tests) in
-        let s = samples-size (countAt fields) (sampleHeadSizeAt fields) (place + instrumentSizeAt from) (drop (instrumentSizeAt from) from) (r .samples) (r .used)
+        let s = samples-size (countAt fields) (sampleHeadSizeAt fields) (place + instrumentSizeAt from) (drop (instrumentSizeAt from) from) (r .samples)
+        (r .used)
         (r .reads) in
         let count = ap InstrumentPart.samples (r .same) ∙ s .counted in
         let size = ap InstrumentPart.size (r .same) in
@@ -249,7 +252,8 @@ module _ (file : List ℕ) (kind : ModuleKind) (place : ℕ) where
             times (piece .samples) (countAt fields) (piece .«head_size») (sampleHeadSizeAt fields) count head,
           );
           views =
-              samples-viewed (countAt fields) (sampleHeadSizeAt fields) (place + instrumentSizeAt from) (drop (instrumentSizeAt from) from) (r .samples) (r .used)
+              samples-viewed (countAt fields) (sampleHeadSizeAt fields) (place + instrumentSizeAt from) (drop (instrumentSizeAt from) from) (r .samples)
+              (r .used)
               (r .reads)
               ∙ ap (headsFrom (countAt fields) (sampleHeadSizeAt fields))
               (drop-drop (instrumentSizeAt from) place file ∙ ap (λ (n : ℕ). drop (place + n) file) (sym size))

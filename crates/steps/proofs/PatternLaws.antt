@@ -55,7 +55,8 @@ head-of place file b e =
     }
 
 -- What the answer over its stored cells says of their reading
-pub stored-refused : (s : List ℕ) (g : Got Pattern) {step : StoredStep} {f r : Refusal} → step ≡ storedOf s g → step ≡ stored.Refused f → r ≡ storedRefusal step
+pub stored-refused : (s : List ℕ) (g : Got Pattern) {step : StoredStep} {f r : Refusal} → step ≡ storedOf s g → step ≡ stored.Refused f
+    → r ≡ storedRefusal step
     → g ≡ refused (paperRefusal r)
 stored-refused s (got p n) e told passed = cc
 stored-refused s (refused q) e told passed = cc

@@ -65,7 +65,8 @@ samples-more k H place bytesPlace s t h d hs ds a c f eh ed w =
       long = omega (arith, size, w .long, ap (dataBefore k H) behind);
     }
 
-samples-read : (k H place bytesPlace : ℕ) (s t : List ℕ) (heads bytes : List StretchFound) (n m : ℕ) → each headFormat .read (replicate k H) place s ≡ got heads n
+samples-read : (k H place bytesPlace : ℕ) (s t : List ℕ) (heads bytes : List StretchFound) (n m : ℕ)
+    → each headFormat .read (replicate k H) place s ≡ got heads n
     → each dataFormat .read (map StretchFound.bytes heads) bytesPlace t ≡ got bytes m → SamplesRead k H place bytesPlace s heads bytes m
 unfolding dataBefore rowsFrom
 samples-read zero H place bytesPlace s t heads bytes n m eh ed =

@@ -76,7 +76,8 @@ times-step zero size l = absurd (omega arith)
 times-step (suc left) size l = let z : suc left - 1 ≡ left = omega arith in rw z (omega (arith, suc-mul left size))
 
 -- The samples that are left of an instrument: all of them, and those behind the next one
-pub left-start : (file : List ℕ) (x : InstrumentHead) → InstrumentHeadStands file x → SamplesLeft file (x .«head_size») (dataEnd file x) (x .samples) (x .heads) (dataStart x)
+pub left-start : (file : List ℕ) (x : InstrumentHead) → InstrumentHeadStands file x
+    → SamplesLeft file (x .«head_size») (dataEnd file x) (x .samples) (x .heads) (dataStart x)
 left-start file x w = record { same = refl; fits = omega (arith, w .inside); inside = w .inside }
 
 module _ (file : List ℕ) (size end : ℕ) {left head place : ℕ} (w : SamplesLeft file size end left head place) where

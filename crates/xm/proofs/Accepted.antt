@@ -81,7 +81,8 @@ some-stand file [] ls hs t r = r
 some-stand file (h ∷ heads) ls hs t r = (head-stands file h (t .0), some-stand file heads ls hs (t .1) r)
 
 all-stand : (file : List ℕ) (is : List InstrumentFound) → All (λ (i : InstrumentFound). SamplesTold file (i .samples)) is
-    → HeadsStand file (joined (λ (i : InstrumentFound). map lies (i .samples .0)) is) (joined (λ (i : InstrumentFound). map StretchFound.bytes (i .samples .0)) is)
+    → HeadsStand file (joined (λ (i : InstrumentFound). map lies (i .samples .0)) is)
+    (joined (λ (i : InstrumentFound). map StretchFound.bytes (i .samples .0)) is)
 all-stand file [] t = tt
 all-stand file (i ∷ is) t = some-stand file (i .samples .0) _ _ (t .0 .heads) (all-stand file is (t .1))
 
@@ -213,7 +214,8 @@ module _ (file : List ℕ) (rows : List SampleRow) (heads bytes : List (List ℕ
   row-inside : (number : ℕ) → number < length rows → getD rows number noRow .dataPlace + getD rows number noRow .size ≤ length file
   row-inside number h = all-at (λ (row : SampleRow). row .dataPlace + row .size ≤ length file) rows number noRow inside h
 
-  asked-flat : (stale : List ℕ) (number : ℕ) → number < length rows → askingFlat file (joined sampleNumbers rows ++ stale) number ≡ gives (stretchAt rows number)
+  asked-flat : (stale : List ℕ) (number : ℕ) → number < length rows
+      → askingFlat file (joined sampleNumbers rows ++ stale) number ≡ gives (stretchAt rows number)
   asked-flat stale number h =
       let table = joined sampleNumbers rows ++ stale in
       let start = sampleStride * number in

@@ -56,7 +56,8 @@ samples-counted : (file : List ℕ) (is : List InstrumentFound) → All (λ (i :
 samples-counted file [] t = refl
 samples-counted file (i ∷ is) t =
     length-append (sampleRowsIn i) (joined sampleRowsIn is)
-    ∙ ap₂ _+_ (rows-length (i .samples .0) (i .samples .1) (t .0 .sizes) ∙ sym (length-map (i .samples .0) StretchFound.bytes)) (samples-counted file is (t .1))
+    ∙ ap₂ _+_ (rows-length (i .samples .0) (i .samples .1) (t .0 .sizes) ∙ sym (length-map (i .samples .0) StretchFound.bytes))
+    (samples-counted file is (t .1))
     ∙ sym (length-append (map StretchFound.bytes (i .samples .0)) (joined (λ (x : Instrument). x .samples .0) (map instrumentView is)))
 
 found-counts : (file : List ℕ) (found : Found) (end : ℕ) → Bytes file → readFile file ≡ got found end
@@ -111,7 +112,8 @@ record Lengths (answer : Answer CheckReport) (lent : Tables) : Type 0 where
   samples : length (tablesAfter answer lent .samples) ≡ length (lent .samples)
   tunes : length (tablesAfter answer lent .tunes) ≡ length (lent .tunes)
 
-lengths : (answer : Answer CheckReport) (lent : Tables) → ((c : CheckReport) → answer ≡ gives c → AllHold (roomTests (roomOf lent) (c .found))) → Lengths answer lent
+lengths : (answer : Answer CheckReport) (lent : Tables) → ((c : CheckReport) → answer ≡ gives c → AllHold (roomTests (roomOf lent) (c .found)))
+    → Lengths answer lent
 unfolding tablesAfter
 lengths (gives c) lent h =
     let r = h c refl in
@@ -305,9 +307,11 @@ demand₁ = record {
   code = code-promise;
   decode-limited = λ width bytes.
       limited-promise deltaMost (omega arith) (length bytes) (decoding width bytes) (decode-refusal width bytes) (decode-fits width bytes);
-  code-limited = λ width values. limited-promise deltaMost (omega arith) (length values) (coding width values) (code-refusal width values) (code-fits width values);
+  code-limited = λ width values. limited-promise deltaMost (omega arith) (length values) (coding width values) (code-refusal width values)
+      (code-fits width values);
   adpcm = adpcm-promise;
-  adpcm-limited = λ count bytes. limited-promise adpcmMost (omega arith) count (adpcmDecoding count bytes) (adpcm-refusal count bytes) (adpcm-fits count bytes);
+  adpcm-limited = λ count bytes. limited-promise adpcmMost (omega arith) count (adpcmDecoding count bytes) (adpcm-refusal count bytes)
+      (adpcm-fits count bytes);
   press = press-promise;
   convert = convert-promise;
 }

@@ -400,7 +400,8 @@ unfolding unpacking
 unpack-refusals rows channels stored room r b e =
     refused-tests CallRefusal _ _ (refuses-refused _ _ e) (omega arith) λ range e.
     refused-bind _ _ e
-    (λ e. let f = stored-refusals channels rows 0 stored r b e in record { sound = read-sound (refusal-numbered f); place = omega (arith, f .to, range .1 .1 .0) })
+    (λ e. let f = stored-refusals channels rows 0 stored r b e in
+    record { sound = read-sound (refusal-numbered f); place = omega (arith, f .to, range .1 .1 .0) })
     (λ p n ep e. refused-tests CallRefusal _ _ e (omega arith) λ h e. absurd (not-both (sym e)))
 
 pub pack-refusals : (rows channels : ℕ) (cells : List ℕ) (room : ℕ) (r : Refusal) → packing rows channels cells room ≡ refuses r → CallRefusal r

@@ -226,7 +226,8 @@ heads-alike kept place (h ∷ hs) s = go (readHead h place s) (λ n. heads-alike
 
 pub samples-alike : (kept place : ℕ) (hs : List ℕ) (s : List ℕ) → cutSamplesFormat kept .read hs place s ≡ samplesFormat .read hs place s
 samples-alike kept place hs s =
-    ap (λ (g : Got (List StretchFound)). g >>= (λ (i, n). each dataFormat .read (map StretchFound.bytes i) (place + n) (drop n s) >>= (λ (j, m). got (i, j) (n + m))))
+    ap (λ (g : Got (List StretchFound)). g >>=
+    (λ (i, n). each dataFormat .read (map StretchFound.bytes i) (place + n) (drop n s) >>= (λ (j, m). got (i, j) (n + m))))
     (heads-alike kept place hs s)
 
 -- The smallest H: no more than any that cuts off nothing but zeros, and such a one itself
@@ -283,13 +284,15 @@ Sized [] (d ∷ ds) = ⊥
 Sized (h ∷ hs) [] = ⊥
 Sized (h ∷ hs) (d ∷ ds) = (d .size ≡ dataSize h) × Sized hs ds
 
-data-sized : (heads : List (List ℕ)) (place : ℕ) (s : List ℕ) (ds : List StretchFound) (n : ℕ) → each dataFormat .read heads place s ≡ got ds n → Sized heads ds
+data-sized : (heads : List (List ℕ)) (place : ℕ) (s : List ℕ) (ds : List StretchFound) (n : ℕ) → each dataFormat .read heads place s ≡ got ds n
+    → Sized heads ds
 unfolding readData
 data-sized [] place s ds n e = got-carry (λ (r : List StretchFound) (u : ℕ). Sized [] r) e tt
 data-sized (h ∷ hs) place s ds n e =
     bind-got _ _ e λ i k ei e₁. bind-got _ _ e₁ λ js m ej e₂.
     passed _ _ ei λ hi ei.
-    got-carry (λ (r : List StretchFound) (u : ℕ). Sized (h ∷ hs) r) e₂ (ap StretchFound.size (sym (got-value ei)), data-sized hs (place + k) (drop k s) js m ej)
+    got-carry (λ (r : List StretchFound) (u : ℕ). Sized (h ∷ hs) r) e₂
+    (ap StretchFound.size (sym (got-value ei)), data-sized hs (place + k) (drop k s) js m ej)
 
 pub record SamplesTold (file : List ℕ) (v : SamplesFound) : Type 0 where
   pub heads : All (HeadTold file) (v .0)

@@ -121,7 +121,8 @@ record HeadsTold (k size head : ℕ) (hs : List StretchFound) : Type 0 where
   count : length hs ≡ k
   first : 0 < k → sizeOfFirst hs ≡ size
 
-heads-told : (k size head : ℕ) (s : List ℕ) (hs : List StretchFound) (n : ℕ) → each headFormat .read (replicate k size) head s ≡ got hs n → HeadsTold k size head hs
+heads-told : (k size head : ℕ) (s : List ℕ) (hs : List StretchFound) (n : ℕ) → each headFormat .read (replicate k size) head s ≡ got hs n
+    → HeadsTold k size head hs
 heads-told zero size head s hs n e =
     got-carry (λ (hs : List StretchFound) (u : ℕ). HeadsTold zero size head hs) e (record { all = refl; count = refl; first = λ l. absurd (omega (arith, l)) })
 heads-told (suc k) size head s hs n e =
@@ -145,8 +146,11 @@ heads-by zero size head hs w =
     let first = sizeOfFirst hs in
     let none : length hs * first ≡ 0 * size = ap (λ (n : ℕ). n * first) (w .count) ∙ zero-mul first ∙ sym (zero-mul size) in
     (w .all ∙ ap (λ (n : ℕ). headsStanding n first head) (sym (w .count)), none)
-heads-by (suc k) size head hs w =
-    (w .all ∙ sym (ap₂ (λ (n m : ℕ). headsStanding n m head) (w .count) (w .first (omega arith))), ap₂ (λ (n m : ℕ). n * m) (w .count) (w .first (omega arith)))
+heads-by (suc k) size head hs w = (
+  w .all ∙ sym (ap₂ (λ (n m : ℕ). headsStanding n m head) (w .count) (w .first (omega arith))),
+  ap₂ (λ (n m : ℕ). n * m) (w .count)
+      (w .first (omega arith)),
+)
 
 pub record InstrumentTold (kind : ModuleKind) (place : ℕ) (i : InstrumentFound) (n : ℕ) : Type 0 where
   pub all :
@@ -222,7 +226,8 @@ module _ (file : List ℕ) (bytes : Bytes file) where
   first-is : {all : List Standing} {s : Standing} {rest : List Standing} (next : Ahead) → all ≡ s ∷ rest → gave next s ≡ gave next (getD all 0 ended)
   first-is next e = ap (gave next) (sym (ap (λ (l : List Standing). getD l 0 ended) e))
 
-  one-call : (p i place k head size : ℕ) (all : List Standing) → StructuresLeft file (ahead p i place k head size) all → OneCall file (ahead p i place k head size) all
+  one-call : (p i place k head size : ℕ) (all : List Standing) → StructuresLeft file (ahead p i place k head size) all
+      → OneCall file (ahead p i place k head size) all
   unfolding handOver
   one-call p i place (suc k) head size all w =
       let z : suc k - 1 ≡ k = omega arith in

@@ -74,7 +74,8 @@ module _ {H I A : Type 0} (F : Format H I A) (hs : List H) (file : List ℕ) (pl
         ∙ ap (onto done (cur - place)) (step-refused _ e)
 
   -- all are read
-  pub left-end : (j cur : ℕ) (done : List I) → length hs ≤ j → PartsLeft F hs file place j cur done → eachRead F hs place (drop place file) ≡ got done (cur - place)
+  pub left-end : (j cur : ℕ) (done : List I) → length hs ≤ j → PartsLeft F hs file place j cur done
+      → eachRead F hs place (drop place file) ≡ got done (cur - place)
   unfolding onto
   left-end j cur done h w =
       w .same

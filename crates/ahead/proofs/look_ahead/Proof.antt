@@ -37,7 +37,8 @@ returns-2 c =
     let b = c .before .before .before in
     let a = b .before .args in
     rw (c .ahead-by2 .ensures)
-    (ahead-one (now (a .stored)) (a .place) (a .eight) (λ i. omega (arith, b .shared-slice-known .given i)) (b .before .pre .1) _ (c .before .before .if1 .left)
+    (ahead-one (now (a .stored)) (a .place) (a .eight) (λ i. omega (arith, b .shared-slice-known .given i)) (b .before .pre .1) _
+    (c .before .before .if1 .left)
     (c .before .cell-bits .ensures))
 
 pub look-ahead-spec : {M : Type 1} → statement M

@@ -23,7 +23,8 @@ use Rattle.cells.proofs.fill_cells.Statement.{statement}
 use Rattle.cells.proofs.fill_cells.Tie as tie
 
 abbrev Inv-loop : tie.InvT-loop
-Inv-loop stored count out₀ at₀ to₀ left₀ word₀ out at to left eight = Filling stored (flat (cellsIn count stored)) out₀ out at to left × EightRead stored at eight
+Inv-loop stored count out₀ at₀ to₀ left₀ word₀ out at to left eight =
+    Filling stored (flat (cellsIn count stored)) out₀ out at to left × EightRead stored at eight
 
 abbrev μ-loop : tie.MeasureT-loop
 μ-loop stored count out₀ at₀ to₀ left₀ word₀ out at to left eight = left

@@ -72,7 +72,8 @@ loop-again : tie.Need-loop-again Inv-loop μ-loop
 loop-again c =
     let c₄ = c .before .before .before .before in
     let d = c₄ .before .before in
-    filling-more (d .before .before .loop .inv) (cellFields (d .take-cell .result)) (c₄ .put-plain .ensures) (omega arith) (fields-of _ (d .take-cell .ensures))
+    filling-more (d .before .before .loop .inv) (cellFields (d .take-cell .result)) (c₄ .put-plain .ensures) (omega arith)
+    (fields-of _ (d .take-cell .ensures))
     (ap (λ (n : ℕ). d .before .before .loop .at + n) (c .cell-length .ensures)) refl
 
 same-length : tie.Need-same-length Inv-loop μ-loop

@@ -9,7 +9,8 @@ use borrow.Author.Needs.{needs}
 use Rattle.mark.proofs.with_mark.Statement.{statement}
 use Rattle.mark.proofs.with_mark.Tie as tie
 
-found-whole : (c : tie.Start) → twoAt (c .args .eight) (c .args .bits) * 2 ^ c .args .bits % 2 ^ 64 ≡ twoAt (c .args .eight) (c .args .bits) * 2 ^ c .args .bits
+found-whole : (c : tie.Start) → twoAt (c .args .eight) (c .args .bits) * 2 ^ c .args .bits % 2 ^ 64 ≡ twoAt (c .args .eight)
+    (c .args .bits) * 2 ^ c .args .bits
 found-whole c = shl-exact 2 (c .args .bits) 64 (omega arith) (omega arith)
 
 mark-whole : (c : tie.Start) → c .args .mark * 2 ^ c .args .bits % 2 ^ 64 ≡ c .args .mark * 2 ^ c .args .bits

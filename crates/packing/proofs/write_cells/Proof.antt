@@ -59,7 +59,14 @@ add-to-2 : tie.Need-add-to-2 Inv-loop μ-loop
 add-to-2 c =
     let e = c .before .before .before .before in
     let l = e .before .before .before in
-    omega (arith, c .before .before .write-over .ensures .0, writing-room (l .loop .inv .1) (first-cell e), l .loop .inv .1 .kept, l .before .before .before .good)
+    omega (
+      arith,
+      c .before .before .write-over .ensures .0,
+      writing-room (l .loop .inv .1)
+          (first-cell e),
+      l .loop .inv .1 .kept,
+      l .before .before .before .good,
+    )
 
 loop-again-2 : tie.Need-loop-again-2 Inv-loop μ-loop
 loop-again-2 c =

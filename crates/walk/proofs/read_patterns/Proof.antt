@@ -47,7 +47,11 @@ returns c =
     (c .refusal-of-pattern .ensures)
 
 loop-again : tie.Need-loop-again Inv-loop μ-loop
-loop-again c = (c .before .put-mark .ensures .size ∙ c .before .before .before .before .before .before .before .before .before .loop .inv .0, measured-more (c .before))
+loop-again c = (
+  c .before .put-mark .ensures .size
+      ∙ c .before .before .before .before .before .before .before .before .before .loop .inv .0,
+  measured-more (c .before),
+)
 
 pub read-patterns-spec : {M : Type 1} → statement M
 read-patterns-spec =

@@ -89,7 +89,8 @@ walk-spec =
     (search needs)
     (λ c. walk-refuses _ _ _
     (header-out _ (header-refused _ (c .before .before .before .begin .ensures) (c .before .enum-told .given .1) (c .refusal-of-header .ensures))))
-    (λ c κs. let t = header-given (c .before) in (t .start, (t .small, ((t .low, t .high), (t .many, c .before .before .before .before .before .before .pre)))))
+    (λ c κs. let t = header-given (c .before) in
+    (t .start, (t .small, ((t .low, t .high), (t .many, c .before .before .before .before .before .before .pre)))))
     (search needs)
     (search needs)
     (search needs)
