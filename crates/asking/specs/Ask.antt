@@ -11,7 +11,7 @@ use Rattle.asking.specs.declared.Asked.{Asked}
 use Rattle.asking.specs.declared.Asked.the-variants as asked
 
 abbrev pub askedOf : Answer paper.Stretch → Asked
-askedOf (gives lies) = asked.Given (record { place = lies .place; length = lies .size })
+askedOf (gives stretch) = asked.Given (record { place = stretch .place; length = stretch .size })
 askedOf (refuses r) = asked.Refused (codeRefusal r)
 
 -- The paper's numbers for each case: number, place of the refusal, place, length.

@@ -171,7 +171,7 @@ fn head_refusal(head: SampleHead) -> u32
     0
 }
 
-// A header's first fault, or where the next one stands.
+// A header's first refusal, or where the next one stands.
 fn read_head(file: &[u8], at: usize, size: usize) -> Step
     requires { ⌜ at + size ≤ length (now file) ⌝ }
     ensures { λ r. ⌜ r ≡ placeStep at (readHead size at (drop at (now (file .entry)))) ⌝ }

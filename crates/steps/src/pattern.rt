@@ -103,7 +103,7 @@ fn pattern_refusal(file: &[u8], at: usize) -> u32
     0
 }
 
-// A pattern, tried and measured: its first fault, or what the press needs of it.
+// A pattern, tried and measured: its first refusal, or what the press needs of it.
 pub fn read_pattern(file: &[u8], at: usize, channels: usize) -> PatternStep
     requires { ⌜ at ≤ length (now file) ⌝ }
     requires { ⌜ length (now file) ≤ fileMost ⌝ }

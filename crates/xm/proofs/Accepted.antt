@@ -40,7 +40,7 @@ use Rattle.xm.proofs.Instrument.{normal-wide}
 use Rattle.xm.proofs.Module.{module-keeps, module-adjoins, module-told, module-tells, whole-read}
 use Rattle.xm.proofs.Kind.{kind-found}
 use Rattle.xm.proofs.Region.{Before, adjoin-regions, kind-before}
-use Rattle.xm.proofs.Table.{lies, heads-lie, tables-stand, joined-map}
+use Rattle.xm.proofs.Table.{foundStretch, heads-lie, tables-stand, joined-map}
 use Rattle.xm.proofs.Adpcm.{sample-decodes, values-counted, decoding-roomy}
 
 -- Lists of facts
@@ -72,16 +72,16 @@ cut-byte file size place k l =
     ∙ byte-cut size k (drop place file)
     ∙ ap (λ (n : ℕ). cond (ltb k size) n 0) (getD-drop place file k 0)
 
-head-stands : (file : List ℕ) (h : StretchFound) → HeadTold file h → HeadStands file (lies h) (h .bytes)
+head-stands : (file : List ℕ) (h : StretchFound) → HeadTold file h → HeadStands file (foundStretch h) (h .bytes)
 head-stands file h t k l = ap (byteAt k) (t .bytes) ∙ cut-byte file (h .size) (h .place) k l
 
 some-stand : (file : List ℕ) (heads : List StretchFound) (ls : List Stretch) (hs : List (List ℕ)) → All (HeadTold file) heads → HeadsStand file ls hs
-    → HeadsStand file (map lies heads ++ ls) (map StretchFound.bytes heads ++ hs)
+    → HeadsStand file (map foundStretch heads ++ ls) (map StretchFound.bytes heads ++ hs)
 some-stand file [] ls hs t r = r
 some-stand file (h ∷ heads) ls hs t r = (head-stands file h (t .0), some-stand file heads ls hs (t .1) r)
 
 all-stand : (file : List ℕ) (is : List InstrumentFound) → All (λ (i : InstrumentFound). SamplesTold file (i .samples)) is
-    → HeadsStand file (joined (λ (i : InstrumentFound). map lies (i .samples .0)) is)
+    → HeadsStand file (joined (λ (i : InstrumentFound). map foundStretch (i .samples .0)) is)
     (joined (λ (i : InstrumentFound). map StretchFound.bytes (i .samples .0)) is)
 all-stand file [] t = tt
 all-stand file (i ∷ is) t = some-stand file (i .samples .0) _ _ (t .0 .heads) (all-stand file is (t .1))
@@ -220,9 +220,9 @@ module _ (file : List ℕ) (rows : List SampleRow) (heads bytes : List (List ℕ
       let table = joined sampleNumbers rows ++ stale in
       let start = sampleStride * number in
       let column = number-at sampleStride sampleNumbers (λ row. refl) rows noRow stale number in
-      let lies : _≡_ {A = Stretch} (record { place = getD table (start + 1) 0; size = getD table (start + 2) 0 }) (stretchAt rows number) =
+      let alike : _≡_ {A = Stretch} (record { place = getD table (start + 1) 0; size = getD table (start + 2) 0 }) (stretchAt rows number) =
       ap₂ (λ (p s : ℕ). record { place = p; size = s }) (column 1 h (omega arith)) (column 2 h (omega arith)) in
-      ap (asking file (length table / sampleStride) number) lies
+      ap (asking file (length table / sampleStride) number) alike
       ∙ asks-exactly file (length table / sampleStride) number (stretchAt rows number) .0
       (omega (arith, length-append (joined sampleNumbers rows) stale, joined-length sampleStride sampleNumbers (λ row. refl) rows), row-inside number h)
 
@@ -264,10 +264,10 @@ loop-inside file head t q = omega (arith, t .tests .1 .1 .1 .0 q)
 
 -- In a normal file no sample header's region is too short
 normal-heads : (file : List ℕ) (found : Found) (end : ℕ) → Bytes file → moduleFormat normal .read tt 0 file ≡ got found end
-    → All (λ (l : Stretch). leastHead ≤ l .size) (joined (λ (i : InstrumentFound). map lies (i .samples .0)) (found .1 .1))
+    → All (λ (l : Stretch). leastHead ≤ l .size) (joined (λ (i : InstrumentFound). map foundStretch (i .samples .0)) (found .1 .1))
 normal-heads file found end b e =
     all-joined (λ (i : InstrumentFound). All (λ (h : StretchFound). leastHead ≤ h .size) (i .samples .0)) _ _
-    (λ i w. all-map (λ (h : StretchFound). leastHead ≤ h .size) _ lies (λ h l. l) (i .samples .0) w) (found .1 .1)
+    (λ i w. all-map (λ (h : StretchFound). leastHead ≤ h .size) _ foundStretch (λ h l. l) (i .samples .0) w) (found .1 .1)
     (module-told normal normal-wide file found end b e .1)
 
 pub accepted-files : AcceptedFiles

@@ -49,12 +49,12 @@ map-map f g [] = refl
 map-map f g (x ∷ xs) = cons-path refl (map-map f g xs)
 
 -- The stretches of one kind, asked for by a kind
-abbrev pub lies : StretchFound → Stretch
-lies v = record { place = v .place; size = v .size }
+abbrev pub foundStretch : StretchFound → Stretch
+foundStretch v = record { place = v .place; size = v .size }
 
 stretches-same : (kind other : Kind) → eqb (kindNumber kind) (kindNumber other) ≡ true → (vs : List StretchFound)
-    → ofKind kind (joined (stretchRegion other) vs) ≡ map lies vs
-stretches-same kind other e vs = kind-joined kind (stretchRegion other) vs ∙ joined-one _ lies (λ v. rw e) vs
+    → ofKind kind (joined (stretchRegion other) vs) ≡ map foundStretch vs
+stretches-same kind other e vs = kind-joined kind (stretchRegion other) vs ∙ joined-one _ foundStretch (λ v. rw e) vs
 
 stretches-other : (kind other : Kind) → eqb (kindNumber kind) (kindNumber other) ≡ false → (vs : List StretchFound)
     → ofKind kind (joined (stretchRegion other) vs) ≡ []
@@ -72,13 +72,13 @@ samples-none kind p q v =
     samples-regions kind v
     ∙ ap₂ (λ (a b : List Stretch). a ++ b) (stretches-other kind sampleHeader p (v .0)) (stretches-other kind sampleData q (v .1))
 
-heads-regions : (v : SamplesFound) → ofKind sampleHeader (samplesFormat .regions v) ≡ map lies (v .0)
+heads-regions : (v : SamplesFound) → ofKind sampleHeader (samplesFormat .regions v) ≡ map foundStretch (v .0)
 heads-regions v =
     samples-regions sampleHeader v
     ∙ ap₂ (λ (a b : List Stretch). a ++ b) (stretches-same sampleHeader sampleHeader refl (v .0)) (stretches-other sampleHeader sampleData refl (v .1))
-    ∙ append-nil (map lies (v .0))
+    ∙ append-nil (map foundStretch (v .0))
 
-bytes-regions : (v : SamplesFound) → ofKind sampleData (samplesFormat .regions v) ≡ map lies (v .1)
+bytes-regions : (v : SamplesFound) → ofKind sampleData (samplesFormat .regions v) ≡ map foundStretch (v .1)
 bytes-regions v =
     samples-regions sampleData v
     ∙ ap₂ (λ (a b : List Stretch). a ++ b) (stretches-other sampleData sampleHeader refl (v .0)) (stretches-same sampleData sampleData refl (v .1))
@@ -125,19 +125,19 @@ instruments-stand found =
 
 -- Samples: a row for each header and its data, which are as many
 row-heads : (heads : List StretchFound) (bytes : List StretchFound) → Sized (map StretchFound.bytes heads) bytes
-    → map SampleRow.headerPlace (sampleRowsOf heads bytes) ≡ map Stretch.place (map lies heads)
+    → map SampleRow.headerPlace (sampleRowsOf heads bytes) ≡ map Stretch.place (map foundStretch heads)
 row-heads [] bytes z = refl
 row-heads (h ∷ hs) [] z = absurd z
 row-heads (h ∷ hs) (b ∷ bs) z = cons-path refl (row-heads hs bs (z .1))
 
-row-bytes : (heads bytes : List StretchFound) → Sized (map StretchFound.bytes heads) bytes → map rowStretch (sampleRowsOf heads bytes) ≡ map lies bytes
+row-bytes : (heads bytes : List StretchFound) → Sized (map StretchFound.bytes heads) bytes → map rowStretch (sampleRowsOf heads bytes) ≡ map foundStretch bytes
 row-bytes [] [] z = refl
 row-bytes [] (b ∷ bs) z = absurd z
 row-bytes (h ∷ hs) [] z = absurd z
 row-bytes (h ∷ hs) (b ∷ bs) z = cons-path (ap (λ (n : ℕ). record { place = b .place; size = n }) (sym (z .0))) (row-bytes hs bs (z .1))
 
 module _ (file : List ℕ) (found : Found) (told : All (λ (i : InstrumentFound). SamplesTold file (i .samples)) (found .1 .1)) where
-  pub heads-lie : ofKind sampleHeader (regionsOf found) ≡ joined (λ (i : InstrumentFound). map lies (i .samples .0)) (found .1 .1)
+  pub heads-lie : ofKind sampleHeader (regionsOf found) ≡ joined (λ (i : InstrumentFound). map foundStretch (i .samples .0)) (found .1 .1)
   heads-lie =
       module-regions sampleHeader refl found
       ∙ ap₂ (λ (a b : List Stretch). a ++ b) (no-patterns sampleHeader refl refl (found .1 .0)) refl
@@ -146,7 +146,7 @@ module _ (file : List ℕ) (found : Found) (told : All (λ (i : InstrumentFound)
   heads-stand : map Stretch.place (ofKind sampleHeader (regionsOf found)) ≡ map SampleRow.headerPlace (sampleRows found)
   heads-stand =
       ap (map Stretch.place) heads-lie
-      ∙ map-joined Stretch.place (λ (i : InstrumentFound). map lies (i .samples .0)) (found .1 .1)
+      ∙ map-joined Stretch.place (λ (i : InstrumentFound). map foundStretch (i .samples .0)) (found .1 .1)
       ∙ joined-same (λ (i : InstrumentFound). SamplesTold file (i .samples)) _ _
       (λ i t. sym (row-heads (i .samples .0) (i .samples .1) (t .sizes))) (found .1 .1) told
       ∙ sym (map-joined SampleRow.headerPlace sampleRowsIn (found .1 .1))

@@ -14,7 +14,7 @@ pub record Stretch : Type 0 where
   pub size : ℕ
 
 unfoldable pub asking : (file : List ℕ) (rows : ℕ) (number : ℕ) (row : Stretch) → Answer Stretch
-asking file rows number row = answered (λ lies used. lies) (do
+asking file rows number row = answered (λ stretch used. stretch) (do
   checked (
       present (number + 1) rows (16 at 0)
       ∷ present (row .place) (length file) (16 at 0)
@@ -24,7 +24,7 @@ asking file rows number row = answered (λ lies used. lies) (do
 
 -- The stretch; "tells 0 from 16"; and its place and length as numbers.
 abbrev pub stretchOf : (file : List ℕ) → Answer Stretch → List ℕ
-stretchOf file (gives lies) = part (lies .place) (lies .size) file
+stretchOf file (gives stretch) = part (stretch .place) (stretch .size) file
 stretchOf file (refuses r) = []
 
 abbrev pub askNumbers : Answer Stretch → List ℕ

@@ -23,11 +23,11 @@ use Rattle.cells.proofs.fill_cells.Statement.{statement}
 use Rattle.cells.proofs.fill_cells.Tie as tie
 
 abbrev Inv-loop : tie.InvT-loop
-Inv-loop stored count out₀ at₀ to₀ left₀ word₀ out at to left eight =
+Inv-loop stored count out₀ at₀ to₀ left₀ eight₀ out at to left eight =
     Filling stored (flat (cellsIn count stored)) out₀ out at to left × EightRead stored at eight
 
 abbrev μ-loop : tie.MeasureT-loop
-μ-loop stored count out₀ at₀ to₀ left₀ word₀ out at to left eight = left
+μ-loop stored count out₀ at₀ to₀ left₀ eight₀ out at to left eight = left
 
 -- In a turn: 21 bytes stand from here on; and what is written once the first cells are
 wide : (c : tie.Then1 Inv-loop μ-loop) → c .before .before .loop .at + 21 ≤ length (now (c .before .before .before .before .before .before .args .stored))

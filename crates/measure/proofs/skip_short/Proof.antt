@@ -16,11 +16,11 @@ use Rattle.measure.proofs.skip_short.Statement.{statement}
 use Rattle.measure.proofs.skip_short.Tie as tie
 
 abbrev Inv-loop : tie.InvT-loop
-Inv-loop stored count used₀ left₀ word₀ used left eight =
+Inv-loop stored count used₀ left₀ eight₀ used left eight =
     Weighing stored (measuredOn 0 0 true stored (readRun count 0 stored)) count used left (count - left) 0 × EightRead stored used eight
 
 abbrev μ-loop : tie.MeasureT-loop
-μ-loop stored count used₀ left₀ word₀ used left eight = left
+μ-loop stored count used₀ left₀ eight₀ used left eight = left
 
 -- In a turn 21 bytes stand from here on
 wide : (c : tie.Then1 Inv-loop μ-loop) → c .before .before .loop .used + 21 ≤ length (now (c .before .before .before .before .before .args .stored))

@@ -15,10 +15,10 @@ use Rattle.scan.proofs.scan_sparse.Statement.{statement}
 use Rattle.scan.proofs.scan_sparse.Tie as tie
 
 abbrev Inv-loop : tie.InvT-loop
-Inv-loop stored count used₀ left₀ word₀ used left eight = Scanning stored (placeStep 0 (readRun count 0 stored)) used left × EightRead stored used eight
+Inv-loop stored count used₀ left₀ eight₀ used left eight = Scanning stored (placeStep 0 (readRun count 0 stored)) used left × EightRead stored used eight
 
 abbrev μ-loop : tie.MeasureT-loop
-μ-loop stored count used₀ left₀ word₀ used left eight = left
+μ-loop stored count used₀ left₀ eight₀ used left eight = left
 
 -- In a turn 21 bytes stand from here on
 wide : (c : tie.Then1 Inv-loop μ-loop) → c .before .before .loop .used + 21 ≤ length (now (c .before .before .before .before .before .args .stored))
