@@ -97,8 +97,8 @@ extern "C" {
 
 #define FIDDLEMARSH_VERSION_MAJOR 6
 #define FIDDLEMARSH_VERSION_MINOR 0
-#define FIDDLEMARSH_VERSION_PATCH 0
-#define FIDDLEMARSH_VERSION "6.0.0"
+#define FIDDLEMARSH_VERSION_PATCH 1
+#define FIDDLEMARSH_VERSION "6.0.1"
 
 /* The refusal numbers, and the place that comes with each. */
 enum fiddlemarsh_number {
