@@ -1,3 +1,4 @@
 pub mod NumberLaws
 pub mod Sign
+pub mod Stores
 pub mod Zeros

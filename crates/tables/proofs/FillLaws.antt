@@ -6,8 +6,8 @@ use mathlib.Core.Path.{_≡_, refl, sym, ap, ap₂, _∙_}
 use native.Mathlib.Numerals.{add-one}
 use native.Mathlib.Omega.{arith}
 use lib.IntN.{ℤ}
-use lib.ListN.{length, getD, take, drop, length-append, drop-of-length-le}
-use lib.Seq.{drop-drop, drop-cons}
+use lib.ListN.{length, getD, drop, length-append, drop-of-length-le}
+use lib.Seq.{drop-cons}
 use Rattle.xm.specs.Number.{Bytes}
 use Rattle.xm.specs.Got.{Got, got, refused, AllHold, listIn, accepted}
 use Rattle.xm.specs.Format.{joined}
@@ -20,7 +20,8 @@ use Rattle.xm.specs.Module.{Found, fileMost, readFile}
 use Rattle.xm.specs.Table.{SampleRow, patternRow, patternRows, sampleCount, instrumentRowsFrom, instrumentRows, patternNumbers, instrumentNumbers}
 use Rattle.xm.specs.Table.{sampleNumbers, sampleTunes, sampleStride, tuneStride}
 use Rattle.xm.specs.Asking.{noRow}
-use Rattle.xm.proofs.Lay.{Laid, laid-none, laid-more, laid-done}
+use Rattle.xm.proofs.Lay.{Laid, laid-none, laid-done}
+use Rattle.slices.proofs.Stores.{laid-lay}
 use Rattle.tables.specs.Accepted.{ReadsFrom, InstrumentsFrom}
 use Rattle.steps.specs.Step.{patternHead}
 use Rattle.tables.specs.Place.{dataEnd, InstrumentHeadStands}
@@ -30,13 +31,7 @@ use Rattle.tables.proofs.Reading.{accepted-small, accepted-header, read
 use Rattle.tables.proofs.InstrumentLaws.{instrumentAt, InstrumentStands, instruments-next}
 use Rattle.tables.proofs.PlaceLoops.{Skipping, PatternFits, skipping-start, skipping-on, skipping-end}
 
--- A piece is laid, where the writer stands
-laid-lay : {A : Type 0} {lent goal out : List A} {to : ℕ} {rest : List A} → Laid lent goal out to rest → (w rest′ : List A) → rest ≡ w ++ rest′
-    → {new : List A} {next : ℕ} → new ≡ lay out to w → next ≡ to + length w → Laid lent goal new next rest′
-unfolding lay
-laid-lay {out = out} {to} l w rest′ e {new} {next} n q =
-    laid-more l w rest′ new next e q (n ∙ ap (λ (left : List _). take to out ++ (w ++ left)) (sym (drop-drop (length w) to out)))
-
+-- There is room for a piece that is still to be laid
 laid-room : {A : Type 0} {lent goal out : List A} {to : ℕ} {rest : List A} → Laid lent goal out to rest → (w rest′ : List A)
     → rest ≡ w ++ rest′ → to + length w ≤ length out
 laid-room l w rest′ e = omega (arith, l .room, ap length e, length-append w rest′)

@@ -3,7 +3,6 @@ pub mod PatternLaws
 pub mod InstrumentLaws
 pub mod PlaceLoops
 pub mod SampleLaws
-pub mod Stores
 pub mod FillLaws
 pub mod VerdictLaws
 pub mod IntoLaws

@@ -1,7 +1,7 @@
 -- `tables::fill::put_three` meets its contract. Assumes nothing.
 use native.Mathlib.Omega.{arith}
 use lib.ListN.{length-set}
-use Rattle.tables.proofs.Stores.{stored-three}
+use Rattle.slices.proofs.Stores.{stored-three}
 use borrow.Author.Needs.{needs}
 use Rattle.tables.proofs.fill.put_three.Statement.{statement}
 use Rattle.tables.proofs.fill.put_three.Tie as tie

@@ -7,7 +7,7 @@ use lib.ListN.{set, length-set}
 use Rattle.xm.specs.Table.{tuneStride}
 use mir.Syntax.{w8}
 use mir.Facts.{toZ-ofZ}
-use Rattle.tables.proofs.Stores.{stored-two, stored-seven}
+use Rattle.slices.proofs.Stores.{stored-two, stored-seven}
 use borrow.Author.Needs.{needs}
 use Rattle.tables.proofs.sample.put_sample.Statement.{statement}
 use Rattle.tables.proofs.sample.put_sample.Tie as tie
