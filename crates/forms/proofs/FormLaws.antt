@@ -1,13 +1,12 @@
 -- Laws of the form in which an instrument is written that was read at a place of a file. Assumes nothing.
 use Prim.Native.Nat.{ℕ, zero, suc, _+_, _-_, _*_, _≤_}
-use mathlib.Core.Bool.{Bool}
 use mathlib.Core.List.{List, [], _∷_}
 use mathlib.Core.Path.{_≡_, refl, sym, ap, ap₂, _∙_}
 use native.Mathlib.Nat.{mul-le-mul-right}
 use native.Mathlib.Omega.{arith}
 use lib.ListN.{length, take, drop, length-append, length-map}
 use Rattle.xm.specs.Number.{Bytes, byte, word, long}
-use Rattle.xm.specs.ModuleKind.{ModuleKind, normal, stripped, kindBy, padded, trimmed}
+use Rattle.xm.specs.ModuleKind.{ModuleKind, normal, stripped, padded, trimmed}
 use Rattle.xm.specs.Got.{Told}
 use Rattle.xm.specs.Format.{each, joined, flat}
 use Rattle.xm.specs.Header.{kindAt}
@@ -23,13 +22,17 @@ use Rattle.heads.proofs.SampleLaws.{samples-size}
 use Rattle.steps.specs.Step.{InstrumentIs}
 use Rattle.steps.specs.declared.instrument.InstrumentPart.{InstrumentPart}
 use Rattle.steps.proofs.InstrumentLaws.{found, AsRead, as-read, PartLies, part-lies, part-inside}
-use Rattle.forms.specs.Form.{FormIs, writtenFields}
+use Rattle.forms.specs.Form.{FormIs, normalForm, writtenFields}
 use Rattle.forms.specs.declared.Form.{Form}
 use Rattle.forms.proofs.FieldLaws.{same-fields}
 
 pub least-some : (count : ℕ) → (count ≡ 0 → ⊥) → 263 ≡ leastInstrument count
 least-some zero h = absurd (h refl)
 least-some (suc count) h = refl
+
+pub least-low : (count : ℕ) → 29 ≤ leastInstrument count
+least-low zero = omega arith
+least-low (suc count) = omega arith
 
 pub least-most : (count : ℕ) → leastInstrument count ≤ 263
 least-most zero = omega arith
@@ -104,9 +107,9 @@ module _ (file : List ℕ) (place : ℕ) {piece : InstrumentPart} (is : Instrume
     inside = record { few = lies .few; there = lies .there; behind = omega (arith, lies .ends); ends = part-inside file kind place r b }
 
     -- what is told of the reading is told of this one
-    pub form-told : {is known : Bool} {form : Form} → is ≡ known → FormIs (kindBy known) place (piece .next) x form
-        → Told (λ i. FormIs (kindBy is) place (piece .next) (instrumentView i) form) (readInstrument kind place from)
-    form-told e h = rw (e, r .is) h
+    pub form-told : {to : ModuleKind} {form : Form} → FormIs to place (piece .next) x form
+        → Told (λ i. FormIs to place (piece .next) (instrumentView i) form) (readInstrument kind place from)
+    form-told h = rw (r .is) h
 
     -- A normal one
     normal-length : length (writeInstrument normal x) ≡ leastInstrument (piece .samples) + 40 * piece .samples + bytes
@@ -116,15 +119,18 @@ module _ (file : List ℕ) (place : ℕ) {piece : InstrumentPart} (is : Instrume
         ∙ ap₂ (λ (a b : ℕ). a + b) (ap leastInstrument counted) (length-append (each headFormat .write (x .samples .0)) dataBytes)
         ∙ omega (arith, s .headed, lies .count)
 
-    pub form-normal : {size length : ℕ} → size ≡ leastInstrument (piece .samples) → length ≡ size + 40 * piece .samples + behind
+    form-by : {size length : ℕ} → size ≡ leastInstrument (piece .samples) → length ≡ size + 40 * piece .samples + behind
         → FormIs normal place (piece .next) x (record { size = size; «head_size» = 40; length = length })
-    form-normal {size} {length} p q =
+    form-by {size} {length} p q =
         let ends = lies .ends in
         let same : length ≡ leastInstrument (piece .samples) + 40 * piece .samples + bytes = omega arith in
         record {
           is = cc (ap leastInstrument counted, normal-length);
           most = omega (arith, least-most (piece .samples), lies .few);
         }
+
+    pub form-normal : FormIs normal place (piece .next) x (normalForm place piece)
+    form-normal = form-by refl refl
 
     -- A stripped one, with any H
     abbrev fieldsWith : (headSize : ℕ) → List ℕ

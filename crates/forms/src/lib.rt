@@ -5,7 +5,7 @@ ghost use mathlib.Core.Path.{_≡_};
 ghost use Prim.Native.Nat.{_+_, _-_, _*_, _≤_};
 ghost use lib.ListN.{length, take, drop};
 ghost use Rattle.xm.specs.Number.{part};
-ghost use Rattle.xm.specs.ModuleKind.{kindBy, padded, trimmed};
+ghost use Rattle.xm.specs.ModuleKind.{stripped, kindBy, padded, trimmed};
 ghost use Rattle.xm.specs.Got.{Told};
 ghost use Rattle.xm.specs.Header.{kindAt};
 ghost use Rattle.xm.specs.Sample.{leastHead, smallestHead};
@@ -13,7 +13,7 @@ ghost use Rattle.xm.specs.Instrument.{leastInstrument, leastStripped, samplesMo
 ghost use Rattle.xm.specs.Module.{fileMost};
 ghost use Rattle.heads.specs.Sample.{headsFrom};
 ghost use Rattle.steps.specs.Step.{InstrumentIs};
-ghost use Rattle.forms.specs.Form.{FormIs, writtenFields};
+ghost use Rattle.forms.specs.Form.{FormIs, normalForm, writtenFields};
 
 pub struct Form {
     pub size: usize,
@@ -93,34 +93,55 @@ fn smallest_size(file: &[u8], at: usize, size: usize, samples: usize, head_size:
 }
 
 // I of a normal instrument.
-fn least_size(samples: usize) -> usize
+pub fn least_size(samples: usize) -> usize
     ensures { λ r. ⌜ r ≡ leastInstrument samples ⌝ }
 {
     if samples == 0 { 29 } else { 263 }
 }
 
-// The form of the instrument that was read at a place, in a stripped module or in a normal one. Its data are written as they stand.
-pub fn form_of(file: &[u8], at: usize, part: InstrumentPart, stripped: bool) -> Form
-    requires { ⌜ InstrumentIs (now file) at part ⌝ }
-    requires { ⌜ length (now file) ≤ fileMost ⌝ }
-    ensures { λ r. ⌜ Told (λ i. FormIs (kindBy stripped) at (part .next) (instrumentView i) r) (readInstrument (kindAt (now (file .entry))) at (drop at (now (file .entry)))) ⌝ }
+// The form of an instrument that was read at a place, in a normal module. Its data are written as they stand.
+pub fn normal_form(at: usize, part: InstrumentPart) -> Form
+    requires { ⌜ part .samples ≤ samplesMost ⌝ }
+    requires { ⌜ at + part .size + part .samples * part .«head_size» ≤ part .next ⌝ }
+    requires { ⌜ part .next ≤ fileMost ⌝ }
+    ensures { λ r. ⌜ r ≡ normalForm at part ⌝ }
 {
     let count = part.samples;
-    let heads = at + part.size;
-    let data = part.next - (heads + count * part.head_size);
-    if stripped {
-        let head_size = smallest_head(file, heads, part.head_size, count);
-        let size = smallest_size(file, at, part.size, count, head_size);
-        return Form {
-            size: size,
-            head_size: head_size,
-            length: size + count * head_size + data,
-        };
-    }
+    let data = part.next - (at + part.size + count * part.head_size);
     let size = least_size(count);
     Form {
         size: size,
         head_size: 40,
         length: size + 40 * count + data,
     }
+}
+
+// The same in a stripped one.
+pub fn stripped_form(file: &[u8], at: usize, part: InstrumentPart) -> Form
+    requires { ⌜ InstrumentIs (now file) at part ⌝ }
+    requires { ⌜ length (now file) ≤ fileMost ⌝ }
+    ensures { λ r. ⌜ Told (λ i. FormIs stripped at (part .next) (instrumentView i) r) (readInstrument (kindAt (now (file .entry))) at (drop at (now (file .entry)))) ⌝ }
+{
+    let count = part.samples;
+    let heads = at + part.size;
+    let data = part.next - (heads + count * part.head_size);
+    let head_size = smallest_head(file, heads, part.head_size, count);
+    let size = smallest_size(file, at, part.size, count, head_size);
+    Form {
+        size: size,
+        head_size: head_size,
+        length: size + count * head_size + data,
+    }
+}
+
+// In either kind.
+pub fn form_of(file: &[u8], at: usize, part: InstrumentPart, stripped: bool) -> Form
+    requires { ⌜ InstrumentIs (now file) at part ⌝ }
+    requires { ⌜ length (now file) ≤ fileMost ⌝ }
+    ensures { λ r. ⌜ Told (λ i. FormIs (kindBy stripped) at (part .next) (instrumentView i) r) (readInstrument (kindAt (now (file .entry))) at (drop at (now (file .entry)))) ⌝ }
+{
+    if stripped {
+        return stripped_form(file, at, part);
+    }
+    normal_form(at, part)
 }

@@ -75,3 +75,12 @@ module _ (file : List ℕ) (at size from count : ℕ) where
           long = ap length same ∙ long;
           filled = padded-short count cut (omega (arith, long)) ∙ ap₂ (λ (l : List ℕ) (n : ℕ). l ++ replicate (count - n) 0) (sym same) long;
         }
+
+-- A header of 40 bytes that are all there
+pub head-whole : (file : List ℕ) (at size kept : ℕ) → at + size ≤ length file → kept ≡ 40 → 40 ≤ size
+    → take (at + 40 - at) (drop at file) ≡ padded kept (take size (drop at file))
+head-whole file at size kept there all h =
+    let n : at + 40 - at ≡ at + 0 + 40 - (at + 0) = omega arith in
+    let p : at ≡ at + 0 = omega arith in
+    ap₂ (λ (n p : ℕ). take n (drop p file)) n p ∙ cut-whole file at size 0 40 there (omega arith) (omega arith)
+    ∙ ap (λ (n : ℕ). padded n (take size (drop at file))) (sym all)

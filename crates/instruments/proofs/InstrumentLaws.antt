@@ -27,7 +27,7 @@ use Rattle.steps.proofs.InstrumentLaws.{fields-pass, some-samples, found, AsRea
 use Rattle.forms.specs.Form.{FormIs, formBy}
 use Rattle.forms.specs.declared.Form.{Form}
 use Rattle.forms.proofs.KeptLaws.{trimmed-front}
-use Rattle.forms.proofs.FormLaws.{least-most}
+use Rattle.forms.proofs.FormLaws.{least-low}
 use Rattle.writers.specs.Found.{instrumentAs}
 use Rattle.instruments.specs.Instrument.{voiceIn, fieldsIn, headsCut}
 use Rattle.writers.proofs.Kept.{part-split, byte-kept, word-kept}
@@ -245,7 +245,7 @@ module _ (file : List ℕ) (place : ℕ) (piece : InstrumentPart) where
     pub headed : behind ≤ piece .next
     pub inside : piece .next ≤ length file
     pub low : leastStripped ≤ form .size
-    pub high : form .size ≤ 263
+    pub high : to ≡ stripped → form .size ≤ 241
     pub kept : form .«head_size» ≤ leastHead
     pub heads-long : length (headsBy form) ≡ piece .samples * form .«head_size»
     pub long : form .length ≡ length (instrumentAs to file place)
@@ -315,26 +315,22 @@ module _ (file : List ℕ) (place : ℕ) (piece : InstrumentPart) where
     -- its form, in a module of either kind
     record Shape (to : ModuleKind) (form : Form) : Type 0 where
       low : leastStripped ≤ form .size
-      high : form .size ≤ 263
+      high : to ≡ stripped → form .size ≤ 241
       kept : form .«head_size» ≤ leastHead
       long : form .length ≡ length (writeInstrument to x)
       written : writeInstrument to x ≡ fieldsBy form ++ (headsBy form ++ bytes)
 
     shape : (to : ModuleKind) → Shape to (formBy to x)
     shape normal = record {
-      low = least-low (countOf x);
-      high = least-most (countOf x);
+      low = omega (arith, least-low (countOf x));
+      high = λ e. absurd (no-true (cc));
       kept = omega arith;
       long = refl;
       written = written-normal x cut front voiced bare ∙ ap (λ (l : List ℕ). fieldsBy (formBy normal x) ++ l) samples-whole;
     }
-      where
-        least-low : (n : ℕ) → leastStripped ≤ leastInstrument n
-        least-low zero = omega arith
-        least-low (suc n) = omega arith
     shape stripped = record {
       low = omega arith;
-      high = omega (arith, stripped-high x cut front voiced bare);
+      high = λ e. omega (arith, stripped-high x cut front voiced bare);
       kept = smallest-fits (countOf x) (x .samples .0) (good .samples-good .0);
       long = refl;
       written = written-stripped x cut front voiced bare ∙ ap (λ (l : List ℕ). fieldsBy (formBy stripped x) ++ l) (samples-cut (smallestHead (x .samples .0)));

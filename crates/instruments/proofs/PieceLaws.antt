@@ -18,7 +18,7 @@ use Rattle.xm.proofs.Cut.{padded-length, take-padded}
 use Rattle.heads.specs.Sample.{headsFrom}
 use Rattle.forms.proofs.FieldLaws.{long-low}
 use Rattle.instruments.specs.Instrument.{voiceIn, fieldsIn, headsCut}
-use Rattle.instruments.proofs.CutLaws.{padded-front, padded-padded, padded-behind}
+use Rattle.instruments.proofs.CutLaws.{padded-front, padded-padded, padded-more, padded-behind}
 
 -- H below 256 is its first byte, and zeros follow
 few-zeros : (n : ℕ) (s : List ℕ) → n < 4 → padded n (0 ∷ 0 ∷ 0 ∷ s) ≡ replicate n 0
@@ -36,6 +36,12 @@ voice-short count headSize s some few low =
     ap (λ (l : List ℕ). padded count (l ++ rest)) (long-low headSize low)
     ∙ padded-behind count (headSize ∷ []) (0 ∷ 0 ∷ 0 ∷ rest) (omega arith)
     ∙ ap (λ (l : List ℕ). headSize ∷ l) (few-zeros (count - 1) rest (omega arith))
+
+pub voice-whole : (headSize : ℕ) (s : List ℕ)
+    → padded 234 (voiceIn headSize s) ≡ long headSize ++ (padded voiceSize (drop voiceFrom s) ++ replicate 22 0)
+voice-whole headSize s =
+    padded-behind 234 (long headSize) (padded voiceSize (drop voiceFrom s)) (omega arith)
+    ∙ ap (λ (l : List ℕ). long headSize ++ l) (padded-more 230 voiceSize (drop voiceFrom s) (omega arith))
 
 -- The fields up to I, which ends among name, type and k, or behind them
 module _ (size : ℕ) (d v : List ℕ) where

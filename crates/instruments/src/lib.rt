@@ -1,18 +1,21 @@
 // An instrument of a file that is written, with its sample headers and its samples' data. What its own structures cut off is 0.
 use forms::Form;
-use forms::form_of;
+use forms::least_size;
+use forms::normal_form;
+use forms::stripped_form;
 use slices::write::clear;
 use slices::write::copy;
+use slices::write::copy_short;
 use slices::write::put_byte;
 use slices::write::put_long;
 use steps::instrument::InstrumentPart;
 ghost use mathlib.Core.Path.{_≡_};
 ghost use Prim.Native.Nat.{_+_, _*_, _≤_, _<_};
 ghost use lib.ListN.{length, take, drop};
-ghost use Rattle.xm.specs.ModuleKind.{kindBy, padded};
+ghost use Rattle.xm.specs.ModuleKind.{normal, stripped, kindBy, padded};
 ghost use Rattle.xm.specs.Answer.{inFront};
 ghost use Rattle.xm.specs.Sample.{leastHead};
-ghost use Rattle.xm.specs.Instrument.{leastStripped, voiceFrom, voiceSize};
+ghost use Rattle.xm.specs.Instrument.{leastInstrument, leastStripped};
 ghost use Rattle.xm.specs.Module.{fileMost};
 ghost use Rattle.steps.specs.Step.{InstrumentIs};
 ghost use Rattle.writers.specs.Found.{instrumentAs};
@@ -38,25 +41,58 @@ fn write_cut(file: &[u8], at: usize, size: usize, from: usize, count: usize, out
     clear(count - there, &mut out[there..]);
 }
 
-// `count` bytes from 33 on: bytes 33 to 240 as they stand, and then the reserved ones.
-fn write_notes(file: &[u8], at: usize, size: usize, count: usize, out: &mut [u8])
+// Name, type and k: 25 bytes.
+fn write_front(file: &[u8], at: usize, size: usize, out: &mut [u8])
     requires { ⌜ at + size ≤ length (now file) ⌝ }
-    requires { ⌜ count ≤ length (now out) ⌝ }
-    ensures { λ _. ⌜ now (out .exit) ≡ inFront (padded count (padded voiceSize (drop voiceFrom (take size (drop at (now (file .entry))))))) (now (out .entry)) ⌝ }
+    requires { ⌜ 25 ≤ length (now out) ⌝ }
+    ensures { λ _. ⌜ now (out .exit) ≡ inFront (padded 25 (drop 4 (take size (drop at (now (file .entry)))))) (now (out .entry)) ⌝ }
 {
-    if count <= 208 {
-        write_cut(file, at, size, 33, count, out);
+    if 29 <= size {
+        let place = at + 4;
+        copy_short(&file[place..place + 25], out);
         return;
     }
-    write_cut(file, at, size, 33, 208, out);
-    clear(count - 208, &mut out[208..]);
+    write_cut(file, at, size, 4, 25, out);
 }
 
-// `count` bytes from 29 on: H, and then those.
-fn write_voice(file: &[u8], at: usize, size: usize, head_size: usize, count: usize, out: &mut [u8])
+// From 29 on in a normal module: H, bytes 33 to 240, and the reserved ones.
+fn write_normal_voice(file: &[u8], at: usize, size: usize, out: &mut [u8])
+    requires { ⌜ at + size ≤ length (now file) ⌝ }
+    requires { ⌜ 234 ≤ length (now out) ⌝ }
+    ensures { λ _. ⌜ now (out .exit) ≡ inFront (padded 234 (voiceIn leastHead (take size (drop at (now (file .entry)))))) (now (out .entry)) ⌝ }
+{
+    put_long(40, out);
+    write_cut(file, at, size, 33, 208, &mut out[4..]);
+    clear(22, &mut out[212..]);
+}
+
+// The fields in a normal module: I, name, type and k, and if there are samples what follows.
+fn write_normal_fields(file: &[u8], at: usize, size: usize, samples: usize, out: &mut [u8])
+    requires { ⌜ at + size ≤ length (now file) ⌝ }
+    requires { ⌜ leastInstrument samples ≤ length (now out) ⌝ }
+    ensures { λ _. ⌜ now (out .exit) ≡ inFront (fieldsIn (leastInstrument samples) leastHead (take size (drop at (now (file .entry))))) (now (out .entry)) ⌝ }
+{
+    put_long(least_size(samples), out);
+    write_front(file, at, size, &mut out[4..]);
+    if samples == 0 {
+        return;
+    }
+    write_normal_voice(file, at, size, &mut out[29..]);
+}
+
+// `count` bytes from 29 on in a stripped module: H, and then those from 33 on.
+fn write_stripped_voice(
+    file: &[u8],
+    at: usize,
+    size: usize,
+    head_size: usize,
+    count: usize,
+    out: &mut [u8],
+)
     requires { ⌜ at + size ≤ length (now file) ⌝ }
     requires { ⌜ «head_size» < 256 ⌝ }
-    requires { ⌜ (1 ≤ count) × (count ≤ length (now out)) ⌝ }
+    requires { ⌜ (1 ≤ count) × (count ≤ 212) ⌝ }
+    requires { ⌜ count ≤ length (now out) ⌝ }
     ensures { λ _. ⌜ now (out .exit) ≡ inFront (padded count (voiceIn «head_size» (take size (drop at (now (file .entry)))))) (now (out .entry)) ⌝ }
 {
     if count < 4 {
@@ -65,13 +101,13 @@ fn write_voice(file: &[u8], at: usize, size: usize, head_size: usize, count: usi
         return;
     }
     put_long(head_size, out);
-    write_notes(file, at, size, count - 4, &mut out[4..]);
+    write_cut(file, at, size, 33, count - 4, &mut out[4..]);
 }
 
-// I, and as many fields as it says: name, type and k as they stand, H, and bytes 33 to 240.
-fn write_fields(file: &[u8], at: usize, size: usize, form: Form, out: &mut [u8])
+// The fields in a stripped module: I, and as many of the others as it says.
+fn write_stripped_fields(file: &[u8], at: usize, size: usize, form: Form, out: &mut [u8])
     requires { ⌜ at + size ≤ length (now file) ⌝ }
-    requires { ⌜ (leastStripped ≤ form .size) × (form .size < 4294967296) ⌝ }
+    requires { ⌜ (leastStripped ≤ form .size) × (form .size ≤ 241) ⌝ }
     requires { ⌜ form .«head_size» < 256 ⌝ }
     requires { ⌜ form .size ≤ length (now out) ⌝ }
     ensures { λ _. ⌜ now (out .exit) ≡ inFront (fieldsIn (form .size) (form .«head_size») (take size (drop at (now (file .entry))))) (now (out .entry)) ⌝ }
@@ -83,7 +119,22 @@ fn write_fields(file: &[u8], at: usize, size: usize, form: Form, out: &mut [u8])
         return;
     }
     write_cut(file, at, size, 4, 25, &mut out[4..]);
-    write_voice(file, at, size, form.head_size, end - 29, &mut out[29..]);
+    write_stripped_voice(file, at, size, form.head_size, end - 29, &mut out[29..]);
+}
+
+// The first `kept` bytes of a sample header: in a normal module all 40.
+fn write_head(file: &[u8], at: usize, size: usize, kept: usize, out: &mut [u8])
+    requires { ⌜ at + size ≤ length (now file) ⌝ }
+    requires { ⌜ kept ≤ length (now out) ⌝ }
+    ensures { λ _. ⌜ now (out .exit) ≡ inFront (padded kept (take size (drop at (now (file .entry))))) (now (out .entry)) ⌝ }
+{
+    if kept == 40 {
+        if 40 <= size {
+            copy_short(&file[at..at + 40], out);
+            return;
+        }
+    }
+    write_cut(file, at, size, 0, kept, out);
 }
 
 // The first `kept` bytes of each of `count` sample headers.
@@ -97,15 +148,69 @@ fn write_heads(file: &[u8], heads: usize, size: usize, count: usize, kept: usize
     let mut to: usize = 0;
     let mut left = count;
     while 0 < left {
-        write_cut(file, head, size, 0, kept, &mut out[to..]);
+        write_head(file, head, size, kept, &mut out[to..]);
         head += size;
         to += kept;
         left -= 1;
     }
 }
 
-// The instrument that was read at a place, as it is written in a stripped module or in a normal one; its length there. The data of all its
-// samples stand back to back, there as here.
+// The instrument that was read at a place, as it is written in a normal module; its length there. The data of all its samples stand back to
+// back, there as here.
+fn write_normal(file: &[u8], at: usize, part: InstrumentPart, out: &mut [u8]) -> usize
+    requires { ⌜ InstrumentIs (now file) at part ⌝ }
+    requires { ⌜ length (now file) ≤ fileMost ⌝ }
+    requires { ⌜ length (instrumentAs normal (now file) at) ≤ length (now out) ⌝ }
+    ensures { λ r. ⌜ r ≡ length (instrumentAs normal (now (file .entry)) at) ⌝ }
+    ensures { λ _. ⌜ now (out .exit) ≡ inFront (instrumentAs normal (now (file .entry)) at) (now (out .entry)) ⌝ }
+{
+    let form = normal_form(at, part);
+    let heads = at + part.size;
+    let data = heads + part.samples * part.head_size;
+    let end = part.next;
+    let first = form.size;
+    let last = first + part.samples * 40;
+    write_normal_fields(file, at, part.size, part.samples, out);
+    write_heads(
+        file,
+        heads,
+        part.head_size,
+        part.samples,
+        40,
+        &mut out[first..],
+    );
+    copy(&file[data..end], &mut out[last..]);
+    form.length
+}
+
+// The same in a stripped one.
+fn write_stripped(file: &[u8], at: usize, part: InstrumentPart, out: &mut [u8]) -> usize
+    requires { ⌜ InstrumentIs (now file) at part ⌝ }
+    requires { ⌜ length (now file) ≤ fileMost ⌝ }
+    requires { ⌜ length (instrumentAs stripped (now file) at) ≤ length (now out) ⌝ }
+    ensures { λ r. ⌜ r ≡ length (instrumentAs stripped (now (file .entry)) at) ⌝ }
+    ensures { λ _. ⌜ now (out .exit) ≡ inFront (instrumentAs stripped (now (file .entry)) at) (now (out .entry)) ⌝ }
+{
+    let form = stripped_form(file, at, part);
+    let heads = at + part.size;
+    let data = heads + part.samples * part.head_size;
+    let end = part.next;
+    let first = form.size;
+    let last = first + part.samples * form.head_size;
+    write_stripped_fields(file, at, part.size, form, out);
+    write_heads(
+        file,
+        heads,
+        part.head_size,
+        part.samples,
+        form.head_size,
+        &mut out[first..],
+    );
+    copy(&file[data..end], &mut out[last..]);
+    form.length
+}
+
+// In either kind.
 pub fn write_instrument(
     file: &[u8],
     at: usize,
@@ -119,21 +224,8 @@ pub fn write_instrument(
     ensures { λ r. ⌜ r ≡ length (instrumentAs (kindBy to) (now (file .entry)) at) ⌝ }
     ensures { λ _. ⌜ now (out .exit) ≡ inFront (instrumentAs (kindBy to) (now (file .entry)) at) (now (out .entry)) ⌝ }
 {
-    let form = form_of(file, at, part, to);
-    let heads = at + part.size;
-    let data = heads + part.samples * part.head_size;
-    let end = part.next;
-    let first = form.size;
-    let last = first + part.samples * form.head_size;
-    write_fields(file, at, part.size, form, out);
-    write_heads(
-        file,
-        heads,
-        part.head_size,
-        part.samples,
-        form.head_size,
-        &mut out[first..],
-    );
-    copy(&file[data..end], &mut out[last..]);
-    form.length
+    if to {
+        return write_stripped(file, at, part, out);
+    }
+    write_normal(file, at, part, out)
 }

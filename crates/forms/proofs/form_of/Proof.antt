@@ -1,65 +1,26 @@
--- `forms::form_of` meets its contract: I and H as they are measured, and the data behind as it stands. Assumes nothing.
-use Prim.Native.Nat.{_*_, _≤_}
-use mathlib.Core.Path.{refl}
+-- `forms::form_of` meets its contract, of either kind. Assumes nothing.
 use native.Mathlib.Omega.{arith}
 use Rattle.xm.specs.Number.{Bytes}
-use Rattle.forms.proofs.FormLaws.{no-heads, PartInside, inside, least-most, times-most, form-told, form-normal, form-stripped}
-use borrow.Author.Needs.{needs}
+use Rattle.forms.proofs.FormLaws.{inside, form-told, form-normal}
 use Rattle.forms.proofs.form_of.Statement.{statement}
 use Rattle.forms.proofs.form_of.Tie as tie
 
--- The instrument that was read lies in the file
 plain : (k : tie.After-shared-slice-known) → Bytes (k .before .args .file .now)
 plain k = record { below = λ i. omega (arith, k .shared-slice-known .given i) }
 
-within : (k : tie.After-shared-slice-known) → let a = k .before .args in PartInside (a .file .now) (a .at) (a .part)
-within k = inside _ _ (k .before .pre .0) (plain k)
-
-smallest-size-requires : tie.Need-smallest-size-requires
-smallest-size-requires c κs =
-    let k = c .before .before .before .before .before in
-    let w = within k in
-    let told = c .smallest-head .ensures in
-    (w .there, (w .few, (omega (arith, told .1), λ none. omega (arith, told .0, no-heads _ _ (k .before .pre .0) none))))
-
--- A stripped one: its headers are few, and it is the shortest
-few : (c : tie.After-smallest-size) → c .before .before .before .before .before .before .before .args .part .samples * c .before .smallest-head .result ≤ 640
-few c = times-most _ _ (within (c .before .before .before .before .before .before) .few) (c .before .smallest-head .ensures .1)
+normal-form-requires : tie.Need-normal-form-requires
+normal-form-requires c κs =
+    let k = c .before in
+    let w = inside _ _ (k .before .pre .0) (plain k) in
+    (w .few, (w .behind, omega (arith, w .ends, k .before .pre .1)))
 
 returns : tie.Need-returns
-returns c =
-    let h = c .before in
-    let k = h .before .before .before .before .before in
-    let size = c .smallest-size .ensures in
-    let head = h .smallest-head .ensures in
-    form-told _ _ (k .before .pre .0) (plain k) (h .before .if1 .taken)
-    (form-stripped _ _ (k .before .pre .0) (plain k) (size .0) (size .1) (head .0) (head .1) refl)
-
--- A normal one
-least : (c : tie.After-least-size) → c .least-size .result ≤ 263
-least c = omega (arith, c .least-size .ensures, least-most (c .before .before .before .before .before .before .args .part .samples))
+returns c = rw (c .before .if1 .taken) (c .stripped-form .ensures)
 
 returns-2 : tie.Need-returns-2
 returns-2 c =
-    let k = c .before .before .before .before .before in
-    form-told _ _ (k .before .pre .0) (plain k) (c .before .if1 .left) (form-normal _ _ (k .before .pre .0) (plain k) (c .least-size .ensures) refl)
+    let k = c .before .before in
+    rw (c .before .if1 .left, c .normal-form .ensures) (form-told _ _ (k .before .pre .0) (plain k) (form-normal _ _ (k .before .pre .0) (plain k)))
 
 pub form-of-spec : {M : Type 1} → statement M
-form-of-spec =
-    tie.close
-    (tie.spec
-    (λ c. let k = c .before in omega (arith, within k .there, k .before .pre .1))
-    (λ c. let k = c .before .before in omega (arith, within k .behind, within k .ends, k .before .pre .1))
-    (λ c. let k = c .before .before in omega (arith, within k .behind, within k .ends, k .before .pre .1))
-    (λ c. let k = c .before .before .before in omega (arith, within k .behind))
-    (λ c κs. let k = c .before .before .before .before in omega (arith, within k .behind, within k .ends))
-    smallest-size-requires
-    (λ c. omega (arith, few c))
-    (λ c. omega (arith, few c, c .smallest-size .ensures .1))
-    (λ c. let k = c .before .before .before .before .before .before in omega (arith, few c, c .smallest-size .ensures .1, within k .ends, k .before .pre .1))
-    returns
-    (search needs)
-    (λ c. let k = c .before .before .before .before .before in omega (arith, within k .few))
-    (λ c. let k = c .before .before .before .before .before in omega (arith, within k .few, least c))
-    (λ c. let k = c .before .before .before .before .before in omega (arith, within k .few, least c, within k .ends, k .before .pre .1))
-    returns-2)
+form-of-spec = tie.close (tie.spec (λ c κs. c .before .before .pre) returns normal-form-requires returns-2)

@@ -1,7 +1,6 @@
 -- `forms::smallest_head` meets its contract. The loop's invariant: the most of the headers behind and of those ahead is that of all. Assumes nothing.
 use native.Mathlib.Omega.{arith}
 use Rattle.forms.proofs.KeptLaws.{HeadsLeft, heads-start, heads-end, head-inside, heads-on}
-use borrow.Author.Needs.{needs}
 use Rattle.forms.proofs.smallest_head.Statement.{statement}
 use Rattle.forms.proofs.smallest_head.Tie as tie
 

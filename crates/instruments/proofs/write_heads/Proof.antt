@@ -18,22 +18,22 @@ abbrev μ-loop : tie.MeasureT-loop
 loop-again : tie.Need-loop-again Inv-loop μ-loop
 loop-again c =
     let l = c .before .before .before .before .before .loop in
-    heads-more _ _ _ _ (omega arith) (l .inv) (omega arith) (omega arith) (c .before .before .write-cut .ensures)
+    heads-more _ _ _ _ (omega arith) (l .inv) (omega arith) (omega arith) (c .before .before .write-head .ensures)
 
 loop-holds : tie.Need-loop-holds Inv-loop μ-loop
 loop-holds c = heads-none _ _ _ _ (omega arith) _ _ (omega arith) (omega arith)
 
-sub-write-cut : tie.Need-sub-write-cut Inv-loop μ-loop
-sub-write-cut c = omega (arith, head-room _ _ _ _ (omega arith) (c .before .loop .inv) (omega arith))
+sub-write-head : tie.Need-sub-write-head Inv-loop μ-loop
+sub-write-head c = omega (arith, head-room _ _ _ _ (omega arith) (c .before .loop .inv) (omega arith))
 
-part-write-cut-start : tie.Need-part-write-cut-start Inv-loop μ-loop
-part-write-cut-start c = omega (arith, head-room _ _ _ _ (omega arith) (c .before .loop .inv) (omega arith))
+part-write-head-start : tie.Need-part-write-head-start Inv-loop μ-loop
+part-write-head-start c = omega (arith, head-room _ _ _ _ (omega arith) (c .before .loop .inv) (omega arith))
 
-part-write-cut-end : tie.Need-part-write-cut-end Inv-loop μ-loop
-part-write-cut-end c = omega (arith, head-room _ _ _ _ (omega arith) (c .before .loop .inv) (omega arith))
+part-write-head-end : tie.Need-part-write-head-end Inv-loop μ-loop
+part-write-head-end c = omega (arith, head-room _ _ _ _ (omega arith) (c .before .loop .inv) (omega arith))
 
-write-cut-requires : tie.Need-write-cut-requires Inv-loop μ-loop
-write-cut-requires c κs =
+write-head-requires : tie.Need-write-head-requires Inv-loop μ-loop
+write-head-requires c κs =
     let inv = c .before .before .loop .inv in
     (head-inside _ _ _ _ (omega arith) inv (omega arith), rw (part-all, length-drop) (omega (arith, head-room _ _ _ _ (omega arith) inv (omega arith))))
 
@@ -66,10 +66,10 @@ write-heads-spec =
     Inv-loop
     μ-loop
     loop-holds
-    sub-write-cut
-    part-write-cut-start
-    part-write-cut-end
-    write-cut-requires
+    sub-write-head
+    part-write-head-start
+    part-write-head-end
+    write-head-requires
     add-head
     add-to
     sub-left

@@ -1,4 +1,4 @@
--- `instruments::write_fields` meets its contract: I ends among name, type and k, or behind them. Assumes nothing.
+-- `instruments::write_stripped_fields` meets its contract: I ends among name, type and k, or behind them. Assumes nothing.
 use mathlib.Core.Path.{refl}
 use native.Mathlib.Omega.{arith}
 use lib.ListN.{take, drop}
@@ -9,8 +9,8 @@ use Rattle.xm.proofs.Lay.{laid-first, laid-part, laid-last}
 use Rattle.instruments.specs.Instrument.{voiceIn, fieldsIn}
 use Rattle.instruments.proofs.PieceLaws.{fields-short, fields-behind, fields-size}
 use borrow.Author.Needs.{needs}
-use Rattle.instruments.proofs.write_fields.Statement.{statement}
-use Rattle.instruments.proofs.write_fields.Tie as tie
+use Rattle.instruments.proofs.write_stripped_fields.Statement.{statement}
+use Rattle.instruments.proofs.write_stripped_fields.Tie as tie
 
 returns : tie.Need-returns
 returns c =
@@ -34,10 +34,10 @@ returns-2 c =
     let second = laid-part first (padded 25 (drop 4 s)) _ {next = 29}
     (fields-behind (form .size) (drop 4 s) (voiceIn (form .«head_size») s) (omega arith)) refl (omega (arith, padded-length 25 (drop 4 s)))
     (c₆ .write-cut2 .ensures) in
-    laid-last second refl (c .before .before .write-voice .ensures)
+    laid-last second refl (c .before .before .write-stripped-voice .ensures)
 
-pub write-fields-spec : {M : Type 1} → statement M
-write-fields-spec =
+pub write-stripped-fields-spec : {M : Type 1} → statement M
+write-stripped-fields-spec =
     tie.close
     (tie.spec
     (search needs)

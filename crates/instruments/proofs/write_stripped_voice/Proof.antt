@@ -1,4 +1,5 @@
--- `instruments::write_voice` meets its contract: H alone, of which its first byte is not 0, or all of it and what follows. Assumes nothing.
+-- `instruments::write_stripped_voice` meets its contract: H alone, of which its first byte is not 0, or all of it and what follows. Assumes nothing.
+use Prim.Native.Nat.{_-_}
 use mathlib.Core.Path.{refl}
 use native.Mathlib.Omega.{arith}
 use lib.ListN.{take, drop}
@@ -7,11 +8,11 @@ use Rattle.xm.specs.ModuleKind.{padded}
 use Rattle.xm.proofs.Cut.{padded-length}
 use Rattle.xm.proofs.Lay.{laid-first, laid-last}
 use Rattle.instruments.specs.Instrument.{voiceIn}
-use Rattle.instruments.proofs.CutLaws.{padded-behind}
+use Rattle.instruments.proofs.CutLaws.{padded-padded, padded-behind}
 use Rattle.instruments.proofs.PieceLaws.{voice-short}
 use borrow.Author.Needs.{needs}
-use Rattle.instruments.proofs.write_voice.Statement.{statement}
-use Rattle.instruments.proofs.write_voice.Tie as tie
+use Rattle.instruments.proofs.write_stripped_voice.Statement.{statement}
+use Rattle.instruments.proofs.write_stripped_voice.Tie as tie
 
 returns : tie.Need-returns
 returns c =
@@ -29,10 +30,11 @@ returns-2 c =
     let s = take (a .size) (drop (a .at) (a .file .now)) in
     laid-last (laid-first (a .out .now) (padded (a .count) (voiceIn (a .head-size) s)) (long (a .head-size)) _
     (padded-behind (a .count) (long (a .head-size)) (padded 208 (drop 33 s)) (omega arith))
-    (omega (arith, padded-length (a .count) (voiceIn (a .head-size) s))) refl (c₆ .put-long .ensures)) refl (c .before .before .write-notes .ensures)
+    (omega (arith, padded-length (a .count) (voiceIn (a .head-size) s))) refl (c₆ .put-long .ensures))
+    (padded-padded (a .count - 4) 208 (drop 33 s) (omega arith)) (c .before .before .write-cut .ensures)
 
-pub write-voice-spec : {M : Type 1} → statement M
-write-voice-spec =
+pub write-stripped-voice-spec : {M : Type 1} → statement M
+write-stripped-voice-spec =
     tie.close
     (tie.spec
     (search needs)
