@@ -29,10 +29,10 @@ use Rattle.forms.specs.declared.Form.{Form}
 use Rattle.forms.proofs.KeptLaws.{trimmed-front}
 use Rattle.forms.proofs.FormLaws.{least-low}
 use Rattle.writers.specs.Found.{instrumentAs}
-use Rattle.instruments.specs.Instrument.{voiceIn, fieldsIn, headsCut}
+use Rattle.fields.specs.Fields.{voiceIn, fieldsIn, headsCut}
 use Rattle.writers.proofs.Kept.{part-split, byte-kept, word-kept}
-use Rattle.instruments.proofs.CutLaws.{padded-short, padded-front, cut-whole}
-use Rattle.instruments.proofs.PieceLaws.{fields-short, fields-size, heads-size, heads-whole}
+use Rattle.fields.proofs.CutLaws.{padded-short, padded-front, cut-whole}
+use Rattle.fields.proofs.PieceLaws.{fields-short, fields-size, heads-size, heads-whole}
 
 -- The fields as they are read, of either kind of module: the bytes of the structure itself, through its cut
 module _ (kind : ModuleKind) (place : ℕ) (s : List ℕ) (h : AllHold (instrumentTests kind place s)) where

@@ -1,3 +1,1 @@
-pub mod CutLaws
-pub mod PieceLaws
 pub mod InstrumentLaws

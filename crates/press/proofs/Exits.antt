@@ -26,7 +26,7 @@ use Rattle.walk.specs.File.{walkStep, walkRefusal}
 use Rattle.walk.specs.declared.WalkStep.{WalkStep}
 use Rattle.walk.specs.declared.WalkStep.the-variants as walked
 use Rattle.walk.proofs.FileLaws.{header-length}
-use Rattle.press.specs.Module.{contentKept, writtenFile}
+use Rattle.module.specs.Module.{contentKept, writtenFile}
 use Rattle.press.specs.Promise.{Presses, Converts}
 use Rattle.press.specs.declared.Pressed.{Pressed}
 use Rattle.press.specs.declared.Pressed.the-variants.{Length, Refused}

@@ -1,5 +1,2 @@
-pub mod EachLaws
-pub mod LoopLaws
-pub mod ModuleLaws
 pub mod Exits
 pub mod Calls

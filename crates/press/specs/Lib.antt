@@ -1,3 +1,2 @@
-pub mod Module
 pub mod Pressed
 pub mod Promise

@@ -1,6 +1,6 @@
 // Conversion to either kind of module.
 use crate::Pressed;
-use crate::module::write_module;
+use module::write_module;
 use refusal::Refusal;
 use walk::FILE_MOST;
 use walk::WalkStep;

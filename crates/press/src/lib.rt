@@ -1,6 +1,5 @@
 // Pressing: the shortest file of a module's content, of its own kind. And conversion: of either kind.
 mod convert;
-mod module;
 
 use convert::convert;
 use module::write_module;

@@ -25,8 +25,8 @@ use Rattle.refusal.specs.Refusal.{codeRefusal}
 use Rattle.walk.specs.File.{verdictOf, verdictNumbers}
 use Rattle.walk.specs.declared.Verdict.{Verdict}
 use Rattle.tables.specs.Into.{lent, checkedInto, roomBeside, patternsAfter, instrumentsAfter}
-use Rattle.tables.specs.Place.{codeRow, codeRowNumbers, tunesOf}
-use Rattle.tables.specs.declared.sample.SampleRow.{SampleRow}
+use Rattle.rows.specs.Place.{codeRow, codeRowNumbers, tunesOf}
+use Rattle.rows.specs.declared.sample.SampleRow.{SampleRow}
 use Rattle.tables.proofs.Calls.{into-numbers, headAt, rowHeadSize, valuesAt}
 use Rattle.tables.proofs.IntoLaws.{into-accepted}
 use Rattle.records.specs.Records.{rowOf, rowsOf, recordsOf, noRecord, checkedRecords, recordsAfter, rowAsking, rowAskingIn, rowAskedOf, rowsGiven}

@@ -17,8 +17,8 @@ use Rattle.refusal.specs.Refusal.{codeRefusal}
 use Rattle.walk.specs.File.{verdictOf}
 use Rattle.walk.specs.declared.Verdict.{Verdict}
 use Rattle.tables.specs.Into.{roomBeside, patternsAfter, instrumentsAfter}
-use Rattle.tables.specs.Place.{codeRow}
-use Rattle.tables.specs.declared.sample.SampleRow.{SampleRow}
+use Rattle.rows.specs.Place.{codeRow}
+use Rattle.rows.specs.declared.sample.SampleRow.{SampleRow}
 use Rattle.tables.proofs.IntoLaws.{into-accepted}
 use Rattle.records.specs.Records.{rowOf, rowsOf, recordsOf, noRecord, recordsIn, checkedRecords, recordsAfter, samplesOf, rowAsking, rowAskingIn}
 use Rattle.records.specs.Records.{rowAskedOf}

@@ -12,8 +12,8 @@ use Rattle.xm.specs.Asking.{noRow}
 use Rattle.refusal.specs.Refusal.{codeRefusal}
 use Rattle.walk.specs.declared.Verdict.{Verdict}
 use Rattle.walk.specs.declared.Verdict.the-variants as verdict
-use Rattle.tables.specs.Place.{codeRow, codeRowNumbers, tunesOf}
-use Rattle.tables.specs.declared.sample.SampleRow.{SampleRow}
+use Rattle.rows.specs.Place.{codeRow, codeRowNumbers, tunesOf}
+use Rattle.rows.specs.declared.sample.SampleRow.{SampleRow}
 use Rattle.records.specs.declared.row.RowAsked.{RowAsked}
 use Rattle.records.specs.declared.row.RowAsked.the-variants as asked
 

@@ -5,7 +5,7 @@ use asking::ask_row;
 use asking::asked_refusal;
 use asking::asked_stretch;
 use refusal::Refusal;
-use tables::sample::SampleRow;
+use rows::sample::SampleRow;
 use walk::Verdict;
 ghost use mathlib.Core.Path.{_≡_};
 ghost use Rattle.xm.specs.Answer.{numberOf};

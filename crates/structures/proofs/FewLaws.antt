@@ -16,9 +16,9 @@ use Rattle.xm.specs.Instrument.{InstrumentFound, instrumentFormat}
 use Rattle.xm.specs.Module.{Found, fileMost, readFile}
 use Rattle.xm.specs.Structure.{isStructure, structuresOf, structures}
 use Rattle.xm.proofs.Format.{read-length}
-use Rattle.tables.specs.Accepted.{ReadsFrom}
-use Rattle.tables.proofs.Reading.{reads-none, file-reads}
-use Rattle.tables.proofs.InstrumentLaws.{instruments-next}
+use Rattle.rows.specs.Accepted.{ReadsFrom}
+use Rattle.rows.proofs.Reading.{reads-none, file-reads}
+use Rattle.rows.proofs.InstrumentLaws.{instruments-next}
 
 abbrev count : List Region → ℕ
 count rs = length (structuresOf rs)

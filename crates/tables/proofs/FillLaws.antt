@@ -22,14 +22,14 @@ use Rattle.xm.specs.Table.{sampleNumbers, sampleTunes, sampleStride, tuneStride
 use Rattle.xm.specs.Asking.{noRow}
 use Rattle.xm.proofs.Lay.{Laid, laid-none, laid-done}
 use Rattle.slices.proofs.Stores.{laid-lay}
-use Rattle.tables.specs.Accepted.{ReadsFrom, InstrumentsFrom}
+use Rattle.rows.specs.Accepted.{ReadsFrom, InstrumentsFrom}
 use Rattle.steps.specs.Step.{patternHead}
-use Rattle.tables.specs.Place.{dataEnd, InstrumentHeadStands}
+use Rattle.rows.specs.Place.{dataEnd, InstrumentHeadStands}
 use Rattle.steps.specs.declared.pattern.PatternHead.{PatternHead}
 use Rattle.steps.specs.declared.instrument.InstrumentHead.{InstrumentHead}
-use Rattle.tables.proofs.Reading.{accepted-small, accepted-header, reads-none}
-use Rattle.tables.proofs.InstrumentLaws.{instrumentAt, InstrumentStands, instruments-next}
-use Rattle.tables.proofs.PlaceLoops.{Skipping, PatternFits, skipping-start, skipping-on, skipping-end}
+use Rattle.rows.proofs.Reading.{accepted-small, accepted-header, reads-none}
+use Rattle.rows.proofs.InstrumentLaws.{instrumentAt, InstrumentStands, instruments-next}
+use Rattle.rows.proofs.PlaceLoops.{Skipping, PatternFits, skipping-start, skipping-on, skipping-end}
 
 -- There is room for a piece that is still to be laid
 laid-room : {A : Type 0} {lent goal out : List A} {to : ℕ} {rest : List A} → Laid lent goal out to rest → (w rest′ : List A)

@@ -34,7 +34,7 @@ use Rattle.walk.proofs.FileLaws.{same-module}
 use Rattle.xm.proofs.Got.{all-hold}
 use Rattle.refusal.proofs.TestLaws.{not-all-hold}
 use Rattle.tables.specs.Into.{lent, roomBeside, roomTestsOf, patternsAfter, instrumentsAfter}
-use Rattle.tables.proofs.Reading.{file-reads}
+use Rattle.rows.proofs.Reading.{file-reads}
 use Rattle.tables.proofs.VerdictLaws.{never, verdict-got, verdict-refused}
 
 -- As many rows as the check counts

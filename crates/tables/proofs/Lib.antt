@@ -1,8 +1,3 @@
-pub mod Reading
-pub mod PatternLaws
-pub mod InstrumentLaws
-pub mod PlaceLoops
-pub mod SampleLaws
 pub mod FillLaws
 pub mod VerdictLaws
 pub mod IntoLaws

@@ -1,4 +1,1 @@
-pub mod Accepted
-pub mod Place
-pub mod Sought
 pub mod Into

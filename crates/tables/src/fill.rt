@@ -1,9 +1,9 @@
 // The three tables of an accepted file, each filled by a second pass, in a lent table that has the room.
-use crate::place::data_end;
-use crate::place::first_instrument;
-use crate::sample::first_sought;
-use crate::sample::put_sample;
-use crate::sample::row_step;
+use rows::place::data_end;
+use rows::place::first_instrument;
+use rows::sample::first_sought;
+use rows::sample::put_sample;
+use rows::sample::row_step;
 use steps::header::header_part;
 use steps::instrument::instrument_head;
 use steps::pattern::pattern_head;

@@ -1,7 +1,5 @@
 // The tables of an accepted file, filled in a second pass.
 pub mod fill;
-pub mod place;
-pub mod sample;
 
 use asking::SAMPLE_STRIDE;
 use fill::INSTRUMENT_STRIDE;
@@ -10,7 +8,7 @@ use fill::fill_instruments;
 use fill::fill_patterns;
 use fill::fill_samples;
 use refusal::Refusal;
-use sample::TUNE_STRIDE;
+use rows::sample::TUNE_STRIDE;
 use walk::Module;
 use walk::Verdict;
 use walk::check;

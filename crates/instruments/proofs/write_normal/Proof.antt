@@ -10,7 +10,7 @@ use Rattle.forms.specs.Form.{normalForm}
 use Rattle.forms.specs.declared.Form.{Form}
 use Rattle.forms.proofs.FormLaws.{inside, form-told, form-normal}
 use Rattle.writers.specs.Found.{instrumentAs}
-use Rattle.instruments.proofs.PieceLaws.{fields-size}
+use Rattle.fields.proofs.PieceLaws.{fields-size}
 use Rattle.instruments.proofs.InstrumentLaws.{fieldsBy, headsBy, InstrumentLies, instrument-lies}
 use borrow.Author.Needs.{needs}
 use Rattle.instruments.proofs.write_normal.Statement.{statement}

@@ -6,7 +6,7 @@ use lib.ListN.{take, drop, length-take, length-drop}
 use Rattle.xm.specs.ModuleKind.{stripped}
 use Rattle.xm.proofs.Lay.{part-all, laid-first, laid-part, laid-last}
 use Rattle.writers.specs.Found.{instrumentAs}
-use Rattle.instruments.proofs.PieceLaws.{fields-size}
+use Rattle.fields.proofs.PieceLaws.{fields-size}
 use Rattle.instruments.proofs.InstrumentLaws.{fieldsBy, headsBy, InstrumentLies, instrument-lies}
 use borrow.Author.Needs.{needs}
 use Rattle.instruments.proofs.write_stripped.Statement.{statement}

@@ -48,8 +48,8 @@ use Rattle.walk.specs.declared.Verdict.{Verdict}
 use Rattle.walk.proofs.Verdict as N
 use Rattle.walk.proofs.Verdict.Laws as N′
 use Rattle.tables.specs.Into.{roomBeside, patternsAfter, instrumentsAfter}
-use Rattle.tables.specs.declared.sample.SampleRow.{SampleRow}
-use Rattle.tables.proofs.sample.SampleRow as T
+use Rattle.rows.specs.declared.sample.SampleRow.{SampleRow}
+use Rattle.rows.proofs.sample.SampleRow as T
 use Rattle.tables.proofs.check_beside as beside
 use Rattle.tables.proofs.check_beside.Symbol as beside-def
 use Rattle.tables.proofs.check_beside.Symbol.{name as #tables·check-beside}

@@ -46,9 +46,9 @@ use Rattle.xm.specs.Got.{_at_}
 use Rattle.refusal.specs.Refusal.{codeRefusal}
 use Rattle.refusal.proofs.Refusal as F
 use Rattle.refusal.proofs.Refusal.Laws as F′
-use Rattle.tables.specs.declared.sample.SampleRow.{SampleRow}
-use Rattle.tables.proofs.sample.SampleRow as T
-use Rattle.tables.proofs.sample.SampleRow.Laws as T′
+use Rattle.rows.specs.declared.sample.SampleRow.{SampleRow}
+use Rattle.rows.proofs.sample.SampleRow as T
+use Rattle.rows.proofs.sample.SampleRow.Laws as T′
 use Rattle.records.specs.Records.{noRecord, rowsOf, rowAskingIn, rowAskedOf}
 use Rattle.records.specs.declared.row.RowAsked.{RowAsked}
 use Rattle.records.specs.declared.row.RowAsked.the-variants as asked

@@ -60,27 +60,27 @@ use Rattle.xm.specs.Module.{readFile}
 use Rattle.xm.specs.Answer.{inFront}
 use Rattle.xm.specs.Table.{sampleRows}
 use Rattle.xm.specs.Asking.{noRow}
-use Rattle.tables.specs.Place.{codeRow}
+use Rattle.rows.specs.Place.{codeRow}
 use Rattle.records.specs.Records.{noRecord, recordsIn}
-use Rattle.tables.specs.Sought.{Seeks}
-use Rattle.tables.specs.declared.sample.SampleRow.{SampleRow}
-use Rattle.tables.specs.declared.sample.Sought.{Sought}
-use Rattle.tables.specs.declared.sample.RowStep.{RowStep}
+use Rattle.rows.specs.Sought.{Seeks}
+use Rattle.rows.specs.declared.sample.SampleRow.{SampleRow}
+use Rattle.rows.specs.declared.sample.Sought.{Sought}
+use Rattle.rows.specs.declared.sample.RowStep.{RowStep}
 use Rattle.records.proofs.RecordsLaws.{stored-one, stored-length, records-length, record-is}
-use Rattle.tables.proofs.sample.SampleRow as T
-use Rattle.tables.proofs.sample.SampleRow.Laws as T′
-use Rattle.tables.proofs.sample.Sought as S
-use Rattle.tables.proofs.sample.Sought.Laws as S′
-use Rattle.tables.proofs.sample.RowStep as R
-use Rattle.tables.proofs.sample.RowStep.Laws as R′
-use Rattle.tables.proofs.sample.first_sought as first
-use Rattle.tables.proofs.sample.first_sought.Symbol as first-def
-use Rattle.tables.proofs.sample.first_sought.Symbol.{name as #tables·first-sought}
-use Rattle.tables.proofs.sample.first_sought.Met as first-thm
-use Rattle.tables.proofs.sample.row_step as step
-use Rattle.tables.proofs.sample.row_step.Symbol as step-def
-use Rattle.tables.proofs.sample.row_step.Symbol.{name as #tables·row-step}
-use Rattle.tables.proofs.sample.row_step.Met as step-thm
+use Rattle.rows.proofs.sample.SampleRow as T
+use Rattle.rows.proofs.sample.SampleRow.Laws as T′
+use Rattle.rows.proofs.sample.Sought as S
+use Rattle.rows.proofs.sample.Sought.Laws as S′
+use Rattle.rows.proofs.sample.RowStep as R
+use Rattle.rows.proofs.sample.RowStep.Laws as R′
+use Rattle.rows.proofs.sample.first_sought as first
+use Rattle.rows.proofs.sample.first_sought.Symbol as first-def
+use Rattle.rows.proofs.sample.first_sought.Symbol.{name as #rows·first-sought}
+use Rattle.rows.proofs.sample.first_sought.Met as first-thm
+use Rattle.rows.proofs.sample.row_step as step
+use Rattle.rows.proofs.sample.row_step.Symbol as step-def
+use Rattle.rows.proofs.sample.row_step.Symbol.{name as #rows·row-step}
+use Rattle.rows.proofs.sample.row_step.Met as step-thm
 use Rattle.records.proofs.store_records.Key.{name as #records·store-records}
 use Rattle.records.proofs.store_records as f
 use Rattle.records.proofs.store_records.Statement as stated
@@ -239,7 +239,7 @@ module _ {M : Type 1} (𝓤 : URA M) (H : Heap 𝓤) (A : Atoms 𝓤) (W : Given
       spelt = is;
     }
 
-  module _ (𝓣 : Tables 𝓤 H) (fm : FmC 𝓤 H (W .laws) (𝓣 .C)) (known : Triple 𝓤 (𝓣 .C #tables·row-step) (Step 𝓤 H A mem run))
+  module _ (𝓣 : Tables 𝓤 H) (fm : FmC 𝓤 H (W .laws) (𝓣 .C)) (known : Triple 𝓤 (𝓣 .C #rows·row-step) (Step 𝓤 H A mem run))
       (l₀ l₁ l₂ l₃ l₄ l₅ l₆ l₇ l₈ l₉ : ℕ) where
     abbrev C : Calls 𝓤 H
     C = 𝓣 .C
@@ -327,7 +327,7 @@ module _ {M : Type 1} (𝓤 : URA M) (H : Heap 𝓤) (A : Atoms 𝓤) (W : Given
         move ! (3 ∷ 6 ∷ []) $ free1 ! $ free0 ! $ by ! (exits (x .done) (omega (arith, x .most)))
 
     -- the call of `first_sought`, and the loop
-    begins : Triple 𝓤 (𝓣 .C #tables·first-sought) (First 𝓤 H A mem run)
+    begins : Triple 𝓤 (𝓣 .C #rows·first-sought) (First 𝓤 H A mem run)
         → Sq W (‵ (flft κ′ q′) ∷ ‵ OwnF ∷ ‵ (row T.the-row fullShare ys b o) ∷ ‵ (fobor κ q (Held T.the-row (length ys) b o γ))
         ∷ ‵ (fobs γ (codedHoleys T.the-row .code (heres T.the-row ys))) ∷ ‵ (fauth γ (codedHoleys T.the-row .code (heres T.the-row ys)))
         ∷ ‵ (froom tyPtr l₉ 0) ∷ ‵ (fdies tyPtr l₉) ∷ ‵ (froom (tyInt w64) l₈ 0) ∷ ‵ (fdies (tyInt w64) l₈) ∷ ‵ (froom tyBool l₇ 0) ∷ ‵ (fdies tyBool l₇)
@@ -354,8 +354,8 @@ module _ {M : Type 1} (𝓤 : URA M) (H : Heap 𝓤) (A : Atoms 𝓤) (W : Given
         (record { done = 0; most = omega arith; next = x; numbered = e .0; seeks = e .1; value = u; spelt = is })))))
 
   -- the MIR, up to the loop: the borrow is opened once, before it
-  walk : (𝓣 : Tables 𝓤 H) → FmC 𝓤 H (W .laws) (𝓣 .C) → Triple 𝓤 (𝓣 .C #tables·first-sought) (First 𝓤 H A mem run)
-      → Triple 𝓤 (𝓣 .C #tables·row-step) (Step 𝓤 H A mem run)
+  walk : (𝓣 : Tables 𝓤 H) → FmC 𝓤 H (W .laws) (𝓣 .C) → Triple 𝓤 (𝓣 .C #rows·first-sought) (First 𝓤 H A mem run)
+      → Triple 𝓤 (𝓣 .C #rows·row-step) (Step 𝓤 H A mem run)
       → ent 𝓤 (onEntry 𝓤 H A f.signature (κ′, (κ, tt)) (q′, (q, tt)) a vals) (WpFn 𝓤 H (𝓣 .C) (𝓣 .Λ) code.function (sf ∷ s ∷ vint w64 n ∷ []) Post)
   walk 𝓣 fm known-first known =
       qed W ((‵ (flft κ′ q′) ⊛ ‵ (flft κ q) ⊛ ‵ ftrue) ∷ ‵ (owns (ShrSlice (named 0) κ′ u8 ∷ MutSlice (named 1) κ T.the-row ∷ usize ∷ []) a vals) ∷ []) ∵
@@ -372,8 +372,8 @@ module _ {M : Type 1} (𝓤 : URA M) (H : Heap 𝓤) (A : Atoms 𝓤) (W : Given
       begins 𝓣 fm known l₀ l₁ l₂ l₃ l₄ l₅ l₆ l₇ l₈ l₉ known-first))))))))))
 
 module _ {M : Type 1} (𝓤 : URA M) (H : Heap 𝓤) (A : Atoms 𝓤) (W : Given 𝓤 H A) (mem : Memory → SProp 𝓤) (run : Routine → Fun 𝓤) where
-  store-records-walks : (𝓣 : Tables 𝓤 H) → FmC 𝓤 H (W .laws) (𝓣 .C) → Triple 𝓤 (𝓣 .C #tables·first-sought) (First 𝓤 H A mem run)
-      → Triple 𝓤 (𝓣 .C #tables·row-step) (Step 𝓤 H A mem run) → Walks 𝓤 H A f.ended stayed (WpFn 𝓤 H (𝓣 .C) (𝓣 .Λ) code.function) (f.clauses 𝓤 H A mem run)
+  store-records-walks : (𝓣 : Tables 𝓤 H) → FmC 𝓤 H (W .laws) (𝓣 .C) → Triple 𝓤 (𝓣 .C #rows·first-sought) (First 𝓤 H A mem run)
+      → Triple 𝓤 (𝓣 .C #rows·row-step) (Step 𝓤 H A mem run) → Walks 𝓤 H A f.ended stayed (WpFn 𝓤 H (𝓣 .C) (𝓣 .Λ) code.function) (f.clauses 𝓤 H A mem run)
   store-records-walks 𝓣 fm known-first known = walked 𝓤 H A f.ended stayed (f.clauses 𝓤 H A mem run) (WpFn 𝓤 H (𝓣 .C) (𝓣 .Λ) code.function)
       (λ κs. (slice-vals, (slice-vals, (uint-vals w64, tt))))
       (λ κs. (shr-slice-tells (named 0) (κs .0) u8, (mut-slice-tells (named 1) (κs .1 .0) T.the-row, (uint-tells w64, tt))))
@@ -382,7 +382,7 @@ module _ {M : Type 1} (𝓤 : URA M) (H : Heap 𝓤) (A : Atoms 𝓤) (W : Given
       (are .1 .0 .0 .1) (are .0 .0 .1) (are .1 .1 .0 .1) (l .0) (l .1) 𝓣 fm known-first known))
 
 store-records-meets : {M : Type 1} (𝓤 : URA M) (H : Heap 𝓤) (A : Atoms 𝓤) (W : Given 𝓤 H A) (mem : Memory → SProp 𝓤) (run : Routine → Fun 𝓤) (𝓣 : Tables 𝓤 H)
-    → Triple 𝓤 (𝓣 .C #tables·first-sought) (First 𝓤 H A mem run) → Triple 𝓤 (𝓣 .C #tables·row-step) (Step 𝓤 H A mem run)
+    → Triple 𝓤 (𝓣 .C #rows·first-sought) (First 𝓤 H A mem run) → Triple 𝓤 (𝓣 .C #rows·row-step) (Step 𝓤 H A mem run)
     → Meets 𝓤 H A f.signature (WpFn 𝓤 H (𝓣 .C) (𝓣 .Λ) code.function) (f.spec 𝓤 H A mem run)
 store-records-meets 𝓤 H A W mem run 𝓣 known-first known =
     walk-meets 𝓤 H A f.ended stayed W (
@@ -398,6 +398,6 @@ store-records-spec 𝓤 H 𝓜 𝓖 𝓡 =
     entered 𝓤 H (tripleOf 𝓤 H (𝓖 .A) f.signature (f.spec 𝓤 H (𝓖 .A) (𝓜 .mem) (𝓡 .run)))
     (tables 𝓤 H 𝓜 𝓡 code.env .C) (tables 𝓤 H 𝓜 𝓡 code.env .Λ) #records·store-records code.function (code.unfolded 𝓤 H 𝓜 𝓡)
     (store-records-meets 𝓤 H (𝓖 .A) (givenOf 𝓤 H 𝓜 𝓖) (𝓜 .mem) (𝓡 .run) (tablesOf 𝓤 H 𝓜 (tables 𝓤 H 𝓜 𝓡 code.env))
-    (cited 𝓤 H (First 𝓤 H (𝓖 .A) (𝓜 .mem) (𝓡 .run)) 𝓜 𝓡 code.env #tables·first-sought first-def.routine code.calls-tables·sample·first-sought
+    (cited 𝓤 H (First 𝓤 H (𝓖 .A) (𝓜 .mem) (𝓡 .run)) 𝓜 𝓡 code.env #rows·first-sought first-def.routine code.calls-rows·sample·first-sought
     (first-thm.met 𝓤 H 𝓜 𝓖 𝓡))
-    (cited 𝓤 H (Step 𝓤 H (𝓖 .A) (𝓜 .mem) (𝓡 .run)) 𝓜 𝓡 code.env #tables·row-step step-def.routine code.calls-tables·sample·row-step (step-thm.met 𝓤 H 𝓜 𝓖 𝓡)))
+    (cited 𝓤 H (Step 𝓤 H (𝓖 .A) (𝓜 .mem) (𝓡 .run)) 𝓜 𝓡 code.env #rows·row-step step-def.routine code.calls-rows·sample·row-step (step-thm.met 𝓤 H 𝓜 𝓖 𝓡)))

@@ -1,6 +1,6 @@
 -- `structures::start_checked` meets its contract. Assumes nothing.
 use mathlib.Core.Path.{sym, _∙_}
-use Rattle.tables.proofs.Reading.{accepted-header}
+use Rattle.rows.proofs.Reading.{accepted-header}
 use Rattle.structures.proofs.HandingLaws.{start-refused, start-accepted, start-reached}
 use borrow.Author.Needs.{needs}
 use Rattle.structures.proofs.start_checked.Statement.{statement}

@@ -3,7 +3,7 @@
 use mathlib.Core.Path.{ap}
 use native.Mathlib.Omega.{arith}
 use Rattle.steps.specs.declared.header.HeaderPart.{HeaderPart}
-use Rattle.tables.proofs.Reading.{accepted-header}
+use Rattle.rows.proofs.Reading.{accepted-header}
 use Rattle.tables.proofs.FillLaws.{FillingInstruments, instruments-start, instruments-tests, instruments-place, instruments-stands, instruments-room}
 use Rattle.tables.proofs.FillLaws.{instruments-on, instruments-done}
 use Rattle.tables.proofs.fill.fill_instruments.Statement.{statement}

@@ -3,8 +3,8 @@
 use mathlib.Core.Path.{ap}
 use native.Mathlib.Omega.{arith}
 use Rattle.steps.specs.declared.header.HeaderPart.{HeaderPart}
-use Rattle.tables.proofs.Reading.{accepted-header}
-use Rattle.tables.proofs.PlaceLoops.{skipping-room}
+use Rattle.rows.proofs.Reading.{accepted-header}
+use Rattle.rows.proofs.PlaceLoops.{skipping-room}
 use Rattle.tables.proofs.FillLaws.{FillingPatterns, patterns-start, patterns-fit, patterns-room, patterns-on, patterns-done}
 use Rattle.tables.proofs.fill.fill_patterns.Statement.{statement}
 use Rattle.tables.proofs.fill.fill_patterns.Tie as tie

@@ -7,9 +7,9 @@ use Rattle.xm.specs.Got.{listIn}
 use Rattle.xm.specs.Lay.{lay}
 use Rattle.xm.specs.Module.{readFile}
 use Rattle.xm.specs.Table.{sampleRows, sampleStride, tuneStride}
-use Rattle.tables.specs.Place.{codeRowNumbers, tunesOf}
-use Rattle.tables.specs.Sought.{Seeks}
-use Rattle.tables.specs.declared.sample.SampleRow.{SampleRow}
+use Rattle.rows.specs.Place.{codeRowNumbers, tunesOf}
+use Rattle.rows.specs.Sought.{Seeks}
+use Rattle.rows.specs.declared.sample.SampleRow.{SampleRow}
 use Rattle.tables.proofs.FillLaws.{FillingSamples, samples-start, samples-room, tunes-room, samples-on, samples-done}
 use Rattle.tables.proofs.fill.fill_samples.Statement.{statement}
 use Rattle.tables.proofs.fill.fill_samples.Tie as tie
