@@ -2,7 +2,7 @@
 use Prim.Native.Nat.{ℕ, zero, suc, _+_, _-_, _*_, _≤_, _<_}
 use mathlib.Core.Bool.{Bool, true, false, cond}
 use mathlib.Core.List.{List, [], _∷_, _++_, map, map-append, append-nil}
-use mathlib.Core.Path.{_≡_, refl, sym, ap, ap₂, _∙_}
+use mathlib.Core.Path.{_≡_, refl, sym, ap, ap₂, _∙_, subst}
 use native.Mathlib.Nat.{zero-add, add-zero, suc-mul, zero-mul}
 use native.Mathlib.Numerals.{add-one}
 use native.Mathlib.Omega.{arith}
@@ -424,7 +424,7 @@ module _ (file : List ℕ) (found : Found) (end : ℕ) (reads : readFile file �
         record {
           at = c .next;
           reached = ap (readOn file) (w .reached) ∙ ap (λ (h : Handed). gives (h .ahead)) (c .gives-it);
-          left = rw (drop-drop 1 n all, add-one n) at (c .left);
+          left = subst (StructuresLeft file (c .next)) (drop-drop 1 n all ∙ ap (λ (k : ℕ). drop k all) (add-one n)) (c .left);
         }
 
     answers : (n : ℕ) → called file (readFor file n) ≡ gives (getD all n ended)
