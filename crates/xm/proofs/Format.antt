@@ -170,6 +170,10 @@ module _ {H I A : Type 0} (F : Format H I A) where
   each-length (h ∷ hs) [] g = absurd g
   each-length (h ∷ hs) (x ∷ xs) g = ap suc (each-length hs xs (g .1))
 
+  pub each-replicate : (h : H) (x : A) (n : ℕ) → F .Good h x → EachGood F (replicate n h) (replicate n x)
+  each-replicate h x zero g = tt
+  each-replicate h x (suc n) g = (g, each-replicate h x n g)
+
   pub read-length : (hs : List H) (place : ℕ) (s : List ℕ) (is : List I) (n : ℕ) → eachRead F hs place s ≡ got is n → length is ≡ length hs
   read-length [] place s is n e = got-carry (λ (r : List I) (u : ℕ). length r ≡ 0) e refl
   read-length (h ∷ hs) place s is n e =

@@ -19,7 +19,7 @@ use Rattle.xm.specs.Packing.{patternOf, packing, storedLength, packNumbe
 use Rattle.xm.specs.Demands.{KeepsPromise, accepts, StoredFormOf, WellFormed, UnpacksToCells, PackedShortest, Fifteen, EmptyPatterns, LoaderTells}
 use Rattle.xm.proofs.Number.{bytes-nil, bytes-append, bytes-drop, bytes-by}
 use Rattle.xm.proofs.Got.{not-both, test-holds, test-fails, pass, step, step-refused, refused-bind, refused-tests}
-use Rattle.xm.proofs.Format.{cons-path}
+use Rattle.xm.proofs.Format.{cons-path, all-replicate, each-replicate}
 use Rattle.xm.proofs.Cell.{five-bytes}
 use Rattle.xm.proofs.Stored.{pattern-path, Fives, Full, flat-length, cells-flat, flat-cells, cells-length, cells-fives, good-count}
 use Rattle.xm.proofs.Stored.{good-fives, empty-flat, rows-good, rows-none, none-rows, write-none, write-cells, product-some}
@@ -238,12 +238,10 @@ unfoldable pub fullCells : (rows channels : ℕ) → List ℕ
 fullCells rows channels = cellBytes (fullPattern rows channels)
 
 full-good : (n : ℕ) → EachGood cellFormat (replicate n tt) (replicate n fullCell)
-full-good zero = tt
-full-good (suc n) = (record { size = refl; plain = bytes-by fullCell refl }, full-good n)
+full-good n = each-replicate cellFormat tt fullCell n (record { size = refl; plain = bytes-by fullCell refl })
 
 full-fields : (n : ℕ) → All Full (replicate n fullCell)
-full-fields zero = tt
-full-fields (suc n) = (omega arith, full-fields n)
+full-fields n = all-replicate Full fullCell n (omega arith)
 
 module _ (rows channels : ℕ) (arguments : AllHold (argumentTests rows channels)) where
   full-pattern : GoodPattern channels (fullPattern rows channels)

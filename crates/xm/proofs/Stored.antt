@@ -17,7 +17,7 @@ use Rattle.xm.specs.Cell.{five, readCell, writeCell, cellMost, cellForma
 use Rattle.xm.specs.Stored.{Pattern, emptyRows, readCells, readStored, allZero, needsNoData, writeStored, GoodPattern, cellsOf}
 use Rattle.xm.proofs.Number.{bytes-nil, bytes-zeros}
 use Rattle.xm.proofs.Got.{pass, passed, step, bind-got, got-both, got-value, got-used, got-carry}
-use Rattle.xm.proofs.Format.{cons-path, each-length, many-back, many-keeps}
+use Rattle.xm.proofs.Format.{cons-path, each-length, each-replicate, many-back, many-keeps}
 use Rattle.xm.proofs.Cell.{five-front, write-some, write-most, write-full, cell-back, cell-keeps}
 
 pub pattern-path : {r s : ℕ} {x y : List (List ℕ)} → r ≡ s → x ≡ y → _≡_ {A = Pattern} (record { rows = r; cells = x }) (record { rows = s; cells = y })
@@ -114,8 +114,7 @@ zero-cells (suc n) (c ∷ cells) g e =
     cons-path (zero-replicate c (t .0) ∙ ap (λ (k : ℕ). replicate k 0) (g .0 .size)) (zero-cells n cells (g .1) (t .1))
 
 empty-good : (n : ℕ) → EachGood cellFormat (replicate n tt) (replicate n (replicate 5 0))
-empty-good zero = tt
-empty-good (suc n) = (record { size = refl; plain = bytes-zeros 5 }, empty-good n)
+empty-good n = each-replicate cellFormat tt (replicate 5 0) n (record { size = refl; plain = bytes-zeros 5 })
 
 empty-zero : (n : ℕ) → allZero (flat (replicate n (replicate 5 0))) ≡ true
 unfolding allZero

@@ -71,7 +71,8 @@ some-room c = all-room (c .before .before .before .before .before .before .befor
 
 write-normal-voice-requires : tie.Need-write-normal-voice-requires
 write-normal-voice-requires c κs =
-    (c .before .before .before .before .before .before .before .before .before .before .before .before .before .pre .0, rw (part-all, length-drop) (omega (arith, some-room (c .before))))
+    let start = c .before .before .before .before .before .before .before .before .before .before .before .before .before in
+    (start .pre .0, rw (part-all, length-drop) (omega (arith, some-room (c .before))))
 
 returns-2 : tie.Need-returns-2
 returns-2 c =

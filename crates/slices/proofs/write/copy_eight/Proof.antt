@@ -10,7 +10,8 @@ use Rattle.slices.proofs.write.copy_eight.Tie as tie
 returns : tie.Need-returns
 returns c =
     let a = c .before .before .before .before .before .before .before .before .args in
-    stored-eight (a .out .now) (a .place) _ _ _ _ _ _ _ _ (omega arith) ∙ ap (lay (a .out .now) (a .place)) (sym (part-eight (a .from .now) (a .place) (omega arith)))
+    stored-eight (a .out .now) (a .place) _ _ _ _ _ _ _ _ (omega arith)
+    ∙ ap (lay (a .out .now) (a .place)) (sym (part-eight (a .from .now) (a .place) (omega arith)))
 
 pub copy-eight-spec : {M : Type 1} → statement M
 copy-eight-spec =
