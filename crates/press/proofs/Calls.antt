@@ -1,5 +1,5 @@
 -- What holds of every answer and memory that meet the contracts of `press` and of the conversions, by the numbers of the enum. Assumes nothing.
-use Prim.Native.Nat.{ℕ, _<_}
+use Prim.Native.Nat.{ℕ, _+_, _≤_, _<_, min}
 use mathlib.Core.List.{List, [], _∷_}
 use mathlib.Core.Logic.{_↔_}
 use mathlib.Core.Path.{_≡_, refl, sym, ap, ap₂, _∙_, subst, subst₂}
@@ -9,18 +9,19 @@ use lib.Seq.{take-append-seam, drop-append-seam}
 use Rattle.xm.specs.ModuleKind.{ModuleKind}
 use Rattle.xm.specs.Got.{Refusal, refused, _at_}
 use Rattle.xm.specs.Answer.{Answer, gives, refuses, inFront, after, numbers}
-use Rattle.xm.specs.Module.{Content, moduleFormat, readFile}
+use Rattle.xm.specs.Module.{Content, moduleFormat, fileMost, readFile}
 use Rattle.xm.specs.Press.{pressed, pressing, pressedLength, pressNumbers, pressingAs}
 use Rattle.xm.specs.Convert.{converted, converting, convertNumbers}
-use Rattle.xm.specs.Demands.{FileOf, accepts, resultIn, pressedInto, ConvertedShortest}
+use Rattle.xm.specs.Demands.{FileOf, accepts, resultIn, pressedInto, ConvertedShortest, addedMost}
 use Rattle.xm.proofs.Module.{module-back, module-keeps}
 use Rattle.xm.proofs.Kind.{kinds-told}
 use Rattle.xm.proofs.Press.{press-gives}
 use Rattle.xm.proofs.Convert.{kept-else, own-refusal-first}
+use Rattle.xm.proofs.Growth.{converts-within}
 use Rattle.xm.proofs.Answer.{refused-exactly, refused-unchanged}
 use Rattle.xm.proofs.Demands.{demand₃, presses-whole, module-bytes}
 use Rattle.press.specs.Pressed.{pressedOf, pressedNumbers}
-use Rattle.press.specs.Promise.{Presses, Converts, Written, WrittenAs}
+use Rattle.press.specs.Promise.{Presses, Converts, PressesAgain, Written, WrittenAs}
 use Rattle.press.specs.declared.Pressed.{Pressed}
 
 paper-numbers : (x : Answer (List ℕ)) → pressedNumbers (pressedOf x) ≡ numbers (pressedLength ∷ []) x
@@ -78,6 +79,20 @@ pub convert-unchanged : (to : ModuleKind) (file lent : List ℕ) {answer : Press
     → Converts to file lent answer held → (accepts (pressedNumbers answer) → ⊥) → held ≡ lent
 convert-unchanged to file lent p = fixed-unchanged (converting to file (length lent)) lent p
 
+-- A file in its shortest form, where it was written, is pressed to itself
+again-so : (kind : ModuleKind) (x : Content) (lent : List ℕ) → FileOf (moduleFormat kind) x (pressed kind x)
+    → PressesAgain (0 ∷ 0 ∷ length (pressed kind x) ∷ []) (inFront (pressed kind x) lent)
+again-so kind x lent f room answer held h q =
+    let bytes = pressed kind x in
+    let stands : take (length bytes) (inFront bytes lent) ≡ bytes = take-append-seam bytes _ in
+    let given =
+    ap (λ (s : List ℕ). pressing s (length room)) stands ∙ kinds-told kind x bytes f .presses (length room)
+    ∙ press-gives (moduleFormat kind) (module-back kind) (module-keeps kind) f (length room) h in (
+      fixed-numbers (pressing (take (length bytes) (inFront bytes lent)) (length room)) room q ∙ ap (numbers (pressedLength ∷ [])) given,
+      ap (take (length bytes)) (q .1 ∙ ap (λ (x : Answer (List ℕ)). after (λ (b : List ℕ). b) x room) given)
+          ∙ take-append-seam bytes _ ∙ sym stands,
+    )
+
 -- Of an acceptable file of a kind
 module _ (kind : ModuleKind) (content : Content) (file : List ℕ) (f : FileOf (moduleFormat kind) content file) (lent : List ℕ) where
   abbrev bytes : List ℕ
@@ -98,14 +113,7 @@ module _ (kind : ModuleKind) (content : Content) (file : List ℕ) (f : FileOf (
         shortest = d .shortest;
         no-longer = presses-whole kind content file f .no-longer;
         beyond = drop-append-seam bytes _;
-        again = λ room h q.
-            let pressed-again = take (length bytes) (inFront bytes lent) in
-            let given = ap (λ (s : List ℕ). pressing s (length room)) stands ∙ kinds-told kind content bytes (d .written) .presses (length room)
-            ∙ press-gives (moduleFormat kind) (module-back kind) (module-keeps kind) (d .written) (length room) h in (
-              fixed-numbers (pressing pressed-again (length room)) room q ∙ ap (numbers (pressedLength ∷ [])) given,
-              ap (take (length bytes)) (q .1 ∙ ap (λ (x : Answer (List ℕ)). after (λ (b : List ℕ). b) x room) given)
-                  ∙ take-append-seam bytes _ ∙ sym stands,
-            );
+        again = again-so kind content lent (d .written);
       }
 
   module _ {answer : Pressed} {held : List ℕ} (p : Presses file lent answer held) where
@@ -141,6 +149,10 @@ module _ (kind : ModuleKind) (content : Content) (file : List ℕ) (f : FileOf (
     pub convert-too-large : (pressedNumbers answer ≡ 2 ∷ 0 ∷ 0 ∷ []) ↔ ((other : List ℕ) → FileOf (moduleFormat to) (converted content) other → ⊥)
     convert-too-large = (λ e. d .too-large-exactly .0 (large .0 e), λ none. large .1 (d .too-large-exactly .1 none))
 
+    -- in room for what it may add, or for the longest file there may be, never 14
+    pub convert-room : min (length file + addedMost to) fileMost ≤ length lent → pressedNumbers answer ≡ 14 ∷ 0 ∷ 0 ∷ [] → ⊥
+    convert-room enough e = converts-within .room-enough kind to content file (length lent) f enough (narrow .0 e)
+
     module _ (small : pressedNumbers answer ≡ 2 ∷ 0 ∷ 0 ∷ [] → ⊥) where
       -- else 14 exactly when none fits the room
       pub convert-no-room : (pressedNumbers answer ≡ 14 ∷ 0 ∷ 0 ∷ []) ↔
@@ -150,17 +162,20 @@ module _ (kind : ModuleKind) (content : Content) (file : List ℕ) (f : FileOf (
           (λ e. exactly .0 (narrow .0 e), λ none. narrow .1 (exactly .1 none))
 
       -- otherwise one was written, and none is shorter
-      pub convert-written : (pressedNumbers answer ≡ 14 ∷ 0 ∷ 0 ∷ [] → ⊥) → WrittenAs to content lent (pressedNumbers answer) held
+      pub convert-written : (pressedNumbers answer ≡ 14 ∷ 0 ∷ 0 ∷ [] → ⊥) → WrittenAs to content file lent (pressedNumbers answer) held
       convert-written wide =
           let new = pressed to (converted content) in
+          let written = d .written (λ e. small (large .1 e)) in
           let stands : take (length new) (inFront new lent) ≡ new = take-append-seam new _ in
-          fixed-given fixed lent p (WrittenAs to content lent) new (d .given-else (λ e. small (large .1 e)) (λ e. wide (narrow .1 e)))
+          fixed-given fixed lent p (WrittenAs to content file lent) new (d .given-else (λ e. small (large .1 e)) (λ e. wide (narrow .1 e)))
           (record {
             accepted = refl;
-            reads = rw stands (d .written (λ e. small (large .1 e)));
+            reads = rw stands written;
             kept = kept-else content;
             shortest = d .shortest;
+            within = converts-within .no-longer kind to content file f;
             beyond = drop-append-seam new _;
+            again = again-so to (converted content) lent written;
           })
 
 -- A file that is refused gets its own refusal from a conversion too

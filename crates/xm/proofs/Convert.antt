@@ -27,7 +27,7 @@ no-tracker-good : (kind : ModuleKind) → GoodTracker kind noTracker
 no-tracker-good normal = (refl, bytes-zeros 20)
 no-tracker-good stripped = refl
 
-header-good : (kind to : ModuleKind) (x : Header) → GoodHeader kind x → GoodHeader to (withoutTracker x)
+pub header-good : (kind to : ModuleKind) (x : Header) → GoodHeader kind x → GoodHeader to (withoutTracker x)
 header-good kind to x g = record {
   name-size = g .name-size;
   name-plain = g .name-plain;

@@ -147,7 +147,7 @@ trimmed-bytes {s = []} h = h
 trimmed-bytes {s = b ∷ s} h = before-bytes b (trimmed s) (h .below 0) (trimmed-bytes (bytes-tail h))
 
 -- in no more bytes than there are of them, zeros left out
-before-le : (byte : ℕ) (s : List ℕ) → length (before byte s) ≤ suc (length s)
+pub before-le : (byte : ℕ) (s : List ℕ) → length (before byte s) ≤ suc (length s)
 unfolding before
 before-le zero [] = omega arith
 before-le zero (b ∷ s) = omega arith

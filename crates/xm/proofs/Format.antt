@@ -2,7 +2,7 @@
 use Prim.Native.Nat.{ℕ, zero, suc, _+_, _*_, _≤_}
 use mathlib.Core.List.{List, [], _∷_, _++_, append-assoc}
 use mathlib.Core.Path.{_≡_, refl, sym, ap, ap₂, _∙_}
-use native.Mathlib.Nat.{add-assoc, add-zero, mul-zero, mul-suc, add-comm}
+use native.Mathlib.Nat.{add-assoc, add-zero, add-comm, zero-mul, mul-zero, suc-mul, mul-suc}
 use native.Mathlib.Omega.{arith}
 use lib.ListN.{length, drop, replicate, length-append, length-drop}
 use lib.Seq.{drop-append-seam, drop-drop}
@@ -30,6 +30,11 @@ joined-length k f h (x ∷ xs) =
     ∙ ap₂ _+_ (h x) (joined-length k f h xs)
     ∙ add-comm k (k * length xs)
     ∙ sym (mul-suc k (length xs))
+
+pub joined-replicate : {A B : Type 0} (f : A → List B) (x : A) (n : ℕ) → length (joined f (replicate n x)) ≡ n * length (f x)
+joined-replicate f x zero = sym (zero-mul (length (f x)))
+joined-replicate f x (suc n) =
+    length-append (f x) (joined f (replicate n x)) ∙ omega (arith, joined-replicate f x n, suc-mul n (length (f x)))
 
 pub flat-append : {A : Type 0} (xss yss : List (List A)) → flat (xss ++ yss) ≡ flat xss ++ flat yss
 flat-append xss yss = joined-append (λ xs. xs) xss yss

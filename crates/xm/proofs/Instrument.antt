@@ -83,7 +83,7 @@ write-front x =
     (samplesFormat .write (x .samples) ∷ [])
     ∙ ap (λ (l : List ℕ). front x ++ l) (append-nil (samplesFormat .write (x .samples)))
 
-heads-size : (k : ℕ) (heads : List (List ℕ)) → EachGood headFormat (replicate k leastHead) heads → length (joined (λ (h : List ℕ). h) heads) ≡ k * leastHead
+pub heads-size : (k : ℕ) (heads : List (List ℕ)) → EachGood headFormat (replicate k leastHead) heads → length (joined (λ (h : List ℕ). h) heads) ≡ k * leastHead
 heads-size zero [] g = refl
 heads-size zero (x ∷ hs) g = absurd g
 heads-size (suc k) [] g = absurd g

@@ -26,6 +26,7 @@ pub mod Refusal
 pub mod Never
 pub mod Press
 pub mod Convert
+pub mod Growth
 pub mod Region
 pub mod Table
 pub mod Structure

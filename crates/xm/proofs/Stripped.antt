@@ -85,7 +85,7 @@ module _ (x : Instrument) (g : GoodInstrument x) where
   all-fields : flat (x .name ∷ byte (x .type) ∷ word count ∷ long least ∷ x .voice ∷ []) ≡ front ++ x .voice
   all-fields = simp (append-assoc, append-nil)
 
-  fields-most : length (writeFields x) ≤ 237
+  pub fields-most : length (writeFields x) ≤ 237
   unfolding writeFields
   fields-most =
       let f = flat (x .name ∷ byte (x .type) ∷ word count ∷ long least ∷ x .voice ∷ []) in
@@ -220,7 +220,7 @@ stripped-back = record {
 long-low : (n : ℕ) → n < 256 → long n ≡ n ∷ 0 ∷ 0 ∷ 0 ∷ []
 long-low n h = cons-path (omega arith) (cons-path (omega arith) (cons-path (omega arith) (cons-path (omega arith) refl)))
 
-none-least : (heads : List (List ℕ)) → length heads ≡ 0 → smallestHead heads ≡ 0
+pub none-least : (heads : List (List ℕ)) → length heads ≡ 0 → smallestHead heads ≡ 0
 unfolding smallestHead
 none-least [] e = refl
 none-least (x ∷ xs) e = absurd (omega arith)

@@ -1,9 +1,9 @@
 -- The three demands, and the paper's further claims, as statements over these definitions. docs/PROMISES.md says where each is proved.
 -- `Demand₁`, `Demand₂`, `Demand₃`; then of packing `Fifteen` and `EmptyPatterns`; of pressing `PressesWhole` and `SameBytes`; of normal and
--- stripped modules `KindsTold`, `SmallestSizes`, `KindsRefused`; of conversion `OwnRefusalFirst`, `KeptElse`, `ConvertsBack`; of the check's tables
--- `TablesTell`; of a sample header `TwelveExactly` and `ThirteenExactly`; of accepted files `AcceptedFiles`, `AsksExactly`, `RestIgnored`,
+-- stripped modules `KindsTold`, `SmallestSizes`, `KindsRefused`; of conversion `OwnRefusalFirst`, `KeptElse`, `ConvertsBack`, `ConvertsWithin`; of
+-- the check's tables `TablesTell`; of a sample header `TwelveExactly` and `ThirteenExactly`; of accepted files `AcceptedFiles`, `AsksExactly`, `RestIgnored`,
 -- `RestartsRead`, `PlaysOrders`; of the small reader `ReadersTell`; of the loader `LoadersTell`.
-use Prim.Native.Nat.{ℕ, _+_, _*_, _/_, _%_, _^_, _≤_, _<_}
+use Prim.Native.Nat.{ℕ, _+_, _*_, _/_, _%_, _^_, _≤_, _<_, min}
 use mathlib.Core.Bool.{true, cond}
 use mathlib.Core.List.{List, [], _∷_, _++_, map}
 use mathlib.Core.Logic.{_↔_}
@@ -318,6 +318,21 @@ abbrev pub ConvertsBack : Type 0
 ConvertsBack = (content : Content) (file : List ℕ) → FileOf (moduleFormat stripped) content file
     → (room room′ : ℕ) (bytes : List ℕ) → converting normal file room ≡ gives bytes
     → length (pressed stripped content) ≤ room′ → converting stripped bytes room′ ≡ gives (pressed stripped content)
+
+-- A conversion to a normal file "may be longer than its input", by so many bytes at most: 255 of an order table of one entry, and 875 of each of
+-- 128 instruments, which has 263 for 28, and 40 for none of each of 16 sample headers. To a stripped one it adds nothing.
+abbrev pub addedMost : (to : ModuleKind) → ℕ
+addedMost normal = 112255
+addedMost stripped = 0
+
+-- So room for that, or for the longest file there may be, is enough; and there is a file that grows by just that.
+pub record ConvertsWithin : Type 0 where
+  pub no-longer : (kind to : ModuleKind) (content : Content) (file : List ℕ) → FileOf (moduleFormat kind) content file
+      → length (pressed to (converted content)) ≤ length file + addedMost to
+  pub room-enough : (kind to : ModuleKind) (content : Content) (file : List ℕ) (room : ℕ) → FileOf (moduleFormat kind) content file
+      → min (length file + addedMost to) fileMost ≤ room → converting to file room ≡ refuses (14 at 0) → ⊥
+  pub reached : (content : Content) × (file : List ℕ) × FileOf (moduleFormat stripped) content file
+      × (length (pressed normal (converted content)) ≡ length file + addedMost normal)
 
 -- The check that fills tables: the file's own refusal first, then 14 exactly when a count is above the rows lent.
 abbrev pub HasRoom : Room → Found → Type 0
