@@ -11,7 +11,7 @@ printf 'what stood here' >precious
 cp precious precious.copy
 fiddlemarsh press example.xm pressed.xm
 
-# Stripped modules of one order, one empty pattern and some instruments.
+# Stripped modules of one order, one pattern of empty cells and some instruments.
 python3 - <<'END' || exit 2
 from pathlib import Path
 
@@ -20,9 +20,10 @@ def number(value, size):
     return value.to_bytes(size, 'little')
 
 
-def stripped(instruments, count):
-    counts = b''.join(number(value, 2) for value in (1, 0, 1, 1, count, 0, 6, 125))
-    return bytes(60) + number(21, 4) + counts + bytes(1) + number(9, 4) + bytes(1) + number(64, 2) + bytes(2) + instruments
+def stripped(instruments, count, name=b'', channels=1, flags=0, cells=b''):
+    counts = b''.join(number(value, 2) for value in (1, 0, channels, 1, count, flags, 6, 125))
+    header = bytes(17) + name.ljust(43, b'\0') + number(21, 4) + counts + bytes(1)
+    return header + number(9, 4) + bytes(1) + number(64, 2) + number(len(cells), 2) + cells + instruments
 
 
 # 128 instruments of 16 samples each, whose headers have no byte: nothing grows more when it is converted
@@ -33,6 +34,8 @@ Path('unpressed.xm').write_bytes(stripped(number(300, 4) + bytes(296), 1))
 for name, length in ('longest.xm', 16777216 - 648), ('longer.xm', 16777216 - 647):
     sample = number(30, 4) + bytes(23) + number(1, 2) + number(3, 1) + number(length, 3) + bytes(length)
     Path(name).write_bytes(stripped(sample, 1))
+# The one stripped module that another's tool made and Debian has: tests/data/stripped.xm of the source package taglib
+Path('others.xm').write_bytes(stripped(b'', 0, b'title of song', 8, 1, b'\x80' * 512))
 END
 
 # Both ways
@@ -70,6 +73,18 @@ fiddlemarsh press unpressed.xm again.xm
 ok "a longer one gets shorter" says_only 'unpressed.xm: 390 bytes pressed into 94, written to again.xm'
 fiddlemarsh check again.xm
 ok "and stays stripped" says '^again.xm: accepted as a stripped module, ends at place 94 (0x5E)$'
+
+# A stripped module by another's tool, byte for byte, as its sum says
+has_sum() { echo "$2  $1" | sha256sum --check --status; }
+ok "another's stripped module is that file" has_sum others.xm 7758a23791ef9ee907656fa91d2132dca7860c36573c901ab2cc86798e5e0b36
+fiddlemarsh check others.xm
+ok "it is accepted" says '^others.xm: accepted as a stripped module, ends at place 602 (0x25A)$'
+fiddlemarsh press others.xm others_pressed.xm
+ok "its silent pattern is pressed" says_only 'others.xm: 602 bytes pressed into 90, written to others_pressed.xm'
+fiddlemarsh convert --to normal others.xm again.xm
+ok "it becomes a normal module" says_only 'others.xm: 602 bytes converted to a normal module of 345, written to again.xm'
+fiddlemarsh convert --to stripped again.xm itself.xm
+ok "and back again it is what was pressed" is_same itself.xm others_pressed.xm
 
 # What is of that kind already is pressed: a normal module keeps its tracker name
 fiddlemarsh convert --to normal example.xm again.xm
