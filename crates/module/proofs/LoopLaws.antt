@@ -1,13 +1,14 @@
 -- The loops over patterns and instruments. Assumes nothing.
 use Prim.Native.Nat.{ℕ, suc, _+_, _-_, _≤_, _<_}
+use mathlib.Core.Bool.{true}
 use mathlib.Core.List.{List}
 use mathlib.Core.Path.{_≡_, sym, ap, _∙_}
 use native.Mathlib.Numerals.{add-one}
 use native.Mathlib.Omega.{arith}
-use lib.ListN.{length, take, drop, replicate, length-drop}
+use lib.ListN.{length, take, drop, replicate}
 use borrow.Rule.Slice.PartMut.{putMid}
 use Rattle.xm.specs.ModuleKind.{ModuleKind}
-use Rattle.xm.specs.Got.{Got, got, Told}
+use Rattle.xm.specs.Got.{Got, got, accepted, Told}
 use Rattle.xm.specs.Number.{wordAt, longAt}
 use Rattle.xm.specs.Format.{Format, each}
 use Rattle.xm.specs.Answer.{inFront}
@@ -17,11 +18,8 @@ use Rattle.xm.specs.Instrument.{Instrument, InstrumentFound, readInstrument, in
 use Rattle.mark.specs.Mark.{Marked, patternMark, Marks}
 use Rattle.steps.specs.Step.{instrumentStep, InstrumentIs}
 use Rattle.steps.specs.declared.instrument.InstrumentPart.{InstrumentPart}
-use Rattle.steps.specs.declared.instrument.InstrumentStep.{InstrumentStep}
-use Rattle.steps.specs.declared.instrument.InstrumentStep.the-variants.{Read, Refused}
-use Rattle.refusal.specs.declared.Refusal.{Refusal}
-use Rattle.xm.proofs.Got.{no-true, passed, told-got, got-told}
-use Rattle.steps.proofs.InstrumentLaws.{fields-pass}
+use Rattle.steps.specs.declared.instrument.InstrumentStep.the-variants.{Read}
+use Rattle.xm.proofs.Got.{told-got, got-told}
 use Rattle.writers.specs.Found.{readAt, pressedAt, endOf, instrumentAs}
 use Rattle.module.specs.Module.{instrumentsRead, instrumentsAs}
 use Rattle.module.proofs.EachLaws.{EachLeft, FirstLeft, each-none, each-first, each-room, each-more, each-done, each-end}
@@ -93,15 +91,6 @@ module _ (file lent : List ℕ) (at channels count : ℕ) (marks : List ℕ) whe
           }
 
 -- What the step says of an instrument that was read
-instrument-there : (file : List ℕ) (kind : ModuleKind) (place : ℕ) {i : InstrumentFound} {n : ℕ}
-    → readAt (instrumentFormat kind) tt file place ≡ got i n → place ≤ length file
-unfolding readInstrument
-instrument-there file kind place e = passed _ _ e λ h e. omega (arith, fields-pass kind place (drop place file) h .some, length-drop place file)
-
-never-refused : {R : Type 0} (place : ℕ) (g : Got InstrumentFound) {step : InstrumentStep} {f : Refusal} {i : InstrumentFound} {n : ℕ}
-    → step ≡ instrumentStep place g → step ≡ Refused f → g ≡ got i n → R
-never-refused place g e told q = absurd (no-true (cc))
-
 next-of : (place : ℕ) (g : Got InstrumentFound) {piece : InstrumentPart} {i : InstrumentFound} {n : ℕ}
     → Read piece ≡ instrumentStep place g → g ≡ got i n → piece .next ≡ place + n
 next-of place g e q = ap InstrumentPart.next (same (e ∙ ap (instrumentStep place) q))
@@ -138,15 +127,11 @@ module _ (file lent : List ℕ) (to : ModuleKind) (at count : ℕ) where
       abbrev first : FirstLeft own other tt file lent instruments last left place (w .rest) (w .writes .used)
       first = each-first own other tt file lent instruments last (w .writes) some
 
-      pub instrument-inside : place ≤ length file
-      instrument-inside = instrument-there file (kindAt file) place (first .read)
+      pub instrument-accepted : accepted (readInstrument (kindAt file) place (drop place file)) ≡ true
+      instrument-accepted = ap accepted (first .read)
 
       pub instrument-room : written + length (instrumentAs to file place) ≤ length out
       instrument-room = each-room own other tt file lent instruments last (w .writes) some
-
-      pub instrument-never : {R : Type 0} {step : InstrumentStep} {f : Refusal}
-          → step ≡ instrumentStep place (readInstrument (kindAt file) place (drop place file)) → step ≡ Refused f → R
-      instrument-never e told = never-refused place _ e told (first .read)
 
       pub instruments-more : {piece : InstrumentPart} {size : ℕ} {part : List ℕ} → InstrumentIs file place piece → size ≡ length (instrumentAs to file place)
           → part ≡ inFront (instrumentAs to file place) (take (length out - written) (drop written out))

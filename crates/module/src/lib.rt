@@ -1,11 +1,10 @@
 // The whole of a file that is written: the header, then each pattern and each instrument into what remains of the output.
 use instruments::write_instrument;
 use mark::mark_at;
+use rows::place::part_at;
 use slices::read::long;
 use slices::read::word;
 use steps::header::header_part;
-use steps::instrument::InstrumentStep;
-use steps::instrument::read_instrument;
 use steps::kind::is_stripped;
 use steps::kind::least_header;
 use writers::header::write_header;
@@ -73,10 +72,7 @@ fn write_instruments(file: &[u8], at: usize, count: usize, to: bool, out: &mut [
     let mut written: usize = 0;
     let mut left = count;
     while 0 < left {
-        let step = read_instrument(file, place);
-        let InstrumentStep::Read(part) = step else {
-            return;
-        };
+        let part = part_at(file, place);
         written += write_instrument(file, place, part, to, &mut out[written..]);
         place = part.next;
         left -= 1;

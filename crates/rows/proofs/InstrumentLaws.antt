@@ -1,5 +1,6 @@
 -- What an accepted instrument says of the bytes at its place: its samples' rows, and where the next structure starts. Assumes nothing.
 use Prim.Native.Nat.{ℕ, zero, suc, _+_, _-_, _*_, _≤_, _<_}
+use mathlib.Core.Bool.{true}
 use mathlib.Core.List.{List, _∷_, map}
 use mathlib.Core.Path.{_≡_, refl, sym, ap, _∙_}
 use native.Mathlib.Nat.{zero-mul}
@@ -8,7 +9,7 @@ use lib.ListN.{length, drop, replicate, length-drop, length-replicate}
 use lib.Seq.{drop-drop}
 use Rattle.xm.specs.Number.{Bytes}
 use Rattle.xm.specs.ModuleKind.{ModuleKind}
-use Rattle.xm.specs.Got.{got, AllHold}
+use Rattle.xm.specs.Got.{got, AllHold, accepted}
 use Rattle.xm.specs.Format.{each}
 use Rattle.xm.specs.Header.{kindAt}
 use Rattle.xm.specs.Sample.{headBytes, dataSize, StretchFound, readHead, readData, headFormat, dataFormat, SamplesFound}
@@ -16,15 +17,15 @@ use Rattle.xm.specs.Instrument.{instrumentSizeAt, countAt, sampleHeadSizeAt, fi
 use Rattle.xm.specs.Module.{fileMost}
 use Rattle.xm.specs.Table.{sampleCount, sampleRowAt, sampleRow, sampleRowsOf, sampleRowsIn}
 use Rattle.xm.proofs.Number.{bytes-drop}
-use Rattle.xm.proofs.Got.{passed, bind-got, got-value, got-used, got-carry}
+use Rattle.xm.proofs.Got.{accepted-got, passed, bind-got, got-value, got-used, got-carry}
 use Rattle.xm.proofs.Format.{cons-path, read-length}
 use Rattle.xm.proofs.Instrument.{heads-used}
 use Rattle.xm.proofs.Stripped.{instrument-keeps}
 use Rattle.xm.proofs.Structure.{some-size}
 use Rattle.rows.specs.Accepted.{ReadsFrom}
-use Rattle.steps.specs.Step.{headSizeOf, instrumentHead}
+use Rattle.steps.specs.Step.{headSizeOf, instrumentHead, InstrumentIs}
 use Rattle.steps.specs.declared.instrument.InstrumentHead.{InstrumentHead}
-use Rattle.steps.proofs.InstrumentLaws.{fields-pass, found}
+use Rattle.steps.proofs.InstrumentLaws.{fields-pass, found, instrument-part}
 use Rattle.rows.specs.Place.{dataBefore, dataStart, dataEnd, InstrumentHeadStands, rowsFrom}
 use Rattle.rows.proofs.Reading.{reads-next}
 
@@ -178,6 +179,22 @@ module _ (file : List ℕ) (place : ℕ) where
         behind = omega (arith, some);
         inside = omega (arith, used);
       }))
+
+-- An instrument that its step accepts: it stands so, and what the step gives is read off its fields
+module _ (file : List ℕ) (place : ℕ) (small : length file ≤ fileMost) (bytes : Bytes file)
+    (h : accepted (readInstrument (kindAt file) place (drop place file)) ≡ true) where
+  pub accepted-tests : AllHold (instrumentTests (kindAt file) place (drop place file))
+  accepted-tests = accepted-got _ h λ i n e. instrument-stands file place small bytes i n e .tests
+
+  module _ {head : InstrumentHead} (eh : head ≡ instrumentAt file place) where
+    pub accepted-stands : InstrumentHeadStands file head
+    accepted-stands = rw eh (accepted-got _ h λ i n e. instrument-stands file place small bytes i n e .stands)
+
+    pub accepted-part : {next size : ℕ} → next ≡ dataEnd file head → size ≡ head .heads - place
+        → InstrumentIs file place (record { size = size; samples = head .samples; «head_size» = head .«head_size»; next = next })
+    accepted-part l z = accepted-got _ h λ i n e.
+        let w = instrument-stands file place small bytes i n e in
+        instrument-part file (kindAt file) place eh e (l ∙ ap (dataEnd file) eh ∙ sym (w .next)) (omega (arith, ap InstrumentHead.heads eh))
 
 -- The first of the instruments that are left
 pub instruments-next : {R : Type 0} (file : List ℕ) → length file ≤ fileMost → Bytes file → {count place end : ℕ} {parts : List InstrumentFound}

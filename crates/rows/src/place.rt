@@ -3,11 +3,18 @@ use heads::data_size;
 use heads::sample_head;
 use steps::header::header_part;
 use steps::instrument::InstrumentHead;
+use steps::instrument::InstrumentPart;
+use steps::instrument::instrument_head;
 use steps::pattern::pattern_head;
 ghost use mathlib.Core.Bool.{true};
 ghost use mathlib.Core.Path.{_≡_};
+ghost use Prim.Native.Nat.{_≤_};
+ghost use lib.ListN.{length, drop};
 ghost use Rattle.xm.specs.Got.{accepted};
-ghost use Rattle.xm.specs.Module.{readFile};
+ghost use Rattle.xm.specs.Header.{kindAt};
+ghost use Rattle.xm.specs.Instrument.{readInstrument};
+ghost use Rattle.xm.specs.Module.{fileMost, readFile};
+ghost use Rattle.steps.specs.Step.{InstrumentIs};
 ghost use Rattle.rows.specs.Accepted.{InstrumentsFrom};
 ghost use Rattle.rows.specs.Place.{dataEnd, InstrumentHeadStands};
 
@@ -43,4 +50,20 @@ pub fn data_end(file: &[u8], instrument: InstrumentHead) -> usize
         left -= 1;
     }
     place
+}
+
+// What the instrument step gives of the instrument at a place, which it accepts.
+pub fn part_at(file: &[u8], place: usize) -> InstrumentPart
+    requires { ⌜ length (now file) ≤ fileMost ⌝ }
+    requires { ⌜ accepted (readInstrument (kindAt (now file)) place (drop place (now file))) ≡ true ⌝ }
+    ensures { λ r. ⌜ InstrumentIs (now (file .entry)) place r ⌝ }
+{
+    let head = instrument_head(file, place);
+    let next = data_end(file, head);
+    InstrumentPart {
+        size: head.heads - place,
+        samples: head.samples,
+        head_size: head.head_size,
+        next: next,
+    }
 }

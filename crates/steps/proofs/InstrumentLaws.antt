@@ -13,7 +13,7 @@ use Rattle.xm.specs.Format.{each}
 use Rattle.xm.specs.Sample.{StretchFound, headFormat, dataFormat, SamplesFound, samplesFormat, sizeOfFirst}
 use Rattle.xm.specs.Instrument.{samplesMost, instrumentSizeAt, countAt, sampleHeadSizeAt, fieldsOf, instrumentTests, InstrumentFound, voiceOf, readInstrument}
 use Rattle.xm.proofs.Number.{bytes-drop}
-use Rattle.xm.proofs.Got.{no-true, pass, step, step-refused, passed, bind-got, got-carry}
+use Rattle.xm.proofs.Got.{no-true, pass, step, step-refused, passed, bind-got, got-carry, got-used}
 use Rattle.xm.proofs.Cut.{word-padded, long-padded}
 use Rattle.xm.proofs.Stripped.{instrument-keeps}
 use Rattle.slices.specs.Number.{Word, Long}
@@ -182,6 +182,17 @@ module _ (file : List ℕ) (kind : ModuleKind) (place : ℕ) where
         let wide = ap InstrumentHead.«head_size» eh in
         let on : next ≡ place + (instrumentSizeAt from + n) = omega (arith, fields-of .heads) in
         cc (instrument-in q, s .counted, wide ∙ size-first (countAt fields) fields (v .0) (s .counted ∙ many) (λ one. s .first (omega arith) ∙ wide))
+
+  -- of an instrument that was read, with no step at hand
+  pub instrument-part : {head : InstrumentHead} {next size : ℕ} {i : InstrumentFound} {n : ℕ} → head ≡ instrumentHead kind place from
+      → readInstrument kind place from ≡ got i n → next ≡ place + n → size ≡ instrumentSizeAt from
+      → Read (record { size = size; samples = head .samples; «head_size» = head .«head_size»; next = next })
+      ≡ instrumentStep place (readInstrument kind place from)
+  unfolding readInstrument
+  instrument-part {head} {next} eh e l z =
+      passed _ _ e λ h e₁. bind-got _ _ e₁ λ v m ev e₂.
+      let on : next ≡ head .heads + m = omega (arith, l, got-used e₂, fields-of h eh .heads) in
+      instrument-read h eh (ap Next on ∙ sym (ap (placeStep (head .heads)) (sym (same-samples h eh) ∙ ev))) z
 
   -- An instrument that was read, by the part that its step gave
   pub record AsRead (piece : InstrumentPart) : Type 0 where
