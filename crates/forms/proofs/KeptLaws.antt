@@ -2,7 +2,7 @@
 use Prim.Native.Nat.{ℕ, zero, suc, _+_, _-_, _*_, _≤_, _<_, max}
 use mathlib.Core.List.{List, [], _∷_, _++_}
 use mathlib.Core.Path.{_≡_, refl, sym, ap, _∙_}
-use native.Mathlib.Nat.{add-mul, one-mul}
+use native.Mathlib.Nat.{add-zero, add-mul, one-mul}
 use native.Mathlib.Omega.{arith}
 use lib.ListN.{length, getD, take, drop, length-take, length-drop, drop-of-length-le}
 use lib.Seq.{take-suc, take-take, take-nil, drop-drop, getD-drop}
@@ -11,6 +11,7 @@ use Rattle.xm.specs.ModuleKind.{padded, before, trimmed}
 use Rattle.xm.specs.Sample.{leastHead, headBytes, smallestHead}
 use Rattle.xm.proofs.Format.{cons-path}
 use Rattle.xm.proofs.Cut.{padded-drop, take-padded, drop-take, trimmed-le, trimmed-zero, trimmed-some}
+use Rattle.ahead.specs.Ahead.{eightAt}
 use Rattle.heads.specs.Sample.{headsFrom}
 
 -- One byte after the other, from the end: a part, and the byte behind it
@@ -52,6 +53,33 @@ module _ {file : List ℕ} {place count left : ℕ} (w : KeptLeft file place cou
         let all : trimmed (part place left file) ≡ part place left file =
         ap trimmed split ∙ trimmed-some (part place (left - 1) file) (getD file (place + (left - 1)) 0) (omega arith) ∙ sym split in
         sym (ap length all ∙ long) ∙ w .same
+
+-- so many zeros; and eight bytes that are one number, 0
+pub zeros-kept : {file : List ℕ} {place count left : ℕ} → KeptLeft file place count left → (n : ℕ) → n ≤ left
+    → ((i : ℕ) → i < n → getD file (place + (left - n) + i) 0 ≡ 0) → KeptLeft file place count (left - n)
+zeros-kept {left = left} w zero h z = let n : left ≡ left - 0 = omega arith in rw n at w
+zeros-kept {file} {place} {count} {left} w (suc n) h z =
+    let later = zeros-kept w n (omega arith) (λ i l.
+    let p : place + (left - n) + i ≡ place + (left - suc n) + (i + 1) = omega arith in
+    ap (λ (k : ℕ). getD file k 0) p ∙ z (i + 1) (omega arith)) in
+    let p : place + (left - n - 1) ≡ place + (left - suc n) + 0 = omega arith in
+    let k : left - n - 1 ≡ left - suc n = omega arith in
+    rw k at (kept-zero later (omega arith) (ap (λ (k : ℕ). getD file k 0) p ∙ z 0 (omega arith)))
+
+eight-zeros : (file : List ℕ) (place : ℕ) → eightAt file place ≡ 0 → (i : ℕ) → i < 8 → getD file (place + i) 0 ≡ 0
+eight-zeros file place e zero h = ap (λ (k : ℕ). getD file k 0) (add-zero place) ∙ omega arith
+eight-zeros file place e (suc zero) h = omega arith
+eight-zeros file place e (suc (suc zero)) h = omega arith
+eight-zeros file place e (suc (suc (suc zero))) h = omega arith
+eight-zeros file place e (suc (suc (suc (suc zero)))) h = omega arith
+eight-zeros file place e (suc (suc (suc (suc (suc zero))))) h = omega arith
+eight-zeros file place e (suc (suc (suc (suc (suc (suc zero)))))) h = omega arith
+eight-zeros file place e (suc (suc (suc (suc (suc (suc (suc zero))))))) h = omega arith
+eight-zeros file place e (suc (suc (suc (suc (suc (suc (suc (suc i)))))))) h = absurd (omega arith)
+
+pub eight-kept : {file : List ℕ} {place count left : ℕ} → KeptLeft file place count left → 8 ≤ left → eightAt file (place + (left - 8)) ≡ 0
+    → KeptLeft file place count (left - 8)
+eight-kept {file} {place} {left = left} w h e = zeros-kept w 8 h (eight-zeros file (place + (left - 8)) e)
 
 -- Of a structure that is cut off
 take-least : (m n : ℕ) (s : List ℕ) → n ≤ m → take m (take n s) ≡ take n s

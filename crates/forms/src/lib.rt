@@ -1,5 +1,6 @@
 // The form in which an instrument is written: I, H and how many bytes it takes. In a stripped module they are the smallest that read the same:
 // from the end of the fields back to the last byte that is not 0.
+use ahead::eight_at;
 use steps::instrument::InstrumentPart;
 ghost use mathlib.Core.Path.{_≡_};
 ghost use Prim.Native.Nat.{_+_, _-_, _*_, _≤_};
@@ -21,12 +22,29 @@ pub struct Form {
     pub length: usize,
 }
 
-// How many of `count` bytes are left without the zeros at their end.
+// How many of `count` bytes are left without whole eights of zeros at their end.
+fn kept_by_eights(file: &[u8], place: usize, count: usize) -> usize
+    requires { ⌜ place + count ≤ length (now file) ⌝ }
+    ensures { λ r. ⌜ r ≤ count ⌝ }
+    ensures { λ r. ⌜ length (trimmed (part place r (now (file .entry)))) ≡ length (trimmed (part place count (now (file .entry)))) ⌝ }
+{
+    let mut left = count;
+    while 8 <= left {
+        let last = left - 8;
+        if eight_at(file, place + last) != 0 {
+            return left;
+        }
+        left = last;
+    }
+    left
+}
+
+// How many of them are left without any.
 fn kept(file: &[u8], place: usize, count: usize) -> usize
     requires { ⌜ place + count ≤ length (now file) ⌝ }
     ensures { λ r. ⌜ r ≡ length (trimmed (part place count (now (file .entry)))) ⌝ }
 {
-    let mut left = count;
+    let mut left = kept_by_eights(file, place, count);
     while 0 < left {
         let last = left - 1;
         if file[place + last] != 0 {

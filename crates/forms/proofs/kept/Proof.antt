@@ -1,7 +1,7 @@
 -- `forms::kept` meets its contract. The loop's invariant: without the zeros behind, as many are left of those before as of all. Assumes nothing.
-use mathlib.Core.Path.{refl}
 use native.Mathlib.Omega.{arith}
 use Rattle.forms.proofs.KeptLaws.{KeptLeft, kept-none, kept-zero, kept-some}
+use borrow.Author.Needs.{needs}
 use Rattle.forms.proofs.kept.Statement.{statement}
 use Rattle.forms.proofs.kept.Tie as tie
 
@@ -17,7 +17,8 @@ kept-spec =
     (tie.spec
     Inv-loop
     μ-loop
-    (λ c. record { inside = c .pre; same = refl })
+    (search needs)
+    (λ c. record { inside = omega (arith, c .kept-by-eights .ensures .0); same = c .kept-by-eights .ensures .1 })
     (omega arith)
     (λ c. omega (arith, c .before .loop .inv .inside))
     (λ c. omega (arith, c .before .before .loop .inv .inside))
