@@ -68,11 +68,12 @@ fn write_instruments(file: &[u8], at: usize, count: usize, to: bool, out: &mut [
     requires { ⌜ length (instrumentsAs (kindBy to) (now file) at count) ≤ length (now out) ⌝ }
     ensures { λ _. ⌜ now (out .exit) ≡ inFront (instrumentsAs (kindBy to) (now (file .entry)) at count) (now (out .entry)) ⌝ }
 {
+    let stripped = is_stripped(file);
     let mut place = at;
     let mut written: usize = 0;
     let mut left = count;
     while 0 < left {
-        let part = part_at(file, place);
+        let part = part_at(file, place, stripped);
         written += write_instrument(file, place, part, to, &mut out[written..]);
         place = part.next;
         left -= 1;

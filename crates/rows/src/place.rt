@@ -11,7 +11,7 @@ ghost use mathlib.Core.Path.{_≡_};
 ghost use Prim.Native.Nat.{_≤_};
 ghost use lib.ListN.{length, drop};
 ghost use Rattle.xm.specs.Got.{accepted};
-ghost use Rattle.xm.specs.Header.{kindAt};
+ghost use Rattle.xm.specs.Header.{isStripped, kindAt};
 ghost use Rattle.xm.specs.Instrument.{readInstrument};
 ghost use Rattle.xm.specs.Module.{fileMost, readFile};
 ghost use Rattle.steps.specs.Step.{InstrumentIs};
@@ -52,13 +52,14 @@ pub fn data_end(file: &[u8], instrument: InstrumentHead) -> usize
     place
 }
 
-// What the instrument step gives of the instrument at a place, which it accepts.
-pub fn part_at(file: &[u8], place: usize) -> InstrumentPart
+// What the instrument step gives of the instrument at a place, which it accepts, in a file of this kind.
+pub fn part_at(file: &[u8], place: usize, stripped: bool) -> InstrumentPart
+    requires { ⌜ stripped ≡ isStripped (now file) ⌝ }
     requires { ⌜ length (now file) ≤ fileMost ⌝ }
     requires { ⌜ accepted (readInstrument (kindAt (now file)) place (drop place (now file))) ≡ true ⌝ }
     ensures { λ r. ⌜ InstrumentIs (now (file .entry)) place r ⌝ }
 {
-    let head = instrument_head(file, place);
+    let head = instrument_head(file, place, stripped);
     let next = data_end(file, head);
     InstrumentPart {
         size: head.heads - place,

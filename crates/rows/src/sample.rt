@@ -5,6 +5,7 @@ use heads::data_size;
 use heads::loops;
 use heads::sample_head;
 use steps::instrument::instrument_head;
+use steps::kind::is_stripped;
 ghost use mathlib.Core.Path.{_≡_};
 ghost use Prim.Native.Nat.{_+_, _*_, _<_, _≤_, _^_};
 ghost use mathlib.Core.Bool.{cond};
@@ -132,7 +133,7 @@ pub fn row_step(file: &[u8], from: Sought) -> RowStep
     let mut size = from.head_size;
     let mut place = from.data_place;
     while left == 0 {
-        let instrument = instrument_head(file, place);
+        let instrument = instrument_head(file, place, is_stripped(file));
         left = instrument.samples;
         head = instrument.heads;
         size = instrument.head_size;

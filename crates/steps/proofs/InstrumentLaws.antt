@@ -22,8 +22,10 @@ use Rattle.refusal.specs.declared.Refusal.{Refusal}
 use Rattle.refusal.specs.declared.Step.the-variants.{Next}
 use Rattle.refusal.proofs.Steps.{next-got}
 use Rattle.refusal.specs.Test.{firstRefusal}
-use Rattle.steps.specs.Step.{headSizeOf, instrumentHead, instrumentStep, instrumentRefusal}
+use Rattle.steps.specs.Step.{headSizeOf, instrumentHead, headOr, headStep, headNumber, instrumentStep, instrumentRefusal}
 use Rattle.steps.specs.declared.instrument.InstrumentHead.{InstrumentHead}
+use Rattle.steps.specs.declared.instrument.HeadStep.{HeadStep}
+use Rattle.steps.specs.declared.instrument.HeadStep.the-variants as head
 use Rattle.steps.specs.declared.instrument.InstrumentPart.{InstrumentPart}
 use Rattle.steps.specs.declared.instrument.InstrumentStep.{InstrumentStep}
 use Rattle.steps.specs.declared.instrument.InstrumentStep.the-variants.{Read, Refused}
@@ -43,6 +45,9 @@ never-read e = absurd (no-true (cc))
 
 same-part : {a b : InstrumentPart} → Read a ≡ Read b → a ≡ b
 same-part e = cc
+
+same-head : {a b : InstrumentHead} → head.Read a ≡ head.Read b → a ≡ b
+same-head e = cc
 
 -- Without samples no H counts
 times : (n k size H : ℕ) → n ≡ k → (1 ≤ n → size ≡ H) → n * size ≡ k * H
@@ -81,6 +86,15 @@ size-first (suc k) s heads c f = sym (f (omega arith))
 refuse-at : (kind : ModuleKind) (place : ℕ) (s : List ℕ) → RefuseAt place (instrumentTests kind place s)
 refuse-at normal place s = omega arith
 refuse-at stripped place s = omega arith
+
+-- The number of the first that fails, or the fields where none does
+pub head-refused : (kind : ModuleKind) (place : ℕ) (s : List ℕ) (n : ℕ) → firstRefusal (instrumentTests kind place s) ≡ suc n
+    → head.Refused (suc n) ≡ headStep kind place s
+head-refused kind place s n e = sym (ap (λ (k : ℕ). headOr k (instrumentHead kind place s)) e)
+
+pub head-passed : (kind : ModuleKind) (place : ℕ) (s : List ℕ) {x : InstrumentHead} → firstRefusal (instrumentTests kind place s) ≡ 0
+    → x ≡ instrumentHead kind place s → head.Read x ≡ headStep kind place s
+head-passed kind place s e p = ap head.Read p ∙ sym (ap (λ (k : ℕ). headOr k (instrumentHead kind place s)) e)
 
 -- What they say, of either kind: I bytes are there, k is small, and all k headers are there
 pub record FieldsPass (kind : ModuleKind) (s : List ℕ) : Type 0 where
@@ -136,6 +150,24 @@ module _ (file : List ℕ) (kind : ModuleKind) (place : ℕ) where
 
     pub instrument-holds : refusal ≡ 0 → AllHold (instrumentTests kind place from)
     instrument-holds = refusal-holds place (instrumentTests kind place from) (refuse-at kind place from) e
+
+  -- by the step in front: its number, or its fields
+  module _ {first : HeadStep} (e : first ≡ headStep kind place from) where
+    pub head-fails : {n number : ℕ} → first ≡ head.Refused n → number ≡ headNumber first → readInstrument kind place from ≡ refused (number at place)
+    head-fails {n} {number} told is = go (firstRefusal (instrumentTests kind place from)) refl (sym e ∙ told) (is ∙ ap headNumber e)
+      where
+        go : (k : ℕ) → firstRefusal (instrumentTests kind place from) ≡ k → headOr k (instrumentHead kind place from) ≡ head.Refused n
+            → number ≡ headNumber (headOr k (instrumentHead kind place from)) → readInstrument kind place from ≡ refused (number at place)
+        go zero q told is = absurd (no-true (cc))
+        go (suc k) q told is = instrument-fails (is ∙ sym q) (λ z. omega arith)
+
+    pub head-holds : {x : InstrumentHead} → first ≡ head.Read x → AllHold (instrumentTests kind place from) × (x ≡ instrumentHead kind place from)
+    head-holds {x} told = go (firstRefusal (instrumentTests kind place from)) refl (sym told ∙ e)
+      where
+        go : (k : ℕ) → firstRefusal (instrumentTests kind place from) ≡ k → head.Read x ≡ headOr k (instrumentHead kind place from)
+            → AllHold (instrumentTests kind place from) × (x ≡ instrumentHead kind place from)
+        go zero q is = (instrument-holds refl q, same-head is)
+        go (suc k) q is = absurd (no-true (cc))
 
   module _ (h : AllHold (instrumentTests kind place from)) {head : InstrumentHead} (eh : head ≡ instrumentHead kind place from) where
     -- What its fields tell, one by one

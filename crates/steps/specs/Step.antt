@@ -11,10 +11,11 @@ use Rattle.xm.specs.Stored.{writeStored}
 use Rattle.xm.specs.Header.{channelsAt, patternsAt, instrumentsAt, headerEnd, kindAt, HeaderFound}
 use Rattle.xm.specs.PatternInFile.{patternHeadSizeAt, rowsAt, dataSizeAt, PatternFound}
 use Rattle.xm.specs.Sample.{sizeOfFirst}
-use Rattle.xm.specs.Instrument.{instrumentSizeAt, countAt, sampleHeadSizeAt, fieldsOf, InstrumentFound, readInstrument}
+use Rattle.xm.specs.Instrument.{instrumentSizeAt, countAt, sampleHeadSizeAt, fieldsOf, instrumentTests, InstrumentFound, readInstrument}
 use Rattle.xm.specs.Table.{sampleCount}
 use Rattle.refusal.specs.Refusal.{codeRefusal, noRefusal}
 use Rattle.refusal.specs.declared.Refusal.{Refusal}
+use Rattle.refusal.specs.Test.{firstRefusal}
 use Rattle.measure.specs.Measure.{sameBytes}
 use Rattle.measure.specs.declared.StoredStep.{StoredStep}
 use Rattle.measure.specs.declared.StoredStep.the-variants as stored
@@ -25,6 +26,8 @@ use Rattle.steps.specs.declared.pattern.PatternHead.{PatternHead}
 use Rattle.steps.specs.declared.pattern.PatternStep.{PatternStep}
 use Rattle.steps.specs.declared.pattern.PatternStep.the-variants as pattern
 use Rattle.steps.specs.declared.instrument.InstrumentHead.{InstrumentHead}
+use Rattle.steps.specs.declared.instrument.HeadStep.{HeadStep}
+use Rattle.steps.specs.declared.instrument.HeadStep.the-variants as head
 use Rattle.steps.specs.declared.instrument.InstrumentPart.{InstrumentPart}
 use Rattle.steps.specs.declared.instrument.InstrumentStep.{InstrumentStep}
 use Rattle.steps.specs.declared.instrument.InstrumentStep.the-variants as instrument
@@ -79,6 +82,21 @@ abbrev pub instrumentHead : ModuleKind → (place : ℕ) → List ℕ → Instru
 instrumentHead kind place s =
     let fields = fieldsOf kind s in
     record { samples = countAt fields; heads = place + instrumentSizeAt s; «head_size» = headSizeOf (countAt fields) fields }
+
+abbrev pub bareHead : (end : ℕ) → InstrumentHead
+bareHead end = record { samples = 0; heads = end; «head_size» = 0 }
+
+-- The tests in front of its samples: the number of the first that fails, or its fields.
+abbrev pub headOr : (refusal : ℕ) → InstrumentHead → HeadStep
+headOr zero x = head.Read x
+headOr (suc n) x = head.Refused (suc n)
+
+abbrev pub headStep : ModuleKind → (place : ℕ) → List ℕ → HeadStep
+headStep kind place s = headOr (firstRefusal (instrumentTests kind place s)) (instrumentHead kind place s)
+
+abbrev pub headNumber : HeadStep → ℕ
+headNumber (head.Read x) = 0
+headNumber (head.Refused number) = number
 
 abbrev pub instrumentStep : (place : ℕ) → Got InstrumentFound → InstrumentStep
 instrumentStep place (got i used) = instrument.Read (record {

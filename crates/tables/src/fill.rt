@@ -6,6 +6,7 @@ use rows::sample::put_sample;
 use rows::sample::row_step;
 use steps::header::header_part;
 use steps::instrument::instrument_head;
+use steps::kind::is_stripped;
 use steps::pattern::pattern_head;
 ghost use mathlib.Core.Bool.{true};
 ghost use mathlib.Core.Path.{_≡_};
@@ -66,12 +67,13 @@ pub fn fill_instruments(file: &[u8], table: &mut [u32])
     ensures { λ _. ⌜ now (table .exit) ≡ inFront (joined instrumentNumbers (listIn instrumentRows (readFile (now (file .entry))))) (now (table .entry)) ⌝ }
 {
     let counts = header_part(file);
+    let stripped = is_stripped(file);
     let mut place = first_instrument(file);
     let mut left = counts.instruments;
     let mut first: usize = 0;
     let mut to: usize = 0;
     while 0 < left {
-        let instrument = instrument_head(file, place);
+        let instrument = instrument_head(file, place, stripped);
         let samples = instrument.samples;
         put_three(table, to, place as u32, samples as u32, first as u32);
         place = data_end(file, instrument);

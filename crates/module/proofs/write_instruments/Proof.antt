@@ -4,20 +4,23 @@ use lib.ListN.{length-drop}
 use Rattle.xm.specs.ModuleKind.{kindBy}
 use Rattle.xm.proofs.Lay.{part-all}
 use Rattle.module.proofs.LoopLaws.{InstrumentsLeft, instruments-none, instrument-accepted, instrument-room, instruments-more, instruments-done}
+use borrow.Author.Needs.{needs}
 use Rattle.module.proofs.write_instruments.Statement.{statement}
 use Rattle.module.proofs.write_instruments.Tie as tie
 
 abbrev Inv-loop : tie.InvT-loop
-Inv-loop file at count to out₀ place₀ written₀ left₀ out place written left = InstrumentsLeft file out₀ (kindBy to) at count left place out written
+Inv-loop file at count to out₀ stripped place₀ written₀ left₀ out place written left = InstrumentsLeft file out₀ (kindBy to) at count left place out written
 
 abbrev μ-loop : tie.MeasureT-loop
-μ-loop file at count to out₀ place₀ written₀ left₀ out place written left = left
+μ-loop file at count to out₀ stripped place₀ written₀ left₀ out place written left = left
 
 loop-holds : tie.Need-loop-holds Inv-loop μ-loop
-loop-holds c = instruments-none _ _ _ _ _ (c .before .before .pre .1 .0) (c .before .before .pre .1 .1)
+loop-holds c = let p = c .before .before .before .pre in instruments-none _ _ _ _ _ (p .1 .0) (p .1 .1)
 
 part-at-requires : tie.Need-part-at-requires Inv-loop μ-loop
-part-at-requires c κs = (c .before .before .before .before .pre .0, instrument-accepted _ _ _ _ _ (c .before .loop .inv) (c .loop-test .taken))
+part-at-requires c κs =
+    let l = c .before in
+    (l .before .is-stripped .ensures, (l .before .before .before .before .pre .0, instrument-accepted _ _ _ _ _ (l .loop .inv) (c .loop-test .taken)))
 
 sub-write-instrument : tie.Need-sub-write-instrument Inv-loop μ-loop
 sub-write-instrument c = omega (arith, c .before .before .loop .inv .writes .laid .room)
@@ -32,7 +35,7 @@ write-instrument-requires : tie.Need-write-instrument-requires Inv-loop μ-loop
 write-instrument-requires c κs =
     let t = c .before .before in
     let l = t .before in
-    let s = l .before .before .before in
+    let s = l .before .before .before .before in
     let room = instrument-room _ _ _ _ _ (l .loop .inv) (t .loop-test .taken) in
     (c .before .part-at .ensures, (s .pre .0, rw (part-all, length-drop) (omega (arith, room))))
 
@@ -41,7 +44,7 @@ add-written c =
     let w = c .before .before in
     let t = w .before .before .before in
     let l = t .before in
-    let s = l .before .before .before in
+    let s = l .before .before .before .before in
     let inv = l .loop .inv in
     omega (arith, instrument-room _ _ _ _ _ inv (t .loop-test .taken), w .write-instrument .ensures .0, inv .writes .laid .kept, s .good)
 
@@ -56,7 +59,8 @@ loop-again c =
     let w = c .before .before in
     let p = w .before .before in
     let t = p .before in
-    instruments-more _ _ _ _ _ (t .before .loop .inv) (t .loop-test .taken) (p .part-at .ensures) (w .write-instrument .ensures .0) (w .write-instrument .ensures .1)
+    let written = w .write-instrument .ensures in
+    instruments-more _ _ _ _ _ (t .before .loop .inv) (t .loop-test .taken) (p .part-at .ensures) (written .0) (written .1)
 
 same-length : tie.Need-same-length Inv-loop μ-loop
 same-length c = c .before .loop .inv .writes .laid .kept
@@ -70,6 +74,7 @@ write-instruments-spec =
     (tie.spec
     Inv-loop
     μ-loop
+    (search needs)
     loop-holds
     part-at-requires
     sub-write-instrument

@@ -4,6 +4,7 @@ use Prim.Native.Nat.{_-_, _<_}
 use mathlib.Core.Path.{refl, sym, ap, _∙_}
 use native.Mathlib.Omega.{arith}
 use lib.ListN.{length}
+use Rattle.xm.specs.Number.{Bytes}
 use Rattle.rows.specs.Place.{codeRow}
 use Rattle.rows.specs.Sought.{Seeks}
 use Rattle.rows.specs.declared.sample.SampleRow.{SampleRow}
@@ -24,35 +25,35 @@ loop-holds c = c .before .pre .2
 
 instrument-head-requires : tie.Need-instrument-head-requires Inv-loop μ-loop
 instrument-head-requires c κs =
-    let s = c .before in
-    seeks-tests _ _ (s .before .before .pre .0) (record { below = λ i. omega (arith, s .before .shared-slice-known .given i) }) (s .loop .inv)
-    (c .loop-test .taken)
+    let s = c .before .before in
+    let bytes : Bytes (s .before .before .args .file .now) = record { below = λ i. omega (arith, s .before .shared-slice-known .given i) } in
+    (c .is-stripped .ensures, seeks-tests _ _ (s .before .before .pre .0) bytes (s .loop .inv) (c .before .loop-test .taken))
 
 mul-place : tie.Need-mul-place Inv-loop μ-loop
 mul-place c =
-    let s = c .before .before in
+    let s = c .before .before .before in
     let w = seeks-stands _ _ (s .before .before .pre .0) (record { below = λ i. omega (arith, s .before .shared-slice-known .given i) }) (s .loop .inv)
-    (c .before .loop-test .taken) (c .instrument-head .ensures) in
+    (c .before .before .loop-test .taken) (c .instrument-head .ensures) in
     omega (arith, w .inside, w .small)
 
 add-place : tie.Need-add-place Inv-loop μ-loop
 add-place c =
-    let s = c .before .before in
+    let s = c .before .before .before in
     let w = seeks-stands _ _ (s .before .before .pre .0) (record { below = λ i. omega (arith, s .before .shared-slice-known .given i) }) (s .loop .inv)
-    (c .before .loop-test .taken) (c .instrument-head .ensures) in
+    (c .before .before .loop-test .taken) (c .instrument-head .ensures) in
     omega (arith, w .inside, w .small)
 
 loop-less : tie.Need-loop-less Inv-loop μ-loop
 loop-less c =
-    let s = c .before .before in
+    let s = c .before .before .before in
     seeks-less _ _ (s .before .before .pre .0) (record { below = λ i. omega (arith, s .before .shared-slice-known .given i) }) (s .loop .inv)
-    (c .before .loop-test .taken) (c .instrument-head .ensures)
+    (c .before .before .loop-test .taken) (c .instrument-head .ensures)
 
 loop-again : tie.Need-loop-again Inv-loop μ-loop
 loop-again c =
-    let s = c .before .before in
+    let s = c .before .before .before in
     seeks-on _ _ (s .before .before .pre .0) (record { below = λ i. omega (arith, s .before .shared-slice-known .given i) }) (s .loop .inv)
-    (c .before .loop-test .taken) (c .instrument-head .ensures)
+    (c .before .before .loop-test .taken) (c .instrument-head .ensures)
 
 sample-row-requires : tie.Need-sample-row-requires Inv-loop μ-loop
 sample-row-requires c κs =
@@ -103,6 +104,7 @@ row-step-spec =
     Inv-loop
     μ-loop
     loop-holds
+    (search needs)
     instrument-head-requires
     mul-place
     add-place

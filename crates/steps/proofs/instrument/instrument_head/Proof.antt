@@ -1,26 +1,41 @@
 -- `steps::instrument::instrument_head` meets its contract: the fields of the file's own kind. Assumes nothing.
-use mathlib.Core.Path.{sym, ap, subst, _∙_}
+use mathlib.Core.Path.{_≡_, sym, ap, subst, _∙_}
 use lib.ListN.{drop}
-use Rattle.xm.specs.ModuleKind.{ModuleKind}
+use Rattle.xm.specs.ModuleKind.{ModuleKind, normal, stripped, kindBy}
 use Rattle.xm.specs.Got.{AllHold}
+use Rattle.xm.specs.Header.{kindAt}
 use Rattle.xm.specs.Instrument.{instrumentTests}
 use Rattle.steps.specs.Step.{instrumentHead}
 use Rattle.steps.proofs.KindLaws.{own-kind}
-use borrow.Author.Needs.{needs}
 use Rattle.steps.proofs.instrument.instrument_head.Statement.{statement}
 use Rattle.steps.proofs.instrument.instrument_head.Tie as tie
 
-head-by-requires : tie.Need-head-by-requires
-head-by-requires c κs =
+-- The kind that was told is the file's own
+is-stripped : (t : tie.Then1) → kindAt (t .before .before .args .file .now) ≡ stripped
+is-stripped t = let s = t .before .before in sym (own-kind (s .args .file .now) (s .pre .0)) ∙ ap kindBy (t .if1 .taken)
+
+is-normal : (t : tie.Else1) → kindAt (t .before .before .args .file .now) ≡ normal
+is-normal t = let s = t .before .before in sym (own-kind (s .args .file .now) (s .pre .0)) ∙ ap kindBy (t .if1 .left)
+
+stripped-head-requires : tie.Need-stripped-head-requires
+stripped-head-requires c κs =
     let s = c .before .before in
-    let own = own-kind (s .args .file .now) (c .is-stripped .ensures) in
-    subst (λ (kind : ModuleKind). AllHold (instrumentTests kind (s .args .at) (drop (s .args .at) (s .args .file .now)))) (sym own) (s .pre)
+    subst (λ (kind : ModuleKind). AllHold (instrumentTests kind (s .args .at) (drop (s .args .at) (s .args .file .now)))) (is-stripped c) (s .pre .1)
 
 returns : tie.Need-returns
 returns c =
     let a = c .before .before .before .args in
-    let own = own-kind (a .file .now) (c .before .is-stripped .ensures) in
-    c .head-by .ensures ∙ ap (λ (kind : ModuleKind). instrumentHead kind (a .at) (drop (a .at) (a .file .now))) own
+    c .stripped-head .ensures ∙ ap (λ (kind : ModuleKind). instrumentHead kind (a .at) (drop (a .at) (a .file .now))) (sym (is-stripped (c .before)))
+
+normal-head-requires : tie.Need-normal-head-requires
+normal-head-requires c κs =
+    let s = c .before .before in
+    subst (λ (kind : ModuleKind). AllHold (instrumentTests kind (s .args .at) (drop (s .args .at) (s .args .file .now)))) (is-normal c) (s .pre .1)
+
+returns-2 : tie.Need-returns-2
+returns-2 c =
+    let a = c .before .before .before .args in
+    c .normal-head .ensures ∙ ap (λ (kind : ModuleKind). instrumentHead kind (a .at) (drop (a .at) (a .file .now))) (sym (is-normal (c .before)))
 
 pub instrument-head-spec : {M : Type 1} → statement M
-instrument-head-spec = tie.close (tie.spec (search needs) head-by-requires returns)
+instrument-head-spec = tie.close (tie.spec stripped-head-requires returns normal-head-requires returns-2)

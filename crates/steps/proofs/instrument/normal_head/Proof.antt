@@ -6,6 +6,7 @@ use lib.ListN.{length, drop, length-drop}
 use Rattle.xm.specs.Instrument.{countAt}
 use Rattle.steps.specs.Step.{headSizeOf}
 use Rattle.steps.proofs.InstrumentLaws.{some-samples, size-some}
+use borrow.Author.Needs.{needs}
 use Rattle.steps.proofs.instrument.normal_head.Statement.{statement}
 use Rattle.steps.proofs.instrument.normal_head.Tie as tie
 
@@ -14,9 +15,9 @@ there t = omega (arith, t .before .pre .0, length-drop (t .before .args .at) (t 
 
 returns : tie.Need-returns
 returns c =
-    let a = c .before .before .before .before .args in
+    let a = c .before .before .before .before .before .args in
     let s = drop (a .at) (a .file .now) in
-    let none : countAt s ≡ 0 = omega arith in cc (ap (λ (k : ℕ). headSizeOf k s) none)
+    let none : countAt s ≡ 0 = omega arith in cc (ap (λ (k : ℕ). headSizeOf k s) none, c .bare-head .ensures)
 
 long-requires-2 : tie.Need-long-requires-2
 long-requires-2 c κs =
@@ -37,6 +38,7 @@ normal-head-spec =
     (λ c κs. omega (arith, there c))
     (λ c. omega (arith, there (c .before), c .long .ensures .small))
     (λ c κs. omega (arith, there (c .before)))
+    (search needs)
     returns
     long-requires-2
     returns-2)

@@ -7,6 +7,7 @@ use Rattle.xm.specs.ModuleKind.{stripped}
 use Rattle.xm.specs.Instrument.{countAt, fieldsOf}
 use Rattle.steps.specs.Step.{headSizeOf}
 use Rattle.steps.proofs.InstrumentLaws.{count-cut, size-cut, size-some}
+use borrow.Author.Needs.{needs}
 use Rattle.steps.proofs.instrument.stripped_head.Statement.{statement}
 use Rattle.steps.proofs.instrument.stripped_head.Tie as tie
 
@@ -28,11 +29,11 @@ counted t =
 
 returns : tie.Need-returns
 returns c =
-    let a = c .before .before .before .before .args in
+    let a = c .before .before .before .before .before .args in
     let fields = fieldsOf stripped (drop (a .at) (a .file .now)) in
-    let k = counted (c .before) in
+    let k = counted (c .before .before) in
     let none : countAt fields ≡ 0 = omega arith in
-    cc (ap (λ (n : ℕ). headSizeOf n fields) none, c .before .before .long .ensures .value)
+    cc (ap (λ (n : ℕ). headSizeOf n fields) none, c .before .before .before .long .ensures .value, c .bare-head .ensures)
 
 returns-2 : tie.Need-returns-2
 returns-2 c =
@@ -49,6 +50,7 @@ stripped-head-spec =
     (λ c κs. omega (arith, sized c))
     (λ c κs. omega (arith, there c))
     (λ c. omega (arith, there (c .before .before)))
+    (search needs)
     returns
     (λ c. omega (arith, there (c .before .before)))
     (λ c κs. omega (arith, there (c .before .before)))

@@ -2,6 +2,8 @@
 -- laid. Assumes nothing.
 use mathlib.Core.Path.{ap}
 use native.Mathlib.Omega.{arith}
+use borrow.Author.Needs.{needs}
+use Rattle.xm.specs.Number.{Bytes}
 use Rattle.steps.specs.declared.header.HeaderPart.{HeaderPart}
 use Rattle.rows.proofs.Reading.{accepted-header}
 use Rattle.tables.proofs.FillLaws.{FillingInstruments, instruments-start, instruments-tests, instruments-place, instruments-stands, instruments-room}
@@ -10,27 +12,30 @@ use Rattle.tables.proofs.fill.fill_instruments.Statement.{statement}
 use Rattle.tables.proofs.fill.fill_instruments.Tie as tie
 
 abbrev Inv-loop : tie.InvT-loop
-Inv-loop file table₀ place₀ left₀ first₀ to₀ table place left first to = FillingInstruments file table₀ table left place first to
+Inv-loop file table₀ stripped place₀ left₀ first₀ to₀ table place left first to = FillingInstruments file table₀ table left place first to
 
 abbrev μ-loop : tie.MeasureT-loop
-μ-loop file table₀ place₀ left₀ first₀ to₀ table place left first to = left
+μ-loop file table₀ stripped place₀ left₀ first₀ to₀ table place left first to = left
+
+-- The file is one of bytes
+bytes : (t : tie.At-loop Inv-loop μ-loop) → Bytes (t .before .before .before .before .before .before .args .file .now)
+bytes t = record { below = λ i. omega (arith, t .before .before .before .before .before .shared-slice-known .given i) }
 
 header-part-requires : tie.Need-header-part-requires Inv-loop μ-loop
 header-part-requires c κs = accepted-header _ (c .before .before .pre .0) .0
 
 first-instrument-requires : tie.Need-first-instrument-requires Inv-loop μ-loop
-first-instrument-requires c κs = c .before .before .before .pre .0
+first-instrument-requires c κs = c .before .before .before .before .pre .0
 
 loop-holds : tie.Need-loop-holds Inv-loop μ-loop
 loop-holds c =
-    let p = c .before .before .before .before .pre in
-    rw (ap HeaderPart.instruments (c .before .header-part .ensures)) (instruments-start _ _ (p .0) (c .first-instrument .ensures) (p .1))
+    let p = c .before .before .before .before .before .pre in
+    rw (ap HeaderPart.instruments (c .before .before .header-part .ensures)) (instruments-start _ _ (p .0) (c .first-instrument .ensures) (p .1))
 
 instrument-head-requires : tie.Need-instrument-head-requires Inv-loop μ-loop
 instrument-head-requires c κs =
     let s = c .before in
-    instruments-tests _ _ (s .loop .inv) (record { below = λ i. omega (arith, s .before .before .before .before .shared-slice-known .given i) })
-    (c .loop-test .taken)
+    (s .before .before .is-stripped .ensures, instruments-tests _ _ (s .loop .inv) (bytes s) (c .loop-test .taken))
 
 cast-put-three : tie.Need-cast-put-three Inv-loop μ-loop
 cast-put-three c =
@@ -38,7 +43,7 @@ cast-put-three c =
     let s = t .before in
     omega (
       arith,
-      instruments-place _ _ (s .loop .inv) (record { below = λ i. omega (arith, s .before .before .before .before .shared-slice-known .given i) })
+      instruments-place _ _ (s .loop .inv) (bytes s)
           (t .loop-test .taken),
       s .loop .inv .small,
     )
@@ -49,7 +54,7 @@ cast-put-three-2 c =
     let s = t .before in
     omega (
       arith,
-      instruments-stands _ _ (s .loop .inv) (record { below = λ i. omega (arith, s .before .before .before .before .shared-slice-known .given i) })
+      instruments-stands _ _ (s .loop .inv) (bytes s)
           (t .loop-test .taken) (c .before .instrument-head .ensures) .few,
     )
 
@@ -60,14 +65,14 @@ put-three-requires : tie.Need-put-three-requires Inv-loop μ-loop
 put-three-requires c κs =
     let t = c .before .before in
     let s = t .before in
-    instruments-room _ _ (s .loop .inv) (record { below = λ i. omega (arith, s .before .before .before .before .shared-slice-known .given i) })
+    instruments-room _ _ (s .loop .inv) (bytes s)
     (t .loop-test .taken) (c .before .instrument-head .ensures)
 
 data-end-requires : tie.Need-data-end-requires Inv-loop μ-loop
 data-end-requires c κs =
     let h = c .before .before .before .before in
     let s = h .before .before in
-    instruments-stands _ _ (s .loop .inv) (record { below = λ i. omega (arith, s .before .before .before .before .shared-slice-known .given i) })
+    instruments-stands _ _ (s .loop .inv) (bytes s)
     (h .before .loop-test .taken) (h .instrument-head .ensures)
 
 sub-left : tie.Need-sub-left Inv-loop μ-loop
@@ -77,7 +82,7 @@ add-first : tie.Need-add-first Inv-loop μ-loop
 add-first c =
     let h = c .before .before .before .before .before in
     let s = h .before .before in
-    let stands = instruments-stands _ _ (s .loop .inv) (record { below = λ i. omega (arith, s .before .before .before .before .shared-slice-known .given i) })
+    let stands = instruments-stands _ _ (s .loop .inv) (bytes s)
     (h .before .loop-test .taken) (h .instrument-head .ensures) in
     omega (arith, s .loop .inv .few, stands .few)
 
@@ -85,9 +90,9 @@ add-to : tie.Need-add-to Inv-loop μ-loop
 add-to c =
     let h = c .before .before .before .before .before in
     let s = h .before .before in
-    let room = instruments-room _ _ (s .loop .inv) (record { below = λ i. omega (arith, s .before .before .before .before .shared-slice-known .given i) })
+    let room = instruments-room _ _ (s .loop .inv) (bytes s)
     (h .before .loop-test .taken) (h .instrument-head .ensures) in
-    omega (arith, room)
+    omega (arith, room, s .loop .inv .laid .kept, s .before .before .before .before .before .before .good)
 
 loop-less : tie.Need-loop-less Inv-loop μ-loop
 loop-less c = omega arith
@@ -96,7 +101,7 @@ loop-again : tie.Need-loop-again Inv-loop μ-loop
 loop-again c =
     let h = c .before .before .before .before .before in
     let s = h .before .before in
-    instruments-on _ _ (s .loop .inv) (record { below = λ i. omega (arith, s .before .before .before .before .shared-slice-known .given i) })
+    instruments-on _ _ (s .loop .inv) (bytes s)
     (h .before .loop-test .taken) (h .instrument-head .ensures) (c .before .before .before .put-three .ensures) (c .data-end .ensures) (omega arith)
 
 same-length : tie.Need-same-length Inv-loop μ-loop
@@ -112,6 +117,7 @@ fill-instruments-spec =
     Inv-loop
     μ-loop
     header-part-requires
+    (search needs)
     first-instrument-requires
     loop-holds
     instrument-head-requires
