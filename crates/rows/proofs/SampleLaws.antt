@@ -75,12 +75,12 @@ rows-step zero size head bytesPlace s l = absurd (omega arith)
 rows-step (suc left) size head bytesPlace s l = let z : suc left - 1 ≡ left = omega arith in rw z
 
 -- The rows of a file are those of its instruments
-rows-in : (g : Got Found) → listIn sampleRows g ≡ joined sampleRowsIn (listIn (λ (found : Found). found .1 .1) g)
+pub rows-in : (g : Got Found) → listIn sampleRows g ≡ joined sampleRowsIn (listIn (λ (found : Found). found .1 .1) g)
 rows-in (got found end) = refl
 rows-in (refused r) = refl
 
 -- Where a row is to come, there is an instrument
-some-instrument : {R : Type 0} (file : List ℕ) → length file ≤ fileMost → Bytes file → {count place end : ℕ} {parts : List InstrumentFound}
+pub some-instrument : {R : Type 0} (file : List ℕ) → length file ≤ fileMost → Bytes file → {count place end : ℕ} {parts : List InstrumentFound}
     → ReadsFrom (instrumentFormat (kindAt file)) tt file count place parts end
     → 0 < length (joined sampleRowsIn parts)
     → ((i : InstrumentFound) (n : ℕ) (more : List InstrumentFound) → InstrumentStands file place i n → parts ≡ i ∷ more

@@ -96,7 +96,7 @@ pub struct RowStep {
 }
 
 // Sought from the instrument at a place on.
-fn sought_from(place: usize) -> Sought
+pub fn sought_from(place: usize) -> Sought
     ensures { λ r. ⌜ r ≡ soughtFrom place ⌝ }
 {
     Sought {

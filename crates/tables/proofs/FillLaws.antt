@@ -17,8 +17,8 @@ use Rattle.xm.specs.Header.{instrumentsAt, patternsAt, headerEnd, kindAt}
 use Rattle.xm.specs.PatternInFile.{PatternFound}
 use Rattle.xm.specs.Instrument.{samplesMost, instrumentTests, InstrumentFound, instrumentFormat}
 use Rattle.xm.specs.Module.{Found, fileMost, readFile}
-use Rattle.xm.specs.Table.{SampleRow, patternRow, patternRows, sampleCount, instrumentRowsFrom, instrumentRows, patternNumbers, instrumentNumbers}
-use Rattle.xm.specs.Table.{sampleNumbers, sampleTunes, sampleStride, tuneStride}
+use Rattle.xm.specs.Table.{SampleRow, patternRow, patternRows, sampleCount, instrumentRowsFrom, instrumentRows, sampleRows, patternNumbers}
+use Rattle.xm.specs.Table.{instrumentNumbers, sampleNumbers, sampleTunes, sampleStride, tuneStride}
 use Rattle.xm.specs.Asking.{noRow}
 use Rattle.xm.proofs.Lay.{Laid, laid-none, laid-done}
 use Rattle.slices.proofs.Stores.{laid-lay}
@@ -27,9 +27,10 @@ use Rattle.steps.specs.Step.{patternHead}
 use Rattle.rows.specs.Place.{dataEnd, InstrumentHeadStands}
 use Rattle.steps.specs.declared.pattern.PatternHead.{PatternHead}
 use Rattle.steps.specs.declared.instrument.InstrumentHead.{InstrumentHead}
-use Rattle.rows.proofs.Reading.{accepted-small, accepted-header, reads-none}
+use Rattle.rows.proofs.Reading.{accepted-small, accepted-header, some-accepted, reads-none}
 use Rattle.rows.proofs.InstrumentLaws.{instrumentAt, InstrumentStands, instruments-next}
 use Rattle.rows.proofs.PlaceLoops.{Skipping, PatternFits, skipping-start, skipping-on, skipping-end}
+use Rattle.rows.proofs.SampleLaws.{rows-in, some-instrument}
 
 -- There is room for a piece that is still to be laid
 laid-room : {A : Type 0} {lent goal out : List A} {to : ℕ} {rest : List A} → Laid lent goal out to rest → (w rest′ : List A)
@@ -152,6 +153,15 @@ module _ (file lent : List ℕ) where
               few = omega (arith, w .few, s .stands .few, ap InstrumentHead.samples e);
               laid = rw f (laid-lay (w .laid) (place ∷ x .samples ∷ first ∷ []) _ (instrument-first s ep) n refl);
             }
+
+-- Where there are samples, the first number of a filled table is the place where the instruments start
+pub instruments-first : (file lent : List ℕ) → Bytes file → 0 < length (listIn sampleRows (readFile file))
+    → InstrumentsFrom file (getD (inFront (instrumentGoal file) lent) 0 0)
+instruments-first file lent bytes some =
+    let h = some-accepted sampleRows (readFile file) some in
+    let after = skipping-start file h .after in
+    some-instrument file (accepted-small file h) bytes (after .reads) (omega (arith, some, ap length (rows-in (readFile file)))) λ i n more s ep rest.
+    rw (instruments-in (readFile file), ep, s .starts) after
 
 -- Samples
 pub record FillingSamples (rows : List SampleRow) (lent out : List ℕ) (tunesLent tunes : List ℤ) (number : ℕ) : Type 0 where

@@ -1,12 +1,13 @@
 -- The check beside rows for samples, and the check into the tables: refused as the check is, refused for room, or accepted and filled. Assumes nothing.
-use Prim.Native.Nat.{ℕ, _+_, _/_, _≤_, min}
+use Prim.Native.Nat.{ℕ, _+_, _/_, _≤_, _<_, min}
 use mathlib.Core.Bool.{Bool, true, false}
 use mathlib.Core.List.{List, [], _∷_}
 use mathlib.Core.Path.{_≡_, refl, sym, ap, ap₂, _∙_, subst}
 use native.Mathlib.Nat.{min-le-left, min-le-right}
 use native.Mathlib.Omega.{arith}
 use lib.IntN.{ℤ}
-use lib.ListN.{length, length-map, length-replicate, replicate, drop}
+use lib.ListN.{length, getD, length-map, length-replicate, replicate, drop}
+use Rattle.xm.specs.Number.{Bytes}
 use Rattle.xm.specs.Got.{got, _at_, listIn, accepted}
 use Rattle.xm.specs.Got as paper
 use Rattle.xm.specs.Format.{joined}
@@ -34,7 +35,9 @@ use Rattle.walk.proofs.FileLaws.{same-module}
 use Rattle.xm.proofs.Got.{all-hold}
 use Rattle.refusal.proofs.TestLaws.{not-all-hold}
 use Rattle.tables.specs.Into.{lent, roomBeside, roomTestsOf, patternsAfter, instrumentsAfter}
+use Rattle.rows.specs.Accepted.{InstrumentsFrom}
 use Rattle.rows.proofs.Reading.{file-reads}
+use Rattle.tables.proofs.FillLaws.{instruments-first}
 use Rattle.tables.proofs.VerdictLaws.{never, verdict-got, verdict-refused}
 
 -- As many rows as the check counts
@@ -187,17 +190,19 @@ module _ (file patterns instruments samples : List ℕ) (tunes : List ℤ) where
               into-accepted (roomOf tables) file c q λ found h. k c q found h (ap Module.samples (same-module (sym is ∙ here .answers ∙ ap verdictOf q)))
           go (refuses r) q = never (sym is ∙ here .answers ∙ ap verdictOf q)
 
-      -- there is room for every number of a sample
+      -- the instrument table tells where the samples are sought from, and there is room for every number of theirs
       pub record RoomyInto : Type 0 where
+        pub start : 0 < x .samples → InstrumentsFrom file (getD instruments′ 0 0)
         pub count : x .samples ≡ length (listIn sampleRows (readFile file))
         pub for-samples : length (joined sampleNumbers (listIn sampleRows (readFile file))) ≤ length samples
         pub for-tunes : length (joined sampleTunes (listIn sampleRows (readFile file))) ≤ length tunes
 
-      pub into-roomy : RoomyInto
-      into-roomy = accepts λ c q found h n.
+      pub into-roomy : Bytes file → RoomyInto
+      into-roomy bytes = accepts λ c q found h n.
           let l = min-le-left (length samples / sampleStride) (length tunes / tuneStride) in
           let r = min-le-right (length samples / sampleStride) (length tunes / tuneStride) in
           record {
+            start = λ some. rw (here .leaves-instruments, q) (rw found at (instruments-first file instruments bytes (rw found (omega (arith, some, n)))));
             count = rw found n;
             for-samples = rw found (omega (arith, h .2, l, joined-length sampleStride sampleNumbers (λ row. refl) (sampleRows (c .found))));
             for-tunes = rw found (omega (arith, h .2, r, joined-length tuneStride sampleTunes (λ row. refl) (sampleRows (c .found))));

@@ -1,16 +1,15 @@
 // The three tables of an accepted file, each filled by a second pass, in a lent table that has the room.
 use rows::place::data_end;
-use rows::place::first_instrument;
-use rows::sample::first_sought;
 use rows::sample::put_sample;
 use rows::sample::row_step;
+use rows::sample::sought_from;
 use steps::header::header_part;
 use steps::instrument::instrument_head;
 use steps::kind::is_stripped;
 use steps::pattern::pattern_head;
 ghost use mathlib.Core.Bool.{true};
 ghost use mathlib.Core.Path.{_≡_};
-ghost use Prim.Native.Nat.{_+_, _≤_};
+ghost use Prim.Native.Nat.{_+_, _<_, _≤_};
 ghost use mathlib.Core.List.{[], _∷_};
 ghost use lib.ListN.{length};
 ghost use Rattle.xm.specs.Got.{listIn, accepted};
@@ -19,6 +18,7 @@ ghost use Rattle.xm.specs.Answer.{inFront};
 ghost use Rattle.xm.specs.Lay.{lay};
 ghost use Rattle.xm.specs.Module.{readFile};
 ghost use Rattle.xm.specs.Table.{patternRows, instrumentRows, sampleRows, patternNumbers, instrumentNumbers, sampleNumbers, sampleTunes};
+ghost use Rattle.rows.specs.Accepted.{InstrumentsFrom};
 
 // Numbers to a row.
 pub const PATTERN_STRIDE: usize = 3;
@@ -35,11 +35,12 @@ fn put_three(table: &mut [u32], to: usize, first: u32, second: u32, third: u32)
     table[to + 2] = third;
 }
 
-// Patterns: data place, S, rows it reads as.
-pub fn fill_patterns(file: &[u8], table: &mut [u32])
+// Patterns: data place, S, rows it reads as. The answer is where the instruments start.
+pub fn fill_patterns(file: &[u8], table: &mut [u32]) -> usize
     requires { ⌜ accepted (readFile (now file)) ≡ true ⌝ }
     requires { ⌜ length (joined patternNumbers (listIn patternRows (readFile (now file)))) ≤ length (now table) ⌝ }
-    ensures { λ _. ⌜ now (table .exit) ≡ inFront (joined patternNumbers (listIn patternRows (readFile (now (file .entry))))) (now (table .entry)) ⌝ }
+    ensures start { λ r. ⌜ InstrumentsFrom (now (file .entry)) r ⌝ }
+    ensures table { λ _. ⌜ now (table .exit) ≡ inFront (joined patternNumbers (listIn patternRows (readFile (now (file .entry))))) (now (table .entry)) ⌝ }
 {
     let counts = header_part(file);
     let mut place = counts.start;
@@ -58,17 +59,19 @@ pub fn fill_patterns(file: &[u8], table: &mut [u32])
         left -= 1;
         to += PATTERN_STRIDE;
     }
+    place
 }
 
-// Instruments: place, k, number of its first sample, or of the next sample if k = 0.
-pub fn fill_instruments(file: &[u8], table: &mut [u32])
+// Instruments, from `start` on: place, k, number of its first sample, or of the next sample if k = 0.
+pub fn fill_instruments(file: &[u8], start: usize, table: &mut [u32])
     requires { ⌜ accepted (readFile (now file)) ≡ true ⌝ }
+    requires { ⌜ InstrumentsFrom (now file) start ⌝ }
     requires { ⌜ length (joined instrumentNumbers (listIn instrumentRows (readFile (now file)))) ≤ length (now table) ⌝ }
     ensures { λ _. ⌜ now (table .exit) ≡ inFront (joined instrumentNumbers (listIn instrumentRows (readFile (now (file .entry))))) (now (table .entry)) ⌝ }
 {
     let counts = header_part(file);
     let stripped = is_stripped(file);
-    let mut place = first_instrument(file);
+    let mut place = start;
     let mut left = counts.instruments;
     let mut first: usize = 0;
     let mut to: usize = 0;
@@ -83,16 +86,17 @@ pub fn fill_instruments(file: &[u8], table: &mut [u32])
     }
 }
 
-// Samples, `count` in all: header place, data place, length in bytes, width, loop kind, loop start, loop length; and apart, finetune and
-// relative note.
-pub fn fill_samples(file: &[u8], count: usize, table: &mut [u32], tunes: &mut [i8])
+// Samples, `count` in all, of the instruments from `start` on: header place, data place, length in bytes, width, loop kind, loop start,
+// loop length; and apart, finetune and relative note.
+pub fn fill_samples(file: &[u8], start: usize, count: usize, table: &mut [u32], tunes: &mut [i8])
+    requires { ⌜ (0 < count → InstrumentsFrom (now file) start) ⌝ }
     requires { ⌜ count ≡ length (listIn sampleRows (readFile (now file))) ⌝ }
     requires { ⌜ length (joined sampleNumbers (listIn sampleRows (readFile (now file)))) ≤ length (now table) ⌝ }
     requires { ⌜ length (joined sampleTunes (listIn sampleRows (readFile (now file)))) ≤ length (now tunes) ⌝ }
     ensures { λ _. ⌜ now (table .exit) ≡ inFront (joined sampleNumbers (listIn sampleRows (readFile (now (file .entry))))) (now (table .entry)) ⌝ }
     ensures { λ _. ⌜ now (tunes .exit) ≡ inFront (joined sampleTunes (listIn sampleRows (readFile (now (file .entry))))) (now (tunes .entry)) ⌝ }
 {
-    let mut from = first_sought(file, count);
+    let mut from = sought_from(start);
     while from.number < count {
         let number = from.number;
         let step = row_step(file, from);

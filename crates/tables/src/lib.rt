@@ -14,7 +14,7 @@ use walk::Verdict;
 use walk::check;
 ghost use mathlib.Core.Path.{_≡_};
 ghost use Prim.Native.Nat.{_/_, min};
-ghost use lib.ListN.{length};
+ghost use lib.ListN.{length, getD};
 ghost use Rattle.xm.specs.Table.{sampleStride, tuneStride, checkingInto};
 ghost use Rattle.xm.specs.Got.{allPass};
 ghost use Rattle.walk.specs.File.{verdictOf};
@@ -70,9 +70,19 @@ pub fn check_beside(
             place: 0,
         });
     }
-    fill_patterns(file, patterns);
-    fill_instruments(file, instruments);
+    let start = fill_patterns(file, patterns);
+    fill_instruments(file, start, instruments);
     verdict
+}
+
+// The first number of a table; 0 of an empty one.
+fn first_number(table: &[u32]) -> usize
+    ensures { λ r. ⌜ r ≡ getD (now (table .entry)) 0 0 ⌝ }
+{
+    if table.len() == 0 {
+        return 0;
+    }
+    table[0] as usize
 }
 
 // The check of a file, which fills the three tables once nothing can be refused any more: three numbers to a pattern, three to an
@@ -93,6 +103,8 @@ pub fn check_into(
     let Verdict::Accepted(found) = verdict else {
         return verdict;
     };
-    fill_samples(file, found.samples, samples, tunes);
+    // A row of the instrument table begins with the instrument's place.
+    let start = first_number(instruments);
+    fill_samples(file, start, found.samples, samples, tunes);
     verdict
 }

@@ -48,7 +48,7 @@ fill-instruments-requires c κs =
     let a = told .before .before .before .before .before .before .args in
     let w = beside-roomy (a .file .now) (a .patterns .now) (a .instruments .now) (a .rows)
     (sym (told .verdict .given .1) ∙ told .before .before .check .ensures) (sym (s .before .has-room .ensures) ∙ not-false _ (s .if1 .left)) in
-    (w .accepts, w .for-instruments)
+    (w .accepts, (c .before .before .before .fill-patterns .ensures .0, w .for-instruments))
 
 same-length : tie.Need-same-length
 same-length c = search needs
@@ -63,7 +63,7 @@ returns-3 c =
     let a = told .before .before .before .before .before .before .args in
     let w = beside-filled (a .file .now) (a .patterns .now) (a .instruments .now) (a .rows)
     (sym (told .verdict .given .1) ∙ told .before .before .check .ensures) (sym (s .before .has-room .ensures) ∙ not-false _ (s .if1 .left))
-    (c .before .before .before .before .before .before .fill-patterns .ensures) (c .before .before .fill-instruments .ensures) in
+    (c .before .before .before .before .before .before .fill-patterns .ensures .1) (c .before .before .fill-instruments .ensures) in
     (w .answers, (w .leaves-patterns, w .leaves-instruments))
 
 pub check-beside-spec : {M : Type 1} → statement M

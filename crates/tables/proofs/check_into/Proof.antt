@@ -1,4 +1,5 @@
 -- `tables::check_into` meets its contract: its exits are a refusal, and the samples' tables filled. Assumes nothing.
+use native.Mathlib.Omega.{arith}
 use Rattle.tables.proofs.IntoLaws.{into-refused, into-roomy, into-filled}
 use borrow.Author.Needs.{needs}
 use Rattle.tables.proofs.check_into.Statement.{statement}
@@ -34,13 +35,15 @@ returns c =
 
 fill-samples-requires : tie.Need-fill-samples-requires
 fill-samples-requires c κs =
-    let s = c .before .before .before .before .before .before .before .before .before in
-    let a = s .before .before .before .before .before .before .before .before .args in
+    let v = c .before .before .before .before .before in
+    let s = v .before .before .before .before .before .before in
+    let k = s .before .before .before .before .before .before .before in
+    let a = k .before .args in
     let told = s .check-beside .ensures in
     let w = into-roomy (a .file .now) (a .patterns .now) (a .instruments .now) (a .samples .now) (a .tunes .now)
     (s .before .before .before .rows-lent .ensures) (record { answers = told .0; leaves-patterns = told .1 .0; leaves-instruments = told .1 .1 })
-    (c .before .before .before .verdict .given .1) in
-    (w .count, (w .for-samples, w .for-tunes))
+    (v .verdict .given .1) (record { below = λ i. omega (arith, k .shared-slice-known .given i) }) in
+    (λ some. rw (c .before .before .first-number .ensures) (w .start some), (w .count, (w .for-samples, w .for-tunes)))
 
 same-length-3 : tie.Need-same-length-3
 same-length-3 c = search needs
@@ -56,13 +59,14 @@ same-length-6 c = search needs
 
 returns-2 : tie.Need-returns-2
 returns-2 c =
-    let s = c .before .before .before .before .before .before .before .before .before .before .before .before .before in
+    let v = c .before .before .before .before .before .before .before .before .before in
+    let s = v .before .before .before .before .before .before in
     let a = s .before .before .before .before .before .before .before .before .args in
     let told = s .check-beside .ensures in
     let samples = c .before .before .before .fill-samples .ensures in
     let w = into-filled (a .file .now) (a .patterns .now) (a .instruments .now) (a .samples .now) (a .tunes .now)
     (s .before .before .before .rows-lent .ensures) (record { answers = told .0; leaves-patterns = told .1 .0; leaves-instruments = told .1 .1 })
-    (c .before .before .before .before .before .before .before .verdict .given .1) (samples .0) (samples .1) in
+    (v .verdict .given .1) (samples .0) (samples .1) in
     (w .answers, w .leaves)
 
 pub check-into-spec : {M : Type 1} → statement M
@@ -76,6 +80,7 @@ check-into-spec =
     same-length
     same-length-2
     returns
+    (search needs)
     fill-samples-requires
     same-length-3
     same-length-4

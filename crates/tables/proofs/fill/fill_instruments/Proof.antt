@@ -12,30 +12,27 @@ use Rattle.tables.proofs.fill.fill_instruments.Statement.{statement}
 use Rattle.tables.proofs.fill.fill_instruments.Tie as tie
 
 abbrev Inv-loop : tie.InvT-loop
-Inv-loop file table₀ stripped place₀ left₀ first₀ to₀ table place left first to = FillingInstruments file table₀ table left place first to
+Inv-loop file start table₀ stripped place₀ left₀ first₀ to₀ table place left first to = FillingInstruments file table₀ table left place first to
 
 abbrev μ-loop : tie.MeasureT-loop
-μ-loop file table₀ stripped place₀ left₀ first₀ to₀ table place left first to = left
+μ-loop file start table₀ stripped place₀ left₀ first₀ to₀ table place left first to = left
 
 -- The file is one of bytes
-bytes : (t : tie.At-loop Inv-loop μ-loop) → Bytes (t .before .before .before .before .before .before .args .file .now)
-bytes t = record { below = λ i. omega (arith, t .before .before .before .before .before .shared-slice-known .given i) }
+bytes : (t : tie.At-loop Inv-loop μ-loop) → Bytes (t .before .before .before .before .before .args .file .now)
+bytes t = record { below = λ i. omega (arith, t .before .before .before .before .shared-slice-known .given i) }
 
 header-part-requires : tie.Need-header-part-requires Inv-loop μ-loop
 header-part-requires c κs = accepted-header _ (c .before .before .pre .0) .0
 
-first-instrument-requires : tie.Need-first-instrument-requires Inv-loop μ-loop
-first-instrument-requires c κs = c .before .before .before .before .pre .0
-
 loop-holds : tie.Need-loop-holds Inv-loop μ-loop
 loop-holds c =
-    let p = c .before .before .before .before .before .pre in
-    rw (ap HeaderPart.instruments (c .before .before .header-part .ensures)) (instruments-start _ _ (p .0) (c .first-instrument .ensures) (p .1))
+    let p = c .before .before .before .before .pre in
+    rw (ap HeaderPart.instruments (c .before .header-part .ensures)) (instruments-start _ _ (p .0) (p .1 .0) (p .1 .1))
 
 instrument-head-requires : tie.Need-instrument-head-requires Inv-loop μ-loop
 instrument-head-requires c κs =
     let s = c .before in
-    (s .before .before .is-stripped .ensures, instruments-tests _ _ (s .loop .inv) (bytes s) (c .loop-test .taken))
+    (s .before .is-stripped .ensures, instruments-tests _ _ (s .loop .inv) (bytes s) (c .loop-test .taken))
 
 cast-put-three : tie.Need-cast-put-three Inv-loop μ-loop
 cast-put-three c =
@@ -92,7 +89,7 @@ add-to c =
     let s = h .before .before in
     let room = instruments-room _ _ (s .loop .inv) (bytes s)
     (h .before .loop-test .taken) (h .instrument-head .ensures) in
-    omega (arith, room, s .loop .inv .laid .kept, s .before .before .before .before .before .before .good)
+    omega (arith, room, s .loop .inv .laid .kept, s .before .before .before .before .before .good)
 
 loop-less : tie.Need-loop-less Inv-loop μ-loop
 loop-less c = omega arith
@@ -118,7 +115,6 @@ fill-instruments-spec =
     μ-loop
     header-part-requires
     (search needs)
-    first-instrument-requires
     loop-holds
     instrument-head-requires
     cast-put-three

@@ -4,7 +4,7 @@ use mathlib.Core.Path.{ap}
 use native.Mathlib.Omega.{arith}
 use Rattle.steps.specs.declared.header.HeaderPart.{HeaderPart}
 use Rattle.rows.proofs.Reading.{accepted-header}
-use Rattle.rows.proofs.PlaceLoops.{skipping-room}
+use Rattle.rows.proofs.PlaceLoops.{skipping-room, skipping-end}
 use Rattle.tables.proofs.FillLaws.{FillingPatterns, patterns-start, patterns-fit, patterns-room, patterns-on, patterns-done}
 use Rattle.tables.proofs.fill.fill_patterns.Statement.{statement}
 use Rattle.tables.proofs.fill.fill_patterns.Tie as tie
@@ -77,7 +77,7 @@ same-length : tie.Need-same-length Inv-loop μ-loop
 same-length c = c .before .loop .inv .laid .kept
 
 returns : tie.Need-returns Inv-loop μ-loop
-returns c = patterns-done _ _ (c .before .loop .inv) (omega arith)
+returns c = let w = c .before .loop .inv in (skipping-end _ (w .skipping) (omega arith) .1, patterns-done _ _ w (omega arith))
 
 pub fill-patterns-spec : {M : Type 1} → statement M
 fill-patterns-spec =
