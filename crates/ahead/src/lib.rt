@@ -2,7 +2,7 @@
 use cell::read::chosen;
 use slices::read::wide;
 ghost use mathlib.Core.Path.{_≡_};
-ghost use Prim.Native.Nat.{_+_, _*_, _/_, _%_, _≤_};
+ghost use Prim.Native.Nat.{_+_, _*_, _%_, _≤_};
 ghost use lib.ListN.{length};
 ghost use Rattle.xm.specs.Cell.{lengthBy};
 ghost use Rattle.ahead.specs.Ahead.{eightAt, EightRead, Empties, AheadOf, cellBehind, lengthsBy, blockSize, BlockOf, Follows, lengthsFrom};

@@ -2,7 +2,7 @@
 use crate::read::Cell;
 use crate::read::bit_of;
 ghost use mathlib.Core.Path.{_≡_};
-ghost use Prim.Native.Nat.{_+_, _*_, _≤_, _<_};
+ghost use Prim.Native.Nat.{_+_, _≤_, _<_};
 ghost use mathlib.Core.Bool.{cond, _&&_};
 ghost use lib.Dec.{ltb, eqb};
 ghost use lib.ListN.{length, drop, set};

@@ -11,7 +11,7 @@ use lib.ListN.{length, getD, take, drop, length-append, length-drop}
 use lib.Seq.{drop-drop, take-at, drop-at, take-add, length-take-le}
 use Rattle.xm.specs.Got.{Refusal, Got, got, refused}
 use Rattle.xm.specs.Format.{joined}
-use Rattle.xm.specs.Cell.{lengthBy, needed, cellAt, readCell, kept, kepts, writeCell}
+use Rattle.xm.specs.Cell.{lengthBy, needed, cellAt, readCell, kepts, writeCell}
 use Rattle.xm.specs.Short.{shortestBy, shortBy, isShort}
 use Rattle.xm.specs.Stored.{readRun}
 use Rattle.xm.proofs.Got.{no-true}
@@ -109,33 +109,28 @@ pub record Measuring (s : List ℕ) (answer : StoredStep) (used shortest : ℕ) 
   pub small : shortest ≤ used
   pub rest : answer ≡ measuredOn used shortest same (drop used s) (readRun left used (drop used s))
 
-module _ {s : List ℕ} {answer : StoredStep} where
-  move : {used used′ shortest shortest′ : ℕ} {same same′ : Bool} {left left′ : ℕ} → Measuring s answer used shortest same left
-      → used′ ≡ used → shortest′ ≡ shortest → same′ ≡ same → left′ ≡ left → Measuring s answer used′ shortest′ same′ left′
-  move v p q r t = rw (p, q, r, t) v
+module _ {s : List ℕ} {answer : StoredStep} {used shortest : ℕ} {same : Bool} {left : ℕ} (v : Measuring s answer used shortest same left) where
+  pub measuring-more : 0 < left → {k cost next : ℕ} {same′ : Bool} → readCell used (drop used s) ≡ got (cellAt (drop used s)) k → next ≡ used + k
+      → cost ≡ length (writeCell (cellAt (drop used s))) → same′ ≡ (same && isShort (drop used s))
+      → Measuring s answer next (shortest + cost) same′ (left - 1)
+  measuring-more some {k} e en ec es =
+      let i = v .inside in
+      let m = v .small in
+      let r = cell-read used (drop used s) (cellAt (drop used s)) k e in
+      record {
+        inside = omega (arith, en, r .long, r .fits, length-drop used s);
+        small = omega (arith, en, ec, r .long, write-short (drop used s));
+        rest = v .rest ∙ measured-more s left used shortest same some e ∙ rw (en, ec, es);
+      }
 
-  module _ {used shortest : ℕ} {same : Bool} {left : ℕ} (v : Measuring s answer used shortest same left) where
-    pub measuring-more : 0 < left → {k cost next : ℕ} {same′ : Bool} → readCell used (drop used s) ≡ got (cellAt (drop used s)) k → next ≡ used + k
-        → cost ≡ length (writeCell (cellAt (drop used s))) → same′ ≡ (same && isShort (drop used s))
-        → Measuring s answer next (shortest + cost) same′ (left - 1)
-    measuring-more some {k} e en ec es =
-        let i = v .inside in
-        let m = v .small in
-        let r = cell-read used (drop used s) (cellAt (drop used s)) k e in
-        record {
-          inside = omega (arith, en, r .long, r .fits, length-drop used s);
-          small = omega (arith, en, ec, r .long, write-short (drop used s));
-          rest = v .rest ∙ measured-more s left used shortest same some e ∙ rw (en, ec, es);
-        }
+  pub measuring-stop : 0 < left → {r : Refusal} → readCell used (drop used s) ≡ refused r → Refused (codeRefusal r) ≡ answer
+  measuring-stop some e = sym (v .rest ∙ ap (measuredOn used shortest same (drop used s)) (run-stop s used left some e))
 
-    pub measuring-stop : 0 < left → {r : Refusal} → readCell used (drop used s) ≡ refused r → Refused (codeRefusal r) ≡ answer
-    measuring-stop some e = sym (v .rest ∙ ap (measuredOn used shortest same (drop used s)) (run-stop s used left some e))
-
-    pub measuring-done : left ≡ 0 → Read (record { used = used; shortest = shortest; same = same }) ≡ answer
-    unfolding sameBytes
-    measuring-done z =
-        size-path (omega arith) (omega arith) (sym (and-true same))
-        ∙ sym (v .rest ∙ ap (λ (n : ℕ). measuredOn used shortest same (drop used s) (readRun n used (drop used s))) z)
+  pub measuring-done : left ≡ 0 → Read (record { used = used; shortest = shortest; same = same }) ≡ answer
+  unfolding sameBytes
+  measuring-done z =
+      size-path (omega arith) (omega arith) (sym (and-true same))
+      ∙ sym (v .rest ∙ ap (λ (n : ℕ). measuredOn used shortest same (drop used s) (readRun n used (drop used s))) z)
 
 -- A cell by the numbers that the code has: how many fields are kept, and the length of its shortest form
 pub kept-five : (s : List ℕ) {kept : ℕ} → kept ≡ length (kepts (cellAt s)) → kept ≤ 5

@@ -9,7 +9,7 @@ use lib.Count.{onesIn}
 use lib.Dec.{ltb, eqb}
 use lib.ListN.{length, getD, drop, length-append}
 use lib.Seq.{drop-drop, getD-drop}
-use Rattle.xm.specs.Cell.{five, fieldsBy, needed, cellAt, bit, kept, kepts, writeCell}
+use Rattle.xm.specs.Cell.{fieldsBy, needed, cellAt, bit, kept, kepts, writeCell}
 use Rattle.xm.specs.Short.{shortestBy, isShort}
 use Rattle.xm.proofs.Cell.{bit-most, bit-none, bit-some, kept-length, kepts-most, kepts-sum, ones-five, length-plain, length-marked, cell-plain, cell-marked}
 use Rattle.xm.proofs.Cell.{cell-length, many-plain, few-marked, marked-high}

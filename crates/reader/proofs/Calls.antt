@@ -17,7 +17,7 @@ use Rattle.xm.specs.Instrument.{InstrumentFound, instrumentFormat}
 use Rattle.xm.specs.Module.{Found, regionsOf, readFile}
 use Rattle.xm.specs.Asking.{Stretch}
 use Rattle.xm.specs.Table.{InstrumentRow, SampleRow, patternRow, patternRows, instrumentRows, sampleRows, checkedAs, checking}
-use Rattle.xm.specs.Structure.{kindNumber, structures, reading, Ahead, started, called, readOn, readFor}
+use Rattle.xm.specs.Structure.{kindNumber, structures, Ahead, started, called, readOn, readFor}
 use Rattle.xm.specs.Region.{ofKind, regionAt}
 use Rattle.xm.specs.Demands.{resultIn, ReaderHandsOver}
 use Rattle.xm.proofs.Format.{cons-path}
@@ -28,7 +28,7 @@ use Rattle.structures.specs.declared.Reached.{Reached}
 use Rattle.structures.specs.declared.Standing.{Standing}
 use Rattle.structures.specs.declared.Standing.the-variants.{Pattern, Instrument, SampleHeader, End, Refused}
 use Rattle.structures.proofs.Calls.{reached-back, call-numbers}
-use Rattle.tables.proofs.IntoLaws.{Counted, rows-counted}
+use Rattle.tables.proofs.IntoLaws.{rows-counted}
 use Rattle.reader.specs.declared.Reader.{Reader}
 use Rattle.reader.specs.declared.count.Counted as answer
 use Rattle.reader.specs.Count.{structureCounts, handsOver, counting, countedOf, countedNumbers, countResults}
@@ -94,9 +94,6 @@ module _ {file : RefT (List ℕ)} {calls : ℕ} {reader : ℕ → Reader} {answe
       ∙ ap₂ (λ (f : RefT (List ℕ)) (place : Reached). standingOf (called (now f) (reachedIn place))) (s .0) (s .1)
       ∙ ap (λ (x : Answer Ahead). standingOf (called (now file) x)) (reached-back (readFor (now file) n)))
       ∙ call-numbers (now file) (readFor (now file) n)
-
-  pub answers : Bytes (now file) → (n : ℕ) → n < calls → standingNumbers (answer n) ≡ readingNumbers (reading (now file) n)
-  answers plain n l = told n l ∙ ap readingNumbers (readers-tell .by-number (now file) plain n)
 
   -- On a refused file that is the check's refusal
   pub refuses : (x : Refusal) → readFile (now file) ≡ refused x → (n : ℕ) → n < calls → standingNumbers (answer n) ≡ x .number ∷ x .place ∷ 0 ∷ 0 ∷ []

@@ -1,5 +1,5 @@
 -- Laws of the instrument step. Assumes nothing.
-use Prim.Native.Nat.{ℕ, zero, suc, _+_, _*_, _≤_, _<_}
+use Prim.Native.Nat.{ℕ, zero, suc, _+_, _*_, _≤_}
 use mathlib.Core.List.{List, [], _∷_}
 use mathlib.Core.Path.{_≡_, refl, sym, ap, ap₂, _∙_}
 use native.Mathlib.Omega.{arith}
@@ -109,18 +109,14 @@ fields-pass normal place s h =
 fields-pass stripped place s h =
     record { some = h .0; there = h .1 .1 .0; few = h .1 .1 .1 .0; heads = λ some. h .1 .1 .1 .1 .0 (lt-ltb 0 (countAt (fieldsOf stripped s)) some) }
 
--- A stripped one's k and H, as its own I cuts them; and there are samples where they take bytes
+-- A stripped one's k and H, as its own I cuts them
 pub count-cut : {size k : ℕ} (s : List ℕ) → size ≡ instrumentSizeAt s → Word 27 (take size s) k → k ≡ countAt (fieldsOf stripped s)
 count-cut s e w = w .value ∙ ap (λ (n : ℕ). wordAt 27 (take n s)) e ∙ sym (word-padded 241 27 (take (instrumentSizeAt s) s) (omega arith))
 
 pub size-cut : {size H : ℕ} (s : List ℕ) → size ≡ instrumentSizeAt s → Long 29 (take size s) H → H ≡ sampleHeadSizeAt (fieldsOf stripped s)
 size-cut s e w = w .value ∙ ap (λ (n : ℕ). longAt 29 (take n s)) e ∙ sym (long-padded 241 29 (take (instrumentSizeAt s) s) (omega arith))
 
-pub times-some : (k H : ℕ) → 0 < k * H → 0 < k
-times-some zero H h = absurd (omega arith)
-times-some (suc k) H h = omega arith
-
--- of a normal one, that all its fields are there
+-- A normal one that has samples has all its fields
 pub some-samples : (place : ℕ) (s : List ℕ) → AllHold (instrumentTests normal place s) → 1 ≤ countAt s → 263 ≤ instrumentSizeAt s
 some-samples place s h some = h .1 .1 .1 .0 (lt-ltb 0 (countAt s) some)
 

@@ -15,7 +15,6 @@ use Rattle.xm.specs.Module.{fileMost}
 use Rattle.xm.specs.Structure as paper
 use Rattle.xm.specs.Structure.{isStructure, kindNumber, structuresOf, endsAt, handHead, handPattern, handInstrument, handOver, started, called}
 use Rattle.xm.proofs.Got.{no-true}
-use Rattle.structures.specs.declared.Standing.{Standing}
 use Rattle.structures.specs.declared.Reached.{Reached}
 use Rattle.structures.specs.declared.Handed.{Handed}
 use Rattle.structures.specs.Handing.{standingAt, standingOf, standingNumbers, readingNumbers, reachedOf, reachedIn, handing}

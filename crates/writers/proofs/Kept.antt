@@ -1,7 +1,7 @@
 -- Bytes that are content are copied as they stand: they are the numbers that they read as. Assumes nothing.
-use Prim.Native.Nat.{ℕ, _+_, _-_, _≤_, _<_}
+use Prim.Native.Nat.{ℕ, _+_, _≤_, _<_}
 use mathlib.Core.List.{List, _++_}
-use mathlib.Core.Path.{_≡_, refl, sym, ap, ap₂, _∙_}
+use mathlib.Core.Path.{_≡_, refl, ap, ap₂, _∙_}
 use native.Mathlib.Omega.{arith}
 use lib.ListN.{length, take, drop, length-drop}
 use lib.Seq.{take-add, drop-drop, drop-cons, length-take-le}
@@ -11,13 +11,6 @@ use Rattle.xm.proofs.Format.{cons-path}
 -- As many bytes as there are
 pub part-length : (offset size : ℕ) (s : List ℕ) → offset + size ≤ length s → length (part offset size s) ≡ size
 part-length offset size s h = length-take-le size (drop offset s) (omega (arith, length-drop offset s))
-
--- A part of what stands from a place on, as the code cuts it out
-pub part-cut : (place offset size : ℕ) (file : List ℕ)
-    → take (place + (offset + size) - (place + offset)) (drop (place + offset) file) ≡ part offset size (drop place file)
-part-cut place offset size file =
-    let n : place + (offset + size) - (place + offset) ≡ size = omega arith in
-    ap₂ (λ (k : ℕ) (l : List ℕ). take k l) n (sym (drop-drop offset place file))
 
 -- A part in two parts
 pub part-split : (offset n m : ℕ) (s : List ℕ) → part offset (n + m) s ≡ part offset n s ++ part (offset + n) m s

@@ -123,15 +123,6 @@ module _ (base : ℕ) where
   stored-shifted channels rows (b ∷ d) = cells-shifted rows (b ∷ d) channels
 
 -- So an accepted reading is accepted anywhere
-pub run-anywhere : (count place other : ℕ) (s : List ℕ) (cells : List (List ℕ)) (used : ℕ) → readRun count place s ≡ got cells used
-    → readRun count other s ≡ got cells used
-unfolding shifted
-run-anywhere count place other s cells used e =
-    from other ∙ ap (shifted other) (shifted-got place (readRun count 0 s) (sym (from place) ∙ e))
-  where
-    from : (base : ℕ) → readRun count base s ≡ shifted base (readRun count 0 s)
-    from base = ap (λ (p : ℕ). readRun count p s) (sym (add-zero base)) ∙ run-shifted base count 0 s
-
 pub stored-anywhere : (channels rows place other : ℕ) (d : List ℕ) (p : Pattern) (used : ℕ) → readStored channels rows place d ≡ got p used
     → readStored channels rows other d ≡ got p used
 unfolding shifted

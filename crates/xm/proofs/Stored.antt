@@ -1,6 +1,6 @@
 -- Laws of stored patterns: what is written reads back, what is read is kept and written in no more bytes; cells as lent bytes, and
 -- how many bytes they take. Assumes nothing.
-use Prim.Native.Nat.{ℕ, zero, suc, _+_, _*_, _≤_}
+use Prim.Native.Nat.{ℕ, zero, suc, _*_, _≤_}
 use mathlib.Core.Bool.{Bool, true, false, cond, _&&_, and-eq-true-iff, and-assoc}
 use mathlib.Core.List.{List, [], _∷_, _++_, map, append-nil}
 use mathlib.Core.Path.{_≡_, refl, sym, ap, _∙_}
@@ -12,11 +12,11 @@ use lib.ListN.{length, getD, drop, replicate, length-append, length-drop, length
 use lib.Seq.{drop-at}
 use Rattle.xm.specs.Number.{Bytes}
 use Rattle.xm.specs.Got.{got}
-use Rattle.xm.specs.Format.{each, eachRead, EachGood, joined, flat, All}
-use Rattle.xm.specs.Cell.{five, readCell, writeCell, cellMost, cellFormat}
+use Rattle.xm.specs.Format.{EachGood, joined, flat, All}
+use Rattle.xm.specs.Cell.{five, writeCell, cellMost, cellFormat}
 use Rattle.xm.specs.Stored.{Pattern, emptyRows, readCells, readStored, allZero, needsNoData, writeStored, GoodPattern, cellsOf}
 use Rattle.xm.proofs.Number.{bytes-nil, bytes-zeros}
-use Rattle.xm.proofs.Got.{pass, passed, step, bind-got, got-both, got-value, got-used, got-carry}
+use Rattle.xm.proofs.Got.{pass, passed, step, bind-got, got-both, got-value, got-carry}
 use Rattle.xm.proofs.Format.{cons-path, each-length, each-replicate, many-back, many-keeps}
 use Rattle.xm.proofs.Cell.{five-front, write-some, write-most, write-full, cell-back, cell-keeps}
 
@@ -238,33 +238,15 @@ stored-keeps channels rows place [] p n b some low high e =
     })
 stored-keeps channels rows place (x ∷ d) p n b some low high e = cells-keep channels rows place (x ∷ d) p n b some low high e
 
--- All of the data is used, and the rows are the row number
-cells-inside : (hs : List (Unit {0})) (place : ℕ) (s : List ℕ) (cells : List (List ℕ)) (n : ℕ) → eachRead cellFormat hs place s ≡ got cells n → n ≤ length s
-unfolding readCell
-cells-inside [] place s cells n e = omega (arith, got-used e)
-cells-inside (h ∷ hs) place s cells n e =
-    bind-got (cellFormat .read h place s) _ e λ c k ec e. bind-got (eachRead cellFormat hs (place + k) (drop k s)) _ e λ cs m es e.
-    passed _ _ ec λ t ec. omega (arith, cells-inside hs (place + k) (drop k s) cs m es, got-used e, got-used ec, t .0, length-drop k s)
-
-record CellsRead (rows : ℕ) (d : List ℕ) (p : Pattern) (n : ℕ) : Type 0 where
-  same : p .rows ≡ rows
-  used : n ≡ length d
-
-cells-read : (channels rows place : ℕ) (d : List ℕ) (p : Pattern) (n : ℕ) → readCells channels rows place d ≡ got p n → CellsRead rows d p n
+-- The rows are the row number
+cells-rows : (channels rows place : ℕ) (d : List ℕ) (p : Pattern) (n : ℕ) → readCells channels rows place d ≡ got p n → p .rows ≡ rows
 unfolding readCells
-cells-read channels rows place d p n e =
-    bind-got _ _ e λ cells m ec e. passed _ _ e λ h e.
-    got-carry (CellsRead rows d) e (record { same = refl; used = omega (arith, h .0, cells-inside (replicate (rows * channels) tt) place d cells m ec) })
-
-pub stored-used : (channels rows place : ℕ) (d : List ℕ) (p : Pattern) (n : ℕ) → readStored channels rows place d ≡ got p n → n ≡ length d
-unfolding readStored
-stored-used channels rows place [] p n e = sym (got-used e)
-stored-used channels rows place (b ∷ d) p n e = cells-read channels rows place (b ∷ d) p n e .used
+cells-rows channels rows place d p n e = bind-got _ _ e λ cells m ec e. passed _ _ e λ h e. ap Pattern.rows (sym (got-value e))
 
 pub stored-rows : (channels rows place : ℕ) (d : List ℕ) (p : Pattern) (n : ℕ) → readStored channels rows place d ≡ got p n → p .rows ≡ rows
 unfolding readStored
 stored-rows channels rows place [] p n e = ap Pattern.rows (sym (got-value e))
-stored-rows channels rows place (b ∷ d) p n e = cells-read channels rows place (b ∷ d) p n e .same
+stored-rows channels rows place (b ∷ d) p n e = cells-rows channels rows place (b ∷ d) p n e
 
 pub stored-empty : (channels rows place : ℕ) (d : List ℕ) (p : Pattern) (n : ℕ) → length d ≡ 0 → readStored channels rows place d ≡ got p n
     → p ≡ emptyRows channels rows

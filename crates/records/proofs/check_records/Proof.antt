@@ -124,15 +124,6 @@ module _ {M : Type 1} (𝓤 : URA M) (H : Heap 𝓤) (A : Atoms 𝓤) (W : Given
   abbrev Own₀ : Fml
   Own₀ = ShrSlice (named 0) κ₀ u8 .own x₀ (v₀ ∷ [])
 
-  abbrev Own₁ : Fml
-  Own₁ = MutSlice (named 1) κ₁ u32 .own x₁ (v₁ ∷ [])
-
-  abbrev Own₂ : Fml
-  Own₂ = MutSlice (named 2) κ₂ u32 .own x₂ (v₂ ∷ [])
-
-  abbrev Own₃ : Fml
-  Own₃ = MutSlice (named 3) κ₃ T.the-row .own x₃ (v₃ ∷ [])
-
   -- what is left at exit: the file, and the last list of each of the others
   exits : (r : Verdict) (w : Val) (ps is : List ℕ) (zs : List SampleRow) → RecordsTold (x₀ .now) (x₁ .now) (x₂ .now) (x₃ .now) r ps is zs
       → length ps ≡ length (x₁ .now) → length is ≡ length (x₂ .now) → length zs ≡ length (x₃ .now)
