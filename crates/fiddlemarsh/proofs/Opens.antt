@@ -1,7 +1,7 @@
 -- How a loader opens a module: called by the numbers of a row that the check with tables has filled, unpacking gives the content's cells of
 -- that pattern, and decoding, by the kind that stands in its header, the content's values of that sample, among which its loop lies. Assumes
 -- nothing.
-use Prim.Native.Nat.{ℕ, _+_, _*_, _≤_, _<_}
+use Prim.Native.Nat.{ℕ, _+_, _-_, _*_, _/_, _≤_, _<_}
 use mathlib.Core.List.{List}
 use mathlib.Core.Path.{_≡_, ap, _∙_}
 use native.Mathlib.Omega.{arith}
@@ -19,14 +19,14 @@ use Rattle.xm.specs.Sample.{leastHead, headBytes, lengthOf, kindOf, adpcm}
 use Rattle.xm.specs.Delta.{countWritten, decoding, decodingLimited}
 use Rattle.xm.specs.Adpcm.{adpcmDecoding, adpcmLimited, decodingBy}
 use Rattle.xm.specs.Press.{contentOf}
-use Rattle.xm.specs.Table.{CheckReport, checkingInto, Tables, roomOf, patternRows, sampleRows, patternStride, sampleStride}
+use Rattle.xm.specs.Table.{CheckReport, checkingInto, Tables, roomOf, patternRows, instrumentRows, sampleRows, patternStride, instrumentStride, sampleStride}
 use Rattle.xm.specs.Demands.{LoopReads}
 use Rattle.xm.proofs.Module.{whole-read}
 use Rattle.xm.proofs.Adpcm.{size-half, adpcm-gave}
 use Rattle.xm.proofs.Accepted.{accepted-files, decodes-at}
 use Rattle.xm.proofs.Demands.{loaders-tell}
 use Rattle.tables.proofs.IntoLaws.{into-accepted}
-use Rattle.tables.proofs.Calls.{headAt, rowHeadSize, valuesAt, sample-number, filled-whole, filled-loops, filled-unpacks}
+use Rattle.tables.proofs.Calls.{headAt, rowHeadSize, valuesAt, sample-number, filled-head-size, filled-whole, filled-loops, filled-unpacks}
 use Rattle.fiddlemarsh.specs.Promise.{LoaderUnpacks, LoaderFills, LoaderDecodes, LoaderDecodesAdpcm}
 
 -- A number and a memory of an answer that gives something
@@ -61,6 +61,15 @@ module _ (file : List ℕ) (plain : Bytes file) (lent : Tables) (c : CheckReport
     -- the length and the kind
     abbrev pub sampleNumber : (k column : ℕ) → ℕ
     sampleNumber k column = getD (held .samples) (sampleStride * k + column) 0
+
+    -- H, of which the header for C makes a division: by an instrument's row, place, k, first sample, and the row of that sample
+    abbrev pub instrumentNumber : (k column : ℕ) → ℕ
+    instrumentNumber k column = getD (held .instruments) (instrumentStride * k + column) 0
+
+    pub opens-size : (k j : ℕ) → k < length (instrumentRows (c .found)) → j < instrumentNumber k 1
+        → let first = instrumentNumber k 2 in
+        rowHeadSize c (first + j) ≡ (sampleNumber first 1 - sampleNumber first 0) / instrumentNumber k 1
+    opens-size k j low = rw (met .1) (filled-head-size file plain lent c accepted k j low)
 
     abbrev pub headIn : ℕ → List ℕ
     headIn k = headBytes (rowHeadSize c k) (drop (sampleNumber k 0) file)

@@ -4,7 +4,7 @@ use mathlib.Core.List.{List, [], _∷_}
 use mathlib.Core.Logic.{_↔_}
 use mathlib.Core.Path.{_≡_, refl, sym, ap, ap₂, _∙_, subst, subst₂}
 use native.Mathlib.Omega.{arith}
-use lib.ListN.{length, take}
+use lib.ListN.{length, take, getD}
 use lib.Seq.{take-append-seam, drop-append-seam}
 use Rattle.xm.specs.ModuleKind.{ModuleKind}
 use Rattle.xm.specs.Got.{Refusal, refused, _at_}
@@ -12,12 +12,12 @@ use Rattle.xm.specs.Answer.{Answer, gives, refuses, inFront, after, numbers}
 use Rattle.xm.specs.Module.{Content, moduleFormat, fileMost, readFile}
 use Rattle.xm.specs.Press.{pressed, pressing, pressedLength, pressNumbers, pressingAs}
 use Rattle.xm.specs.Convert.{converted, converting, convertNumbers}
-use Rattle.xm.specs.Demands.{FileOf, accepts, resultIn, pressedInto, ConvertedShortest, addedMost}
+use Rattle.xm.specs.Demands.{FileOf, KeptElse, accepts, resultIn, pressedInto, ConvertedShortest, addedMost}
 use Rattle.xm.proofs.Module.{module-back, module-keeps}
 use Rattle.xm.proofs.Kind.{kinds-told}
-use Rattle.xm.proofs.Press.{press-gives}
-use Rattle.xm.proofs.Convert.{kept-else, own-refusal-first}
-use Rattle.xm.proofs.Growth.{converts-within}
+use Rattle.xm.proofs.Press.{content-one, press-gives}
+use Rattle.xm.proofs.Convert.{kept-else, own-refusals-first}
+use Rattle.xm.proofs.Growth.{converts-within, converts-back}
 use Rattle.xm.proofs.Answer.{refused-exactly, refused-unchanged}
 use Rattle.xm.proofs.Demands.{demand₃, presses-whole, module-bytes}
 use Rattle.press.specs.Pressed.{pressedOf, pressedNumbers}
@@ -86,7 +86,7 @@ again-so kind x lent f room answer held h q =
     let bytes = pressed kind x in
     let stands : take (length bytes) (inFront bytes lent) ≡ bytes = take-append-seam bytes _ in
     let given =
-    ap (λ (s : List ℕ). pressing s (length room)) stands ∙ kinds-told kind x bytes f .presses (length room)
+    ap (λ (s : List ℕ). pressing s (length room)) stands ∙ kinds-told bytes .by-kind kind x f .presses (length room)
     ∙ press-gives (moduleFormat kind) (module-back kind) (module-keeps kind) f (length room) h in (
       fixed-numbers (pressing (take (length bytes) (inFront bytes lent)) (length room)) room q ∙ ap (numbers (pressedLength ∷ [])) given,
       ap (take (length bytes)) (q .1 ∙ ap (λ (x : Answer (List ℕ)). after (λ (b : List ℕ). b) x room) given)
@@ -100,7 +100,7 @@ module _ (kind : ModuleKind) (content : Content) (file : List ℕ) (f : FileOf (
 
   -- it is pressed as one of that kind
   own : (room : ℕ) → pressing file room ≡ pressingAs (moduleFormat kind) file room
-  own = kinds-told kind content file f .presses
+  own = kinds-told file .by-kind kind content f .presses
 
   -- what is left where the file was written
   written-so : Written kind content file lent (0 ∷ 0 ∷ length bytes ∷ []) (inFront bytes lent)
@@ -150,8 +150,28 @@ module _ (kind : ModuleKind) (content : Content) (file : List ℕ) (f : FileOf (
     convert-too-large = (λ e. d .too-large-exactly .0 (large .0 e), λ none. large .1 (d .too-large-exactly .1 none))
 
     -- in room for what it may add, or for the longest file there may be, never 14
-    pub convert-room : min (length file + addedMost to) fileMost ≤ length lent → pressedNumbers answer ≡ 14 ∷ 0 ∷ 0 ∷ [] → ⊥
+    pub convert-room : min (length file + addedMost kind to) fileMost ≤ length lent → pressedNumbers answer ≡ 14 ∷ 0 ∷ 0 ∷ [] → ⊥
     convert-room enough e = converts-within .room-enough kind to content file (length lent) f enough (narrow .0 e)
+
+    -- and never 2 where that is within the limit
+    pub convert-small : length file + addedMost kind to ≤ fileMost → pressedNumbers answer ≡ 2 ∷ 0 ∷ 0 ∷ [] → ⊥
+    convert-small within e = converts-within .never-over kind to content file (length lent) f within (large .0 e)
+
+    -- What was written, converted back, is the file pressed, but for the tracker name
+    pub convert-back : accepts (pressedNumbers answer) → (lent′ : List ℕ) {answer′ : Pressed} {held′ : List ℕ}
+        → Converts kind (take (resultIn (pressedNumbers answer) 0) held) lent′ answer′ held′ → length (pressed kind (converted content)) ≤ length lent′
+        → accepts (pressedNumbers answer′) × (take (resultIn (pressedNumbers answer′) 0) held′ ≡ pressed kind (converted content))
+    convert-back a lent′ p′ l =
+        let new = pressed to (converted content) in
+        let old = pressed kind (converted content) in
+        let none : (n : ℕ) → 0 < n → pressedNumbers answer ≡ n ∷ 0 ∷ 0 ∷ [] → ⊥ =
+        λ n some e. let z : _≡_ {A = ℕ} n 0 = ap (λ (ns : List ℕ). getD ns 0 0) (sym e) ∙ a in omega arith in
+        let given = d .given-else (λ e. none 2 (omega arith) (large .1 e)) (λ e. none 14 (omega arith) (narrow .1 e)) in
+        let stands = fixed-given fixed lent p (λ reported held. take (resultIn reported 0) held ≡ new) new given (take-append-seam new _) in
+        let back = converts-back .comes-back kind to content file f (length lent) (length lent′) new given l in
+        fixed-given (converting kind (take (resultIn (pressedNumbers answer) 0) held) (length lent′)) lent′ p′
+        (λ reported held. accepts reported × (take (resultIn reported 0) held ≡ old)) old
+        (ap (λ (s : List ℕ). converting kind s (length lent′)) stands ∙ back) (refl, take-append-seam old _)
 
     module _ (small : pressedNumbers answer ≡ 2 ∷ 0 ∷ 0 ∷ [] → ⊥) where
       -- else 14 exactly when none fits the room
@@ -162,34 +182,40 @@ module _ (kind : ModuleKind) (content : Content) (file : List ℕ) (f : FileOf (
           (λ e. exactly .0 (narrow .0 e), λ none. narrow .1 (exactly .1 none))
 
       -- otherwise one was written, and none is shorter
-      pub convert-written : (pressedNumbers answer ≡ 14 ∷ 0 ∷ 0 ∷ [] → ⊥) → WrittenAs to content file lent (pressedNumbers answer) held
+      pub convert-written : (pressedNumbers answer ≡ 14 ∷ 0 ∷ 0 ∷ [] → ⊥) → WrittenAs kind to content file lent (pressedNumbers answer) held
       convert-written wide =
           let new = pressed to (converted content) in
           let written = d .written (λ e. small (large .1 e)) in
           let stands : take (length new) (inFront new lent) ≡ new = take-append-seam new _ in
-          fixed-given fixed lent p (WrittenAs to content file lent) new (d .given-else (λ e. small (large .1 e)) (λ e. wide (narrow .1 e)))
+          fixed-given fixed lent p (WrittenAs kind to content file lent) new (d .given-else (λ e. small (large .1 e)) (λ e. wide (narrow .1 e)))
           (record {
             accepted = refl;
             reads = rw stands written;
-            kept = kept-else content;
+            kept = λ other o.
+                subst (KeptElse content) (content-one (moduleFormat to) (rw stands (d .written (λ e. small (large .1 e)))) o) (kept-else content);
             shortest = d .shortest;
             within = converts-within .no-longer kind to content file f;
             beyond = drop-append-seam new _;
             again = again-so to (converted content) lent written;
           })
 
--- A file that is refused gets its own refusal from a conversion too
+-- A file that is refused gets its own refusal, from the press and from a conversion
+pub press-refuses : (file lent : List ℕ) {answer : Pressed} {held : List ℕ} → Presses file lent answer held → (r : Refusal) → 0 < r .number
+    → readFile file ≡ refused r → pressedNumbers answer ≡ r .number ∷ r .place ∷ 0 ∷ []
+press-refuses file lent p r some e = fixed-refused (pressing file (length lent)) lent p r some .1 (own-refusals-first file r .press (length lent) e)
+
 pub convert-refuses : (to : ModuleKind) (file lent : List ℕ) {answer : Pressed} {held : List ℕ}
     → Converts to file lent answer held → (r : Refusal) → 0 < r .number → readFile file ≡ refused r
     → pressedNumbers answer ≡ r .number ∷ r .place ∷ 0 ∷ []
-convert-refuses to file lent p r some e = fixed-refused (converting to file (length lent)) lent p r some .1 (own-refusal-first to file (length lent) r e)
+convert-refuses to file lent p r some e =
+    fixed-refused (converting to file (length lent)) lent p r some .1 (own-refusals-first file r .convert to (length lent) e)
 
 -- What stands in the output, by the length reported, is what the definition says
 pressed-left : (kind : ModuleKind) (content : Content) (file : List ℕ) → FileOf (moduleFormat kind) content file
     → (lent : List ℕ) {answer : Pressed} {held : List ℕ} → Presses file lent answer held
     → (take (resultIn (pressedNumbers answer) 0) held ≡ pressedInto (moduleFormat kind) file lent)
 pressed-left kind content file f lent p =
-    let is = kinds-told kind content file f .is in
+    let is = kinds-told file .by-kind kind content f .is in
     ap₂ (λ (ns held : List ℕ). take (resultIn ns 0) held) (press-numbers file lent p) (p .1)
     ∙ ap (λ (k : ModuleKind). pressedInto (moduleFormat k) file lent) is
 
@@ -202,7 +228,7 @@ pub press-same : (kind : ModuleKind) (content content′ : Content) (file file�
 press-same kind content content′ file file′ lent lent′ f f′ p p′ a a′ =
     let left = pressed-left kind content file f lent p in
     let left′ = pressed-left kind content′ file′ f′ lent′ p′ in
-    let numbered = press-numbers file lent p ∙ ap (numbers (pressedLength ∷ [])) (kinds-told kind content file f .presses (length lent)) in
-    let numbered′ = press-numbers file′ lent′ p′ ∙ ap (numbers (pressedLength ∷ [])) (kinds-told kind content′ file′ f′ .presses (length lent′)) in
+    let numbered = press-numbers file lent p ∙ ap (numbers (pressedLength ∷ [])) (kinds-told file .by-kind kind content f .presses (length lent)) in
+    let numbered′ = press-numbers file′ lent′ p′ ∙ ap (numbers (pressedLength ∷ [])) (kinds-told file′ .by-kind kind content′ f′ .presses (length lent′)) in
     let same = module-bytes kind .same-exactly content content′ file file′ lent lent′ f f′ (subst accepts numbered a) (subst accepts numbered′ a′) in
     (λ e. same .0 (sym left ∙ e ∙ left′), λ e. left ∙ same .1 e ∙ sym left′)

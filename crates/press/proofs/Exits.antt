@@ -11,14 +11,13 @@ use Rattle.xm.specs.Got.{Got, got, refused, listIn, Told}
 use Rattle.xm.specs.Answer.{inFront}
 use Rattle.xm.specs.Header.{kindAt, writeHeader}
 use Rattle.xm.specs.Module.{Found, fileMost, moduleFormat, bodyFormat, readFile}
-use Rattle.xm.specs.Press.{contentOf, pressed, pressingAs}
+use Rattle.xm.specs.Press.{contentOf, pressed}
 use Rattle.xm.specs.Convert.{converted}
 use Rattle.xm.specs.Demands.{FileOf}
-use Rattle.xm.proofs.Got.{no-true, got-told, step-refused}
-use Rattle.xm.proofs.Answer.{answer-refuses}
+use Rattle.xm.proofs.Got.{no-true, got-told}
 use Rattle.xm.proofs.Module.{module-back, module-keeps}
 use Rattle.xm.proofs.Press.{press-gives, press-narrow, file-good}
-use Rattle.xm.proofs.Convert.{converted-good, own-refusal-first, convert-gives, convert-large, convert-narrow}
+use Rattle.xm.proofs.Convert.{converted-good, own-refusals-first, convert-gives, convert-large, convert-narrow}
 use Rattle.refusal.specs.Refusal.{paperRefusal}
 use Rattle.refusal.specs.declared.Refusal.{Refusal}
 use Rattle.mark.specs.Mark.{Marks}
@@ -52,11 +51,10 @@ module _ (to : ModuleKind) (file lent : List ℕ) where
   -- Refused by the walk
   module _ {step : WalkStep} {f r : Refusal} (e : step ≡ walkStep to (readFile file)) (told : step ≡ walked.Refused f) (passed : r ≡ walkRefusal step) where
     pub press-refused : Presses file lent (Refused r) lent
-    unfolding pressingAs
-    press-refused = rw (answer-refuses (λ bytes used. bytes) (step-refused _ (walk-refused to (readFile file) e told passed))) (refl, refl)
+    press-refused = rw (own-refusals-first file (paperRefusal r) .press (length lent) (walk-refused to (readFile file) e told passed)) (refl, refl)
 
     pub convert-refused : Converts to file lent (Refused r) lent
-    convert-refused = rw (own-refusal-first to file (length lent) (paperRefusal r) (walk-refused to (readFile file) e told passed)) (refl, refl)
+    convert-refused = rw (own-refusals-first file (paperRefusal r) .convert to (length lent) (walk-refused to (readFile file) e told passed)) (refl, refl)
 
   module _ {size : ℕ} (e : walked.Accepted size ≡ walkStep to (readFile file)) where
     pub accepted-told : (marks : List ℕ) → ((found : Found) (end : ℕ) → readFile file ≡ got found end → Marks file 0 (found .1 .0) marks)

@@ -34,13 +34,13 @@ pub record Written (kind : ModuleKind) (content : Content) (file lent reported h
   pub beyond : drop (resultIn reported 0) held ≡ drop (resultIn reported 0) lent
   pub again : PressesAgain reported held
 
--- Of a file that was converted: what was written is an acceptable file of the target's kind, of the same content but for the tracker name,
+-- Of a file of a kind that was converted: what was written is an acceptable file of the target's kind, of the same content but for the tracker name,
 -- none is shorter, it is longer than the input by no more than is said, what lies beyond stays, and pressing it changes nothing.
-pub record WrittenAs (to : ModuleKind) (content : Content) (file lent reported held : List ℕ) : Type 0 where
+pub record WrittenAs (kind to : ModuleKind) (content : Content) (file lent reported held : List ℕ) : Type 0 where
   pub accepted : accepts reported
   pub reads : FileOf (moduleFormat to) (converted content) (take (resultIn reported 0) held)
-  pub kept : KeptElse content (converted content)
+  pub kept : (other : Content) → FileOf (moduleFormat to) other (take (resultIn reported 0) held) → KeptElse content other
   pub shortest : (other : List ℕ) → FileOf (moduleFormat to) (converted content) other → resultIn reported 0 ≤ length other
-  pub within : resultIn reported 0 ≤ length file + addedMost to
+  pub within : resultIn reported 0 ≤ length file + addedMost kind to
   pub beyond : drop (resultIn reported 0) held ≡ drop (resultIn reported 0) lent
   pub again : PressesAgain reported held

@@ -1,7 +1,8 @@
 -- What holds of every answer and memory that meet the contracts of the check with tables. Assumes nothing.
-use Prim.Native.Nat.{ℕ, zero, suc, _+_, _*_, _≤_, _<_}
+use Prim.Native.Nat.{ℕ, zero, suc, _+_, _-_, _*_, _/_, _≤_, _<_}
 use mathlib.Core.List.{List, [], _∷_}
 use mathlib.Core.Path.{_≡_, refl, sym, ap, _∙_}
+use native.Mathlib.Nat.{add-sub-cancel-left, mul-div-cancel-left}
 use native.Mathlib.Omega.{arith}
 use lib.IntN.{ℤ}
 use lib.ListN.{length, getD, drop}
@@ -15,12 +16,12 @@ use Rattle.xm.specs.Adpcm.{decodingBy, valuesOf}
 use Rattle.xm.specs.Sample.{leastHead, headBytes, lengthOf, kindOf}
 use Rattle.xm.specs.Module.{regionsOf}
 use Rattle.xm.specs.Press.{contentOf}
-use Rattle.xm.specs.Table.{PatternRow, patternRows, sampleRows, CheckReport, checkIntoNumbers, checkingInto, patternStride, sampleStride, patternNumbers}
-use Rattle.xm.specs.Table.{sampleNumbers, Tables, Room, roomOf, tablesAfter}
-use Rattle.xm.specs.Asking.{stretchOf, askingFlat, noRow}
+use Rattle.xm.specs.Table.{PatternRow, patternRows, InstrumentRow, instrumentRows, sampleRows, CheckReport, checkIntoNumbers, checkingInto}
+use Rattle.xm.specs.Table.{patternStride, instrumentStride, sampleStride, patternNumbers, instrumentNumbers, sampleNumbers, Tables, Room, roomOf, tablesAfter}
+use Rattle.xm.specs.Asking.{nowhere, stretchOf, askingFlat, noRow}
 use Rattle.xm.specs.Region.{ofKind}
-use Rattle.xm.specs.Demands.{headsIn, bytesIn, RowUnpacks, RowsUnpack, LoopReads, AcceptedFile, stretchAt}
-use Rattle.xm.proofs.Accepted.{accepted-files, number-at, nowhere, loop-at, decodes-at, normal-byte}
+use Rattle.xm.specs.Demands.{headsIn, bytesIn, RowUnpacks, RowsUnpack, LoopReads, TellsHeads, AcceptedFile, stretchAt}
+use Rattle.xm.proofs.Accepted.{accepted-files, number-at, all-at, loop-at, decodes-at, normal-byte}
 use Rattle.refusal.specs.declared.Refusal.{Refusal}
 use Rattle.walk.specs.declared.Verdict.{Verdict}
 use Rattle.walk.specs.declared.Verdict.the-variants.{Refused}
@@ -70,6 +71,10 @@ rowHeadSize c number = getD (ofKind sampleHeader (regionsOf (c .found))) number 
 abbrev pub valuesAt : CheckReport → (number : ℕ) → List ℤ
 valuesAt c number = valuesOf (headAt c number) (getD (bytesIn (contentOf (c .found))) number [])
 
+divided : (behind front count size : ℕ) → 0 < count → behind ≡ front + count * size → size ≡ (behind - front) / count
+divided behind front count size some e =
+    sym (ap (λ (n : ℕ). (n - front) / count) e ∙ ap (λ (n : ℕ). n / count) (add-sub-cancel-left front (count * size)) ∙ mul-div-cancel-left size some)
+
 -- Of the tables that an accepted check leaves
 module _ (file : List ℕ) (plain : Bytes file) (lent : Tables) (c : CheckReport) (accepted : checkingInto (roomOf lent) file ≡ gives c) where
   found : AcceptedFile file (c .found) (c .end)
@@ -106,6 +111,34 @@ module _ (file : List ℕ) (plain : Bytes file) (lent : Tables) (c : CheckReport
   filled-decodes number low =
       rw (filled-asked number low, sample-number number 0 low (omega arith), sample-number number 3 low (omega arith))
       (decodes-at file (c .found) (c .end) found number low (length (valuesAt c number)) (omega arith))
+
+  -- which is told by the numbers of its instrument's row and of that one's first sample row;
+  abbrev pub instrumentNumber : (number k : ℕ) → ℕ
+  instrumentNumber number k = getD (filled .instruments) (instrumentStride * number + k) 0
+
+  abbrev noInstrument : InstrumentRow
+  noInstrument = record { place = 0; samples = 0; first = 0 }
+
+  instrument-number : (number k : ℕ) → number < length (instrumentRows (c .found)) → k < instrumentStride
+      → instrumentNumber number k ≡ getD (instrumentNumbers (getD (instrumentRows (c .found)) number noInstrument)) k 0
+  unfolding tablesAfter
+  instrument-number number k low l =
+      let rows = instrumentRows (c .found) in
+      rw accepted
+      (number-at instrumentStride instrumentNumbers (λ row. refl) rows noInstrument (drop (length (joined instrumentNumbers rows)) (lent .instruments))
+      number k low l)
+
+  pub filled-head-size : (number j : ℕ) → number < length (instrumentRows (c .found)) → j < instrumentNumber number 1
+      → let first = instrumentNumber number 2 in
+      rowHeadSize c (first + j) ≡ (sampleNumber first 1 - sampleNumber first 0) / instrumentNumber number 1
+  filled-head-size number j low some =
+      let k = instrument-number number 1 low (omega arith) in
+      let f = instrument-number number 2 low (omega arith) in
+      let row = getD (instrumentRows (c .found)) number noInstrument in
+      let told = all-at (TellsHeads (ofKind sampleHeader (regionsOf (c .found))) (sampleRows (c .found))) (instrumentRows (c .found)) number noInstrument
+      (found .rows-tell-heads) low j (omega arith) in
+      rw (f, k, sample-number (row .first) 0 (omega (arith, told .0)) (omega arith), sample-number (row .first) 1 (omega (arith, told .0)) (omega arith))
+      (divided _ _ (row .samples) (rowHeadSize c (row .first + j)) (omega arith) (told .1))
 
   -- and whole in a normal module;
   pub filled-whole : c .found .0 .kind ≡ normal → (number : ℕ) → number < length (sampleRows (c .found)) → (k : ℕ) → k < leastHead

@@ -1,19 +1,20 @@
 -- The definitions worked on small numbers, by computation. Modules are checked in the order of their names, and this one before the laws: so a wrong
 -- definition is refused first by a number that differs. Assumes nothing.
 use Prim.Native.Nat.{ℕ}
+use mathlib.Core.Bool.{true, false}
 use mathlib.Core.List.{List, [], _∷_, _++_, map}
 use mathlib.Core.Path.{_≡_, refl}
 use lib.Count.{ones, onesIn}
 use lib.IntN.{pos, negsuc}
-use lib.ListN.{length, drop, replicate}
+use lib.ListN.{length, take, drop, replicate}
 use Rattle.xm.specs.Number.{byteAt, wordAt, longAt, long, signed}
 use Rattle.xm.specs.ModuleKind.{ModuleKind, normal, stripped, padded, before, trimmed}
-use Rattle.xm.specs.Got.{Got, got, refused, _>>=_, _>>_, ensure, checked}
+use Rattle.xm.specs.Got.{Got, got, refused, listIn, _>>=_, _>>_, ensure, checked}
 use Rattle.xm.specs.Format.{Region, Kind, header, patternHeader, patternData, instrument, sampleHeader, sampleData}
 use Rattle.xm.specs.Answer.{loaderNumber}
 use Rattle.xm.specs.Cell.{lengthBy, fieldsBy, cellAt, readCell, kept, marks, kepts, marked, plainBy, standsPlain, plainShorter, goesPlain, writeCell}
 use Rattle.xm.specs.Stored.{readCells, readStored, allZero, needsNoData, writeStored, cellsOf}
-use Rattle.xm.specs.Header.{kindAt, restartInside, restartOf, trackerAt, readHeader, writeHeader}
+use Rattle.xm.specs.Header.{isStripped, kindAt, restartInside, restartOf, trackerAt, readHeader, writeHeader}
 use Rattle.xm.specs.PatternInFile.{PatternFound, readPattern, writePattern}
 use Rattle.xm.specs.Sample.{StretchFound, Samples, headBytes, lengthOf, loopKind, loopFrom, loopCount, adpcm, dataSize, readHead, readData, smallestHead}
 use Rattle.xm.specs.Instrument.{InstrumentFound, countAt, fieldsOf, readInstrument, writeVoice, writeFields, writeInstrument, instrumentFormat}
@@ -21,14 +22,14 @@ use Rattle.xm.specs.Module.{readWhole, plays}
 use Rattle.xm.specs.Packing.{unpacking, unpackNumbers, unpackAfter, packing, packNumbers, packLoader}
 use Rattle.xm.specs.Delta.{pairs, storedNumbers, sums, decoded, decoding, decodeNumbers}
 use Rattle.xm.specs.Adpcm.{halves, chosen, adpcmDecoded}
-use Rattle.xm.specs.Table.{patternRow, sampleRowAt, InstrumentRow, instrumentRowsFrom, checking}
+use Rattle.xm.specs.Table.{patternRow, SampleRow, sampleRowAt, sampleRowsIn, InstrumentRow, instrumentRowsFrom, checking}
 use Rattle.xm.specs.Table.{checkNumbers, checkingInto, checkIntoLoader, patternNumbers, sampleNumbers}
 use Rattle.xm.specs.Asking.{asking, askNumbers, askingFlat}
 use Rattle.xm.specs.Structure.{kindNumber, structuresOf, Standing, stands, ended, handHead, handOver}
-use Rattle.xm.specs.Press.{pressed}
-use Rattle.xm.specs.Convert.{convertTests, converting}
+use Rattle.xm.specs.Press.{pressed, pressingAs, pressNumbers}
+use Rattle.xm.specs.Convert.{convertTests, converting, convertNumbers}
 use Rattle.xm.specs.Bench.{answerList}
-use Rattle.xm.specs.Worked.{headed, small, noBytes, counted, fiveBytes, sampled, noted}
+use Rattle.xm.specs.Worked.{headed, small, named, noBytes, counted, fiveBytes, sampled, noted}
 use Rattle.xm.specs.Wrong.{song}
 
 -- A note of 200 is read whole; a full cell with a note of 128 is written marked, in six bytes, and with one of 127 plain
@@ -177,17 +178,33 @@ unfolding checking checkingInto loaderNumber readWhole _>>=_ _>>_ ensure checked
 song-checked = (refl, refl, refl)
 
 -- A stripped header of one order: by its mark, version and header size it is refused with 4, read, refused with 4 as a normal one, and refused with
--- 3 as neither. No byte of its tracker name is read, and 81 bytes are written
-abbrev headerBy : (mark version size : ℕ) → List ℕ
-headerBy mark version size = headed mark version size 0 (replicate 17 1) (replicate 20 1) (replicate 1 0)
+-- 3 as neither, which is not taken for a stripped one. No byte of its tracker name is read, and 81 bytes are written, of
+-- which the first are nulls
+abbrev headerBy : (mark : ℕ) (version : List ℕ) (size : ℕ) → List ℕ
+headerBy mark version size = headed (replicate 17 1) (mark ∷ []) (replicate 20 1) version (size ∷ 0 ∷ 0 ∷ 0 ∷ []) 0 (replicate 1 0)
 
-pub header-kinds : (map (λ (s : List ℕ). numberOf (readHeader (kindAt s) 0 s))
-    (headerBy 0 0 20 ∷ headerBy 0 0 21 ∷ headerBy 0x1A 0x0104 21 ∷ headerBy 0 0x0104 21 ∷ headerBy 0x1A 0 21 ∷ [])
-    ≡ 4 ∷ 0 ∷ 4 ∷ 3 ∷ 3 ∷ [])
-    × (trackerAt stripped (headerBy 0 0 21) ≡ replicate 20 0)
+abbrev noVersion : List ℕ
+noVersion = 0 ∷ 0 ∷ []
+
+abbrev version104 : List ℕ
+version104 = 4 ∷ 1 ∷ []
+
+abbrev headers : List (List ℕ)
+headers =
+    headerBy 0 noVersion 20
+    ∷ headerBy 0 noVersion 21
+    ∷ headerBy 0x1A version104 21
+    ∷ headerBy 0 version104 21
+    ∷ headerBy 0x1A noVersion 21
+    ∷ []
+
+pub header-kinds : (map isStripped headers ≡ true ∷ true ∷ false ∷ false ∷ false ∷ [])
+    × (map (λ (s : List ℕ). numberOf (readHeader (kindAt s) 0 s)) headers ≡ 4 ∷ 0 ∷ 4 ∷ 3 ∷ 3 ∷ [])
+    × (trackerAt stripped (headerBy 0 noVersion 21) ≡ replicate 20 0)
     × (map (λ (kind : ModuleKind). length (writeHeader kind (song .0))) (normal ∷ stripped ∷ []) ≡ 336 ∷ 81 ∷ [])
+    × (map (λ (kind : ModuleKind). take 3 (writeHeader kind (song .0))) (normal ∷ stripped ∷ []) ≡ (69 ∷ 120 ∷ 116 ∷ []) ∷ (0 ∷ 0 ∷ 0 ∷ []) ∷ [])
 unfolding kindAt readHeader writeHeader _>>_ ensure checked restartInside restartOf wordAt longAt
-header-kinds = (refl, refl, refl)
+header-kinds = (refl, refl, refl, refl, refl)
 
 -- A stripped instrument's k is 5 and 7 in two bytes: with I = 27, 28 and 29 neither of them, the first, and both are there. The same of a sample
 -- header's length by H
@@ -215,6 +232,15 @@ pub smallest : (map smallestHead
 unfolding smallestHead writeInstrument writeFields trimmed before
 smallest = (refl, refl, refl)
 
+-- Two sample headers of a byte each stand behind the 30 bytes of an instrument at 90, and then their data, of two bytes and of three
+abbrev twoSamples : List ℕ
+twoSamples = 30 ∷ replicate 26 0 ++ 2 ∷ 0 ∷ 1 ∷ 2 ∷ 3 ∷ 1 ∷ 2 ∷ 3 ∷ 4 ∷ 5 ∷ []
+
+pub heads-behind : (listIn (λ (i : InstrumentFound). map SampleRow.headerPlace (sampleRowsIn i)) (readInstrument stripped 90 twoSamples) ≡ 120 ∷ 121 ∷ [])
+    × (listIn (λ (i : InstrumentFound). map SampleRow.dataPlace (sampleRowsIn i)) (readInstrument stripped 90 twoSamples) ≡ 122 ∷ 124 ∷ [])
+unfolding readInstrument readHead readData dataSize padded _>>=_ _>>_ ensure checked wordAt longAt
+heads-behind = (refl, refl)
+
 -- Of a stripped file with two sample headers of no bytes at its end the reader hands both over, and an instrument by the file's kind
 abbrev placeIn : Standing → ℕ
 placeIn (stands kind place) = place
@@ -226,11 +252,18 @@ pub handed-over :
 unfolding handOver kindAt readInstrument readHead readData dataSize padded _>>=_ _>>_ ensure checked wordAt longAt
 handed-over = (refl, refl)
 
--- A conversion takes the tracker name away and writes the 81 bytes of a header and nine of a pattern; 2 is tried before 14, and 14 within the limit
-pub converted-small : (answerList (λ (x : List ℕ). length x ∷ byteAt 38 x ∷ [])
-    (converting stripped (headed 0x1A 0x0104 276 0 (replicate 17 1) (replicate 20 1) (replicate 256 0)) 1000)
-    ≡ 90 ∷ 0 ∷ [])
+-- A conversion takes the tracker name away, keeps tempo and BPM, and writes the 81 bytes of a header and nine of a pattern; 2 is tried before 14,
+-- and 14 within the limit
+pub converted-small : (answerList (λ (x : List ℕ). length x ∷ byteAt 38 x ∷ wordAt 76 x ∷ wordAt 78 x ∷ [])
+    (converting stripped (named (0x1A ∷ []) version104) 1000)
+    ≡ 90 ∷ 0 ∷ 6 ∷ 125 ∷ [])
     × (map (λ (size : ℕ). numberOf (checked (convertTests size 16777215))) (16777217 ∷ 16777216 ∷ 16777215 ∷ []) ≡ 2 ∷ 14 ∷ 0 ∷ [])
 unfolding converting readWhole _>>=_ _>>_ ensure checked kindAt restartInside restartOf readHeader writeHeader readPattern writePattern readStored writeStored
     needsNoData allZero wordAt longAt
 converted-small = (refl, refl)
+
+-- No bytes in no room: the file's own refusal comes first
+pub own-first : (pressNumbers [] 0 ≡ 1 ∷ 0 ∷ 0 ∷ [])
+    × (map (λ (to : ModuleKind). convertNumbers to [] 0) (normal ∷ stripped ∷ []) ≡ (1 ∷ 0 ∷ 0 ∷ []) ∷ (1 ∷ 0 ∷ 0 ∷ []) ∷ [])
+unfolding pressingAs converting readWhole _>>=_ _>>_ ensure checked kindAt readHeader
+own-first = (refl, refl)

@@ -25,9 +25,10 @@ use Rattle.xm.specs.Table.{sampleRowsOf, sampleRowsIn, sampleRows, sampl
 use Rattle.xm.specs.Press.{contentOf}
 use Rattle.xm.specs.Answer.{gives}
 use Rattle.xm.specs.Region.{ofKind}
-use Rattle.xm.specs.Asking.{Stretch, asking, stretchOf, askingFlat, askingRows, noRow, rowStretch}
-use Rattle.xm.specs.Demands.{headsIn, bytesIn, RowUnpacks, RowsUnpack, FindsRows, HeadStands, HeadsStand, EachSample, RowReads}
-use Rattle.xm.specs.Demands.{LoopReads, RowLoops, RowDecodes, stretchAt, Asked, AsksExactly, LoopInside, AcceptedFile, AcceptedFiles}
+use Rattle.xm.specs.Asking.{Stretch, nowhere, asking, stretchOf, askingFlat, askingRows, noRow, rowStretch}
+use Rattle.xm.specs.Demands.{headsIn, bytesIn, RowUnpacks, RowsUnpack, FindsRows, HeadStands, HeadsStand, HeadsFrom, FirstData, HeadsTogether}
+use Rattle.xm.specs.Demands.{TellsHeads, EachSample, RowReads, LoopReads, RowLoops, RowDecodes, stretchAt, Asked, AsksExactly}
+use Rattle.xm.specs.Demands.{LoopInside, AcceptedFile, AcceptedFiles}
 use Rattle.xm.proofs.Cut.{padded-at, byte-cut}
 use Rattle.xm.proofs.Got.{pass}
 use Rattle.xm.proofs.Answer.{answer-gives, answer-refuses, tests-fail}
@@ -37,6 +38,7 @@ use Rattle.xm.proofs.Run.{stored-anywhere}
 use Rattle.xm.proofs.PatternInFile.{PatternTold}
 use Rattle.xm.proofs.Sample.{HeadTold, DataTold, Sized, SamplesTold}
 use Rattle.xm.proofs.Instrument.{normal-wide}
+use Rattle.xm.proofs.Stands.{fields-stand, heads-together}
 use Rattle.xm.proofs.Module.{module-keeps, module-adjoins, module-told, module-tells, whole-read}
 use Rattle.xm.proofs.Kind.{kind-found}
 use Rattle.xm.proofs.Region.{Before, adjoin-regions, kind-before}
@@ -60,7 +62,7 @@ all-with : {A : Type 0} (P Q : A → Type 0) → ((x : A) → P x → Q x) → (
 all-with P Q h [] p = tt
 all-with P Q h (x ∷ xs) p = (h x (p .0), all-with P Q h xs (p .1))
 
-all-at : {A : Type 0} (P : A → Type 0) (xs : List A) (k : ℕ) (d : A) → All P xs → k < length xs → P (getD xs k d)
+pub all-at : {A : Type 0} (P : A → Type 0) (xs : List A) (k : ℕ) (d : A) → All P xs → k < length xs → P (getD xs k d)
 all-at P [] k d p h = absurd (omega arith)
 all-at P (x ∷ xs) zero d p h = p .0
 all-at P (x ∷ xs) (suc k) d p h = all-at P xs k d (p .1) (omega arith)
@@ -174,6 +176,55 @@ finds-rows file before first (i ∷ is) e t =
       subst (λ (all : List SampleRow). FindsRows all (instrumentRowsFrom (first + sampleCount i) is) is) (append-assoc before (sampleRowsIn i) rest)
           (finds-rows file (before ++ sampleRowsIn i) (first + sampleCount i) is (length-append before (sampleRowsIn i) ∙ ap₂ _+_ e n) (t .1)),
     )
+
+-- and tell, with the instrument's, the size of its sample headers
+sizes-at : (size : ℕ) (heads : List StretchFound) (j : ℕ) → All (λ (h : StretchFound). h .size ≡ size) heads → j < length heads
+    → getD (map foundStretch heads) j nowhere .size ≡ size
+sizes-at size [] j z l = absurd (omega arith)
+sizes-at size (h ∷ heads) zero z l = z .0
+sizes-at size (h ∷ heads) (suc j) z l = sizes-at size heads j (z .1) (omega arith)
+
+first-tells : (rows : List SampleRow) (place size count : ℕ) → 0 < length rows → HeadsFrom place size rows → FirstData (place + count * size) rows
+    → getD rows 0 noRow .dataPlace ≡ getD rows 0 noRow .headerPlace + count * size
+first-tells [] place size count l h d = absurd (omega arith)
+first-tells (row ∷ rows) place size count l h d = d ∙ ap (λ (n : ℕ). n + count * size) (sym (h .0))
+
+module _ (file : List ℕ) where
+  abbrev headsOf : InstrumentFound → List Stretch
+  headsOf i = map foundStretch (i .samples .0)
+
+  rows-tell : (heads : List Stretch) (before : List SampleRow) (first : ℕ) (is : List InstrumentFound) → length heads ≡ first → length before ≡ first
+      → All (λ (i : InstrumentFound). SamplesTold file (i .samples)) is → All (HeadsTogether file) is
+      → All (TellsHeads (heads ++ joined headsOf is) (before ++ joined sampleRowsIn is)) (instrumentRowsFrom first is)
+  rows-tell heads before first [] e q t g = tt
+  rows-tell heads before first (i ∷ is) e q t g =
+      let rows = sampleRowsIn i in
+      let n = rows-length (i .samples .0) (i .samples .1) (t .0 .sizes) in
+      let k = sampleCount i in
+      let own = g .0 in (
+        λ j l.
+            let size : getD (heads ++ (headsOf i ++ joined headsOf is)) (first + j) nowhere .size ≡ own .size =
+            ap (λ (s : Stretch). s .size)
+            (ap (λ (f : ℕ). getD (heads ++ (headsOf i ++ joined headsOf is)) (f + j) nowhere) (sym e)
+            ∙ getD-append-add heads (headsOf i ++ joined headsOf is) j nowhere
+            ∙ List·getD-append (headsOf i) (joined headsOf is) nowhere j (omega (arith, length-map (i .samples .0) foundStretch)))
+            ∙ sizes-at (own .size) (i .samples .0) j (own .sized) l in
+            let start : first ≡ length before + 0 = omega (arith, q) in
+            let row : getD (before ++ (rows ++ joined sampleRowsIn is)) first noRow ≡ getD rows 0 noRow =
+            ap (λ (f : ℕ). getD (before ++ (rows ++ joined sampleRowsIn is)) f noRow) start
+            ∙ getD-append-add before (rows ++ joined sampleRowsIn is) 0 noRow
+            ∙ List·getD-append rows (joined sampleRowsIn is) noRow 0 (omega (arith, n)) in
+            let rest = joined sampleRowsIn is in (
+              omega (arith, n, q, l, length-append before (rows ++ rest), length-append rows rest),
+              rw (row, size) (first-tells rows (i .place + i .size) (own .size) k (omega (arith, n)) (own .headers) (own .data-behind)),
+            ),
+        subst (λ (all : List Stretch). All (TellsHeads all (before ++ (rows ++ joined sampleRowsIn is))) (instrumentRowsFrom (first + k) is))
+            (append-assoc heads (headsOf i) (joined headsOf is))
+            (subst (λ (all : List SampleRow). All (TellsHeads ((heads ++ headsOf i) ++ joined headsOf is) all) (instrumentRowsFrom (first + k) is))
+            (append-assoc before rows (joined sampleRowsIn is))
+            (rows-tell (heads ++ headsOf i) (before ++ rows) (first + k) is
+            (length-append heads (headsOf i) ∙ ap₂ _+_ e (length-map (i .samples .0) foundStretch)) (length-append before rows ∙ ap₂ _+_ q n) (t .1) (g .1))),
+      )
 
 -- A sample asked for by number
 pub asks-exactly : AsksExactly
@@ -294,6 +345,11 @@ accepted-files file found end b e =
           (rw (sym (length-map (found .1 .0) PatternFound.content) ∙ n ∙ length-replicate (x .patterns) (x .channels)) (w .good .1 .0));
       rows-found = finds-rows file [] 0 (found .1 .1) refl (t .instruments);
       heads-stand = rw (heads-lie file found (t .instruments), joined-map _ instrumentView (found .1 .1)) (all-stand file (found .1 .1) (t .instruments));
+      fields-stand = module-told kind (fields-stand kind) file found end b e .1;
+      heads-together = module-told kind (heads-together kind) file found end b e .1;
+      rows-tell-heads =
+          rw (heads-lie file found (t .instruments))
+          (rows-tell file [] [] 0 (found .1 .1) refl refl (t .instruments) (module-told kind (heads-together kind) file found end b e .1));
       heads-whole = λ q.
           let is-normal = sym (kind-found kind file found end e) ∙ q in
           let as-normal = subst (λ (k : ModuleKind). moduleFormat k .read tt 0 file ≡ got found end) is-normal e in
@@ -311,9 +367,6 @@ accepted-files file found end b e =
     }
 
 -- The header of a sample, where its row says that it stands and as far as its region goes: each byte, and the length that its first four say
-abbrev pub nowhere : Stretch
-nowhere = record { place = 0; size = 0 }
-
 stands-at : (file : List ℕ) (ls : List Stretch) (heads : List (List ℕ)) (number : ℕ) → number < length ls → HeadsStand file ls heads
     → HeadStands file (getD ls number nowhere) (getD heads number [])
 stands-at file [] heads number h e = absurd (omega arith)

@@ -6,18 +6,18 @@ use native.Mathlib.Decide.{decLe}
 use native.Mathlib.Omega.{arith}
 use lib.ListN.{length, replicate}
 use Rattle.xm.specs.ModuleKind.{ModuleKind, normal, stripped}
-use Rattle.xm.specs.Got.{got, present, _at_}
+use Rattle.xm.specs.Got.{Refusal, got, present, _at_}
 use Rattle.xm.specs.Format.{EachGood}
 use Rattle.xm.specs.Answer.{Answer, gives, refuses, answered, numberOf}
 use Rattle.xm.specs.Header.{Header, noTracker, GoodTracker, GoodHeader}
 use Rattle.xm.specs.Instrument.{Instrument, instrumentFormat}
 use Rattle.xm.specs.Module.{Content, moduleFormat, fileMost, readFile}
-use Rattle.xm.specs.Press.{contentOf, pressed}
+use Rattle.xm.specs.Press.{contentOf, pressed, pressingAs}
 use Rattle.xm.specs.Convert.{withoutTracker, converted, converting}
-use Rattle.xm.specs.Demands.{FileOf, OwnRefusalFirst, KeptElse, ConvertsShortest, ConvertsBack}
+use Rattle.xm.specs.Demands.{FileOf, OwnRefusalsFirst, KeptElse, ConvertsShortest}
 use Rattle.xm.proofs.Number.{bytes-zeros}
 use Rattle.xm.proofs.Got.{pass, step, step-refused, test-holds, test-fails}
-use Rattle.xm.proofs.Answer.{answer-refuses, gives-refuses, gives-same}
+use Rattle.xm.proofs.Answer.{answer-refuses, gives-refuses}
 use Rattle.xm.proofs.Module.{module-back, module-keeps}
 use Rattle.xm.proofs.Kind.{kind-fits, kind-reads}
 use Rattle.xm.proofs.Press.{pressed-file, pressed-shortest, file-size, file-good}
@@ -69,9 +69,12 @@ kept-else x = record {
 }
 
 -- A refused file
-pub own-refusal-first : OwnRefusalFirst
-unfolding converting
-own-refusal-first to file room r e = answer-refuses _ (step-refused _ e)
+pub own-refusals-first : (file : List ℕ) (r : Refusal) → OwnRefusalsFirst file r
+unfolding pressingAs converting
+own-refusals-first file r = record {
+  press = λ room e. answer-refuses _ (step-refused _ e);
+  convert = λ to room e. answer-refuses _ (step-refused _ e);
+}
 
 -- Of a file of a kind
 module _ (kind to : ModuleKind) {content : Content} {file : List ℕ} (f : FileOf (moduleFormat kind) content file) where
@@ -171,7 +174,7 @@ converts-shortest kind to content file room f = record {
     no-shorter other o = pressed-shortest (moduleFormat to) (module-back to) (module-keeps to) o
 
 -- A stripped file has no tracker name to lose, so that its content comes back
-stripped-content : (x : Content) → moduleFormat stripped .Good tt x → converted x ≡ x
+pub stripped-content : (x : Content) → moduleFormat stripped .Good tt x → converted x ≡ x
 stripped-content x g = ap (λ (name : List ℕ). (named name, x .1)) (sym (g .0 .tracker-good))
   where
     named : List ℕ → Header
@@ -188,18 +191,3 @@ stripped-content x g = ap (λ (name : List ℕ). (named name, x .1)) (sym (g .0 
       bpm = x .0 .bpm;
       orders = x .0 .orders;
     }
-
-pub converts-back : ConvertsBack
-converts-back content file f room room′ bytes e l =
-    let d = converts-shortest stripped normal content file room f in
-    let back = module-back stripped in
-    let keeps = module-keeps stripped in
-    let small : converting normal file room ≡ refuses (2 at 0) → ⊥ = gives-refuses e in
-    let same = gives-same (sym (d .given-else small (gives-refuses e)) ∙ e) in
-    let is = stripped-content content (file-good (moduleFormat stripped) back keeps f) in
-    let shorter = pressed-shortest (moduleFormat stripped) back keeps f in
-    let size = file-size (moduleFormat stripped) back keeps f in
-    let long = ap (λ (x : Content). length (pressed stripped x)) is in
-    ap (λ (s : List ℕ). converting stripped s room′) (sym same)
-    ∙ convert-gives normal stripped (d .written small) room′ (omega arith) (omega arith)
-    ∙ ap {B = Answer (List ℕ)} (λ (x : Content). gives (pressed stripped x)) is

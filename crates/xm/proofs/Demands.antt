@@ -15,14 +15,15 @@ use Rattle.xm.specs.Header.{Header, songLengthAt, restartAt, restartInsi
 use Rattle.xm.specs.Sample.{StretchFound}
 use Rattle.xm.specs.Instrument.{Instrument, InstrumentFound, instrumentView}
 use Rattle.xm.specs.Module.{Found, Content, moduleFormat, fileMost, readFile, plays}
-use Rattle.xm.specs.Delta.{sums, storedNumbers, decoded, decoding, coding, countWritten, deltaMost, limitTest}
+use Rattle.xm.specs.Delta.{storedNumbers, decoded, decoding, coding, countWritten, deltaMost, limitTest}
 use Rattle.xm.specs.Adpcm.{chosen, adpcmDecoded, adpcmDecoding, adpcmMost}
 use Rattle.xm.specs.Table.{CheckReport, checkedAs, checkResults, checking, checkNumbers, checkLoader, checkingInto, checkIntoLoader, Tables}
 use Rattle.xm.specs.Table.{Room, roomOf, roomTests, tablesAfter, patternRows, instrumentRows, sampleRowsIn, sampleRows, patternStride}
 use Rattle.xm.specs.Table.{instrumentStride, sampleStride, tuneStride, patternNumbers, instrumentNumbers, sampleNumbers, sampleTunes}
 use Rattle.xm.specs.Press.{pressed, pressingAs, pressing, pressLoader, contentOf, pressedLength}
 use Rattle.xm.specs.Demands.{KeepsPromise, TablesKept, Demand₁, Demand₂, Demand₃, CheckTells, countsOf, RunningSums, AdpcmTells, PressesWhole}
-use Rattle.xm.specs.Demands.{SameBytes, HasRoom, TablesTell, RestIgnored, RestartsRead, PlaysOrders, LoaderTells, Limited, LoadersTell, FileOf}
+use Rattle.xm.specs.Demands.{SameBytes, KeptElse, ConvertsKeep, HasRoom, TablesTell, RestIgnored, RestartsRead, PlaysOrders}
+use Rattle.xm.specs.Demands.{LoaderTells, Limited, LoadersTell, FileOf}
 use Rattle.xm.proofs.Got.{refused-tests, refused-bind, got-never, pass, passed, step, step-refused, bind-got}
 use Rattle.xm.proofs.Answer.{answer-gives, answer-refuses, gives-got, gives-passed, gives-bound, gives-same, gives-refuses}
 use Rattle.xm.proofs.Answer.{refuses-refused, tests-fail, behind-holds, behind-fails, behind-gave, behind-refused}
@@ -39,8 +40,8 @@ use Rattle.xm.proofs.Sample.{SamplesTold}
 use Rattle.xm.proofs.Module.{module-back, module-keeps, module-firm, module-tells, whole-read, whole-firm}
 use Rattle.xm.proofs.Kind.{kind-fits, kind-reads, kinds-told}
 use Rattle.xm.proofs.Accepted.{rows-length}
-use Rattle.xm.proofs.Convert.{converts-shortest}
-use Rattle.xm.proofs.Press.{pressed-exactly, pressed-shortest, pressed-reads, pressed-ends, pressed-back, same-bytes}
+use Rattle.xm.proofs.Convert.{kept-else, converts-shortest}
+use Rattle.xm.proofs.Press.{content-one, pressed-exactly, pressed-shortest, pressed-reads, pressed-ends, pressed-back, same-bytes}
 
 -- Check: its refusals, where it ends, and what it counts
 file-refusal : (file : List ℕ) (r : Refusal) → Bytes file → checking file ≡ refuses r → FileRefusal file r
@@ -72,7 +73,7 @@ check-tells : CheckTells
 unfolding checking
 check-tells = record {
   accepted = λ kind content file f.
-      found-counts file (f .found) (f .end) (f .plain) (kinds-told kind content file f .reads ∙ f .reads)
+      found-counts file (f .found) (f .end) (f .plain) (kinds-told file .by-kind kind content f .reads ∙ f .reads)
       ∙ ap {B = List ℕ} (λ (c : Content). 0 ∷ 0 ∷ f .end ∷ countsOf c) (f .same);
   refused-so = λ file r e. ap (numbers checkResults) (answer-refuses checkedAs e);
   acceptable = λ file b n.
@@ -348,8 +349,8 @@ demand₂ = record {
 }
 
 -- The further claims: `fifteen` stands in Packing, `twelve-exactly` in Adpcm, `thirteen-exactly` in Sample, `accepted-files` and `asks-exactly` in
--- Accepted, `readers-tell` in Structure, `kinds-told` in Kind, `kinds-refused` in Never, `smallest-sizes` in Stripped, `own-refusal-first`,
--- `kept-else` and `converts-back` in Convert
+-- Accepted, `readers-tell` in Structure, `kinds-told` in Kind, `kinds-refused` in Never, `smallest-sizes` in Stripped, `own-refusals-first`
+-- and `kept-else` in Convert, `converts-back` and `converts-within` in Growth
 pub presses-whole : PressesWhole
 presses-whole kind content file f =
     let back = module-back kind in
@@ -360,6 +361,10 @@ presses-whole kind content file f =
           check-tells .accepted kind content (pressed kind content) (pressed-reads (moduleFormat kind) back keeps f)
           ∙ ap {B = List ℕ} (λ (n : ℕ). 0 ∷ 0 ∷ n ∷ countsOf content) (pressed-ends (moduleFormat kind) back keeps f);
     }
+
+pub converts-keep : ConvertsKeep
+converts-keep kind to content other file out f a g =
+    subst (KeptElse content) (content-one (moduleFormat to) (demand₂ .convert kind to content file out f a) g) (kept-else content)
 
 pub module-bytes : (kind : ModuleKind) → SameBytes (moduleFormat kind)
 module-bytes kind = same-bytes (moduleFormat kind) (module-back kind) (module-keeps kind)

@@ -1,7 +1,9 @@
--- How much longer a converted file may be than the one that it is made of: its header, each instrument, and the whole. Assumes nothing.
+-- How much longer a converted file may be than the one that it is made of: its header, each instrument, and the whole; and that it is
+-- converted back. Assumes nothing.
 use Prim.Native.Nat.{ℕ, zero, suc, _+_, _*_, _/_, _%_, _≤_}
 use mathlib.Core.List.{List, [], _∷_, _++_, append-assoc}
 use mathlib.Core.Path.{_≡_, refl, sym, ap, ap₂, _∙_}
+use native.Mathlib.Decide.{decLe}
 use native.Mathlib.Nat.{suc-mul, mul-le-mul-left}
 use native.Mathlib.Omega.{arith}
 use lib.ListN.{length, take, replicate, length-append}
@@ -9,7 +11,7 @@ use Rattle.xm.specs.Number.{longAt, byte, word, long}
 use Rattle.xm.specs.ModuleKind.{ModuleKind, normal, stripped, before, trimmed}
 use Rattle.xm.specs.Got.{_at_, allPass}
 use Rattle.xm.specs.Format.{joined, flat, EachGood}
-use Rattle.xm.specs.Answer.{refuses, numberOf}
+use Rattle.xm.specs.Answer.{Answer, gives, refuses, numberOf}
 use Rattle.xm.specs.Stored.{emptyRows}
 use Rattle.xm.specs.Header.{leastHeader, countTests, Header, noTracker, GoodHeader, writeHeader}
 use Rattle.xm.specs.PatternInFile.{writePattern, GoodStored}
@@ -17,11 +19,12 @@ use Rattle.xm.specs.Sample.{leastHead, dataSize, headFormat, headTests, 
 use Rattle.xm.specs.Instrument.{leastInstrument, leastStripped, samplesMost, voiceSize, Instrument, countOf, writeFields, writeInstrument}
 use Rattle.xm.specs.Instrument.{GoodInstrument, instrumentFormat}
 use Rattle.xm.specs.Module.{Content, moduleFormat, fileMost}
-use Rattle.xm.specs.Press.{pressed}
+use Rattle.xm.specs.Press.{pressed, pressing}
 use Rattle.xm.specs.Convert.{withoutTracker, converted, converting}
-use Rattle.xm.specs.Demands.{FileOf, addedMost, ConvertsWithin}
+use Rattle.xm.specs.Demands.{FileOf, ConvertsBack, addedMost, ConvertsWithin}
 use Rattle.xm.proofs.Number.{bytes-zeros, bytes-nil}
 use Rattle.xm.proofs.Got.{all-hold}
+use Rattle.xm.proofs.Answer.{gives-refuses, gives-same}
 use Rattle.xm.proofs.Format.{joined-replicate, each-replicate}
 use Rattle.xm.proofs.Cut.{before-le, trimmed-le, trimmed-mono, trimmed-some}
 use Rattle.xm.proofs.Stored.{rows-good, rows-none, write-none}
@@ -31,8 +34,9 @@ use Rattle.xm.proofs.Sample.{smallest-fits, cut-heads, cut-heads-size}
 use Rattle.xm.proofs.Instrument.{heads-size, instrument-size}
 use Rattle.xm.proofs.Stripped.{none-least, fields-most, stripped-size}
 use Rattle.xm.proofs.Module.{module-back, module-keeps}
-use Rattle.xm.proofs.Press.{pressed-file, pressed-shortest, file-size, file-good}
-use Rattle.xm.proofs.Convert.{header-good, converts-shortest}
+use Rattle.xm.proofs.Kind.{kinds-told}
+use Rattle.xm.proofs.Press.{pressed-file, pressed-shortest, file-size, file-good, press-gives, press-narrow}
+use Rattle.xm.proofs.Convert.{header-good, convert-gives, convert-narrow, converts-shortest, stripped-content}
 
 -- The fields behind I of a stripped instrument: with samples k is among them, and so 24 bytes at least
 some-kept : (byte : ℕ) (s : List ℕ) → 1 ≤ byte → length (trimmed (byte ∷ [])) ≤ length (trimmed (byte ∷ s))
@@ -105,27 +109,33 @@ module _ (x : Instrument) (g : GoodInstrument x) where
       omega (arith, same, g .name-size, no-fields (x .name) (x .voice) (x .type) (rw e at (g .voice-good)))
 
 -- What the parts add: an instrument, and a header by its order table
-abbrev instrumentAdded : (to : ModuleKind) → ℕ
-instrumentAdded normal = 875
-instrumentAdded stripped = 0
+abbrev instrumentAdded : (kind to : ModuleKind) → ℕ
+instrumentAdded normal normal = 0
+instrumentAdded normal stripped = 0
+instrumentAdded stripped normal = 875
+instrumentAdded stripped stripped = 0
 
-abbrev headerAdded : (to : ModuleKind) → ℕ
-headerAdded normal = 255
-headerAdded stripped = 0
+abbrev headerAdded : (kind to : ModuleKind) → ℕ
+headerAdded normal normal = 0
+headerAdded normal stripped = 0
+headerAdded stripped normal = 255
+headerAdded stripped stripped = 0
 
-all-added : (to : ModuleKind) (n : ℕ) → n ≤ 128 → headerAdded to + n * instrumentAdded to ≤ addedMost to
-all-added normal n h = omega arith
-all-added stripped n h = omega arith
+all-added : (kind to : ModuleKind) (n : ℕ) → n ≤ 128 → headerAdded kind to + n * instrumentAdded kind to ≤ addedMost kind to
+all-added normal normal n h = omega arith
+all-added normal stripped n h = omega arith
+all-added stripped normal n h = omega arith
+all-added stripped stripped n h = omega arith
 
 sizes-within : (kind to : ModuleKind) (songLength : ℕ) → (1 ≤ songLength) × (songLength ≤ 256)
-    → leastHeader to songLength ≤ leastHeader kind songLength + headerAdded to
+    → leastHeader to songLength ≤ leastHeader kind songLength + headerAdded kind to
 sizes-within normal normal songLength h = omega arith
 sizes-within normal stripped songLength h = omega arith
 sizes-within stripped normal songLength h = omega arith
 sizes-within stripped stripped songLength h = omega arith
 
 instrument-within : (kind to : ModuleKind) (x : Instrument) → GoodInstrument x
-    → length (writeInstrument to x) ≤ length (writeInstrument kind x) + instrumentAdded to
+    → length (writeInstrument to x) ≤ length (writeInstrument kind x) + instrumentAdded kind to
 instrument-within normal normal x g = omega arith
 instrument-within stripped stripped x g = omega arith
 instrument-within stripped normal x g =
@@ -135,7 +145,7 @@ instrument-within normal stripped x g =
     omega (arith, normal-long x g, stripped-long x g, shrunk (countOf x) (kept x g) n (length (bytes x g)) (kept-fits x g) (none x g) (fields-most x g))
 
 instruments-within : (kind to : ModuleKind) (n : ℕ) (xs : List Instrument) → EachGood (instrumentFormat kind) (replicate n tt) xs
-    → length (joined (writeInstrument to) xs) ≤ length (joined (writeInstrument kind) xs) + n * instrumentAdded to
+    → length (joined (writeInstrument to) xs) ≤ length (joined (writeInstrument kind) xs) + n * instrumentAdded kind to
 instruments-within kind to zero [] g = omega arith
 instruments-within kind to zero (x ∷ xs) g = absurd g
 instruments-within kind to (suc n) [] g = absurd g
@@ -146,12 +156,12 @@ instruments-within kind to (suc n) (x ∷ xs) g =
       length-append (writeInstrument kind x) (joined (writeInstrument kind) xs),
       instrument-within kind to x (g .0),
       instruments-within kind to n xs (g .1),
-      suc-mul n (instrumentAdded to),
+      suc-mul n (instrumentAdded kind to),
     )
 
 -- The header, and the whole
 header-within : (kind to : ModuleKind) (x : Header) → GoodHeader kind x
-    → length (writeHeader to (withoutTracker x)) ≤ length (writeHeader kind x) + headerAdded to
+    → length (writeHeader to (withoutTracker x)) ≤ length (writeHeader kind x) + headerAdded kind to
 header-within kind to x g =
     omega (arith, header-size kind x g, header-size to (withoutTracker x) (header-good kind to x g), sizes-within kind to (x .songLength) (g .counts .0))
 
@@ -163,7 +173,8 @@ whole-long kind x =
     length-append (writeHeader kind (x .0)) (patterns ++ instruments)
     ∙ ap (λ (n : ℕ). length (writeHeader kind (x .0)) + n) (length-append patterns instruments)
 
-whole-within : (kind to : ModuleKind) (x : Content) → moduleFormat kind .Good tt x → length (pressed to (converted x)) ≤ length (pressed kind x) + addedMost to
+whole-within : (kind to : ModuleKind) (x : Content) → moduleFormat kind .Good tt x
+    → length (pressed to (converted x)) ≤ length (pressed kind x) + addedMost kind to
 whole-within kind to x g =
     omega (
       arith,
@@ -171,7 +182,7 @@ whole-within kind to x g =
       whole-long to (converted x),
       header-within kind to (x .0) (g .0),
       instruments-within kind to (x .0 .instruments) (x .1 .1) (g .1 .1),
-      all-added to (x .0 .instruments) (g .0 .counts .1 .1 .1 .0),
+      all-added kind to (x .0 .instruments) (g .0 .counts .1 .1 .1 .0),
     )
 
 -- A content that grows by just that: one order, one empty row, and 128 instruments of 16 samples whose headers have only zeros
@@ -273,24 +284,64 @@ fullest-file =
     let small : length (pressed stripped fullest) ≤ fileMost = omega (arith, fullest-stripped, length-append pattern [], size, none) in
     pressed-file (moduleFormat stripped) (module-back stripped) (module-keeps stripped) fullest fullest-good small
 
+-- So by how much a file may grow, and when it is never over the limit
+file-within : (kind to : ModuleKind) (content : Content) (file : List ℕ) → FileOf (moduleFormat kind) content file
+    → length (pressed to (converted content)) ≤ length file + addedMost kind to
+file-within kind to content file f =
+    let back = module-back kind in
+    let keeps = module-keeps kind in
+    omega (
+      arith,
+      whole-within kind to content (file-good (moduleFormat kind) back keeps f),
+      pressed-shortest (moduleFormat kind) back keeps f,
+    )
+
 pub converts-within : ConvertsWithin
 converts-within = record {
-  no-longer = within;
+  no-longer = file-within;
   room-enough = λ kind to content file room f l q.
       let d = converts-shortest kind to content file room f in
       let small : converting to file room ≡ refuses (2 at 0) → ⊥ = λ e. let z : _≡_ {A = ℕ} 14 2 = sym (ap numberOf q) ∙ ap numberOf e in omega arith in
       let narrow = d .no-room-exactly small .0 q (pressed to (converted content)) (d .written small) in
-      omega (arith, narrow, within kind to content file f, file-size (moduleFormat to) (module-back to) (module-keeps to) (d .written small));
+      omega (arith, narrow, file-within kind to content file f, file-size (moduleFormat to) (module-back to) (module-keeps to) (d .written small));
+  never-over = λ kind to content file room f l q.
+      let over = converts-shortest kind to content file room f .over-exactly .0 q in
+      omega (arith, over, file-within kind to content file f);
   reached = (fullest, pressed stripped fullest, fullest-file, omega (arith, fullest-stripped, fullest-normal));
 }
+
+-- and a file that is converted comes back: in its own kind it is no longer than before
+own-small : (kind : ModuleKind) (content : Content) (file : List ℕ) → FileOf (moduleFormat kind) content file
+    → length (pressed kind (converted content)) ≤ fileMost
+own-small normal content file f =
+    omega (arith, file-within normal normal content file f, file-size (moduleFormat normal) (module-back normal) (module-keeps normal) f)
+own-small stripped content file f =
+    omega (arith, file-within stripped stripped content file f, file-size (moduleFormat stripped) (module-back stripped) (module-keeps stripped) f)
+
+whole-content : (content : Content) (file : List ℕ) → FileOf (moduleFormat stripped) content file → converted content ≡ content
+whole-content content file f = stripped-content content (file-good (moduleFormat stripped) (module-back stripped) (module-keeps stripped) f)
+
+pub converts-back : ConvertsBack
+converts-back = record {
+  comes-back = λ kind to content file f room room′ bytes e l.
+      let d = converts-shortest kind to content file room f in
+      let small : converting to file room ≡ refuses (2 at 0) → ⊥ = gives-refuses e in
+      let same = gives-same (sym (d .given-else small (gives-refuses e)) ∙ e) in
+      ap (λ (s : List ℕ). converting kind s room′) (sym same) ∙ convert-gives to kind (d .written small) room′ (own-small kind content file f) l;
+  stripped-whole = whole-content;
+  stripped-pressed = λ content file room f. as-pressed content file room f (decLe (length (pressed stripped content)) room);
+}
   where
-    within : (kind to : ModuleKind) (content : Content) (file : List ℕ) → FileOf (moduleFormat kind) content file
-        → length (pressed to (converted content)) ≤ length file + addedMost to
-    within kind to content file f =
-        let back = module-back kind in
-        let keeps = module-keeps kind in
-        omega (
-          arith,
-          whole-within kind to content (file-good (moduleFormat kind) back keeps f),
-          pressed-shortest (moduleFormat kind) back keeps f,
-        )
+    as-pressed : (content : Content) (file : List ℕ) (room : ℕ) → FileOf (moduleFormat stripped) content file → Dec (length (pressed stripped content) ≤ room)
+        → converting stripped file room ≡ pressing file room
+    as-pressed content file room f (yes l) =
+        let same = ap (pressed stripped) (whole-content content file f) in
+        convert-gives stripped stripped f room (own-small stripped content file f) (omega (arith, ap length same))
+        ∙ ap {B = Answer (List ℕ)} (λ (bytes : List ℕ). gives bytes) same
+        ∙ sym (kinds-told file .by-kind stripped content f .presses room
+        ∙ press-gives (moduleFormat stripped) (module-back stripped) (module-keeps stripped) f room l)
+    as-pressed content file room f (no l) =
+        let same = ap (pressed stripped) (whole-content content file f) in
+        convert-narrow stripped stripped f room (own-small stripped content file f) (omega (arith, ap length same))
+        ∙ sym (kinds-told file .by-kind stripped content f .presses room
+        ∙ press-narrow (moduleFormat stripped) (module-back stripped) (module-keeps stripped) f room (omega arith))

@@ -384,6 +384,11 @@ samples-wide : (k H : ℕ) (v : SamplesFound) → (ltb 0 k ≡ true → leastHea
 samples-wide k H ([], ds) l c a = tt
 samples-wide k H (i ∷ is, ds) l c a = all-low leastHead H (i ∷ is) (l (lt-ltb 0 k (omega (arith, c)))) a
 
+pub samples-count : (k H place : ℕ) (s : List ℕ) (v : SamplesFound) (n : ℕ) → samplesFormat .read (replicate k H) place s ≡ got v n → length (v .0) ≡ k
+samples-count k H place s v n e =
+    bind-got _ _ e λ i m ei e₁. bind-got _ _ e₁ λ j u ej e₂.
+    got-carry (λ (r : SamplesFound) (t : ℕ). length (r .0) ≡ k) e₂ (read-length headFormat (replicate k H) place s i m ei ∙ length-replicate k H)
+
 pub normal-wide : Tells (instrumentFormat normal) tt (λ file i. All (λ (h : StretchFound). leastHead ≤ h .size) (i .samples .0))
 unfolding readInstrument
 normal-wide = record {
@@ -392,9 +397,7 @@ normal-wide = record {
       let s = drop place file in
       let k = wordAt 27 s in
       let H = longAt 29 s in
-      let c : length (v .0) ≡ k = bind-got _ _ ev λ i u ei e₁. bind-got _ _ e₁ λ j t ej e₂.
-      got-carry (λ (r : SamplesFound) (q : ℕ). length (r .0) ≡ k) e₂
-      (read-length headFormat (replicate k H) (place + longAt 0 s) (drop (longAt 0 s) s) i u ei ∙ length-replicate k H) in
+      let c = samples-count k H (place + longAt 0 s) (drop (longAt 0 s) s) v m ev in
       got-carry (λ (r : InstrumentFound) (u : ℕ). All (λ (h : StretchFound). leastHead ≤ h .size) (r .samples .0)) e
       (samples-wide k H v (h .1 .1 .1 .1 .1 .0) c (samples-sizes k H (place + longAt 0 s) (drop (longAt 0 s) s) v m ev));
 }

@@ -19,6 +19,7 @@ pub mod Header
 pub mod PatternInFile
 pub mod Sample
 pub mod Instrument
+pub mod Stands
 pub mod Stripped
 pub mod Module
 pub mod Kind

@@ -1,17 +1,18 @@
 -- Refusal numbers that are never given: 11 of a stripped file, 3 of one that has a pair of mark and version, 4 of one whose header is large
--- enough. Assumes nothing.
+-- enough, 10 of an instrument whose numbers are. Assumes nothing.
 use Prim.Native.Nat.{ℕ, _+_, _*_, _≤_, _<_}
-use mathlib.Core.Bool.{Bool, true, false, _&&_}
+use mathlib.Core.Bool.{Bool, true, false}
 use mathlib.Core.Logic.{_↔_}
 use mathlib.Core.List.{List, [], _∷_, _++_}
 use mathlib.Core.Path.{_≡_, refl, sym, ap, _∙_}
+use native.Mathlib.Decide.{decLe}
 use native.Mathlib.Omega.{arith}
-use lib.Dec.{leb, eqb}
-use borrow.Author.Tests.{leb-true, leb-false, eqb-true, eqb-false}
+use lib.Dec.{leb, ltb, eqb}
+use borrow.Author.Tests.{leb-true, leb-false, ltb-true, lt-ltb, eqb-true, eqb-false}
 use lib.ListN.{length, drop, replicate}
 use Rattle.xm.specs.Number.{wordAt, longAt, part}
-use Rattle.xm.specs.ModuleKind.{ModuleKind, normal, stripped, kindBy}
-use Rattle.xm.specs.Got.{Refusal, Got, refused, _>>_, Test, checked, present, atLeast, exactly, _at_}
+use Rattle.xm.specs.ModuleKind.{ModuleKind, normal, stripped}
+use Rattle.xm.specs.Got.{Refusal, Got, refused, _>>_, Test, checked, present, atLeast, exactly, when, _at_}
 use Rattle.xm.specs.Format.{Format, over, then, each, eachRead, All}
 use Rattle.xm.specs.Cell.{cellFormat, readCell}
 use Rattle.xm.specs.Stored.{readCells, readStored}
@@ -23,10 +24,10 @@ use Rattle.xm.specs.Instrument.{fieldsOf, instrumentFormat, readInstrume
 use Rattle.xm.specs.Module.{patternsFor, instrumentsFor, bodyFormat, moduleFormat, fileMost, readWhole, readFile}
 use Rattle.xm.specs.Answer.{refuses}
 use Rattle.xm.specs.Table.{checkedAs, checking}
-use Rattle.xm.specs.Demands.{Fits, KindsRefused}
-use Rattle.xm.proofs.Got.{got-never, refused-bind, refused-tests, step-refused, pass, test-holds, test-fails}
+use Rattle.xm.specs.Demands.{Fits, KindsRefused, TenExactly}
+use Rattle.xm.proofs.Got.{got-never, refused-bind, same-refusal, refused-tests, step-refused, pass, test-holds, test-fails}
 use Rattle.xm.proofs.Answer.{answer-refuses, refuses-refused}
-use Rattle.xm.proofs.Kind.{kind-stripped, kind-reads}
+use Rattle.xm.proofs.Kind.{fits-pair, kind-else, kind-reads}
 use Rattle.xm.proofs.Format.{all, all-replicate}
 
 abbrev Other : ℕ → Refusal → Type 0
@@ -63,15 +64,19 @@ module _ {H I A : Type 0} (F : Format H I A) (number : ℕ) where
   many-never : (n : ℕ) {h : H} → Never F h number → Never (each F) (replicate n h) number
   many-never n {h} b = each-never (replicate n h) (all-replicate (λ (h : H). Never F h number) h n b)
 
--- A number that is none of those given behind the header of a stripped module; 11 is given only in a normal one
-record Free (number : ℕ) : Type 0 where
+-- A number that is none of those given for samples; and none of those given behind the header of a stripped module. 11 is given only in a
+-- normal one
+record SamplesFree (number : ℕ) : Type 0 where
   one : 1 ≡ number → ⊥
+  twelve : 12 ≡ number → ⊥
+  thirteen : 13 ≡ number → ⊥
+
+record Free (number : ℕ) : Type 0 where
+  samples : SamplesFree number
   six : 6 ≡ number → ⊥
   seven : 7 ≡ number → ⊥
   eight : 8 ≡ number → ⊥
   ten : 10 ≡ number → ⊥
-  twelve : 12 ≡ number → ⊥
-  thirteen : 13 ≡ number → ⊥
 
 abbrev FreeIn : ModuleKind → ℕ → Type 0
 FreeIn normal number = Free number × (11 ≡ number → ⊥)
@@ -97,11 +102,12 @@ module _ (number : ℕ) (u : Free number) where
   unfolding readPattern
   pattern-never channels = record {
     never = λ place s r e.
-        refused-tests (Other number) _ _ e (u .one, (u .six, (u .six, (u .one, tt)))) λ hs e₁.
+        refused-tests (Other number) _ _ e (u .samples .one, (u .six, (u .six, (u .samples .one, tt)))) λ hs e₁.
         refused-bind _ _ e₁ (stored-never channels (wordAt 5 s) (place + longAt 0 s) (part (longAt 0 s) (wordAt 7 s) s) r)
         (λ q m eq e₂. absurd (got-never e₂));
   }
 
+module _ (number : ℕ) (u : SamplesFree number) where
   head-never : (size : ℕ) → Never headFormat size number
   unfolding readHead
   head-never size = record {
@@ -123,15 +129,17 @@ instrument-never : (kind : ModuleKind) (number : ℕ) → FreeIn kind number →
 unfolding readInstrument
 instrument-never normal number u = record {
   never = λ place s r e.
-      refused-tests (Other number) _ _ e (u .0 .one, (u .0 .ten, (u .0 .ten, (u .0 .ten, (u .0 .one, (u .1, (u .0 .one, tt))))))) λ hs e₁.
-      refused-bind _ _ e₁ (samples-never number (u .0) (wordAt 27 s) (longAt 29 s) .never (place + longAt 0 s) (drop (longAt 0 s) s) r)
+      let one = u .0 .samples .one in
+      refused-tests (Other number) _ _ e (one, (u .0 .ten, (u .0 .ten, (u .0 .ten, (one, (u .1, (one, tt))))))) λ hs e₁.
+      refused-bind _ _ e₁ (samples-never number (u .0 .samples) (wordAt 27 s) (longAt 29 s) .never (place + longAt 0 s) (drop (longAt 0 s) s) r)
       (λ v m ev e₂. absurd (got-never e₂));
 }
 instrument-never stripped number u = record {
   never = λ place s r e.
-      refused-tests (Other number) _ _ e (u .one, (u .ten, (u .one, (u .ten, (u .one, tt))))) λ hs e₁.
+      let one = u .samples .one in
+      refused-tests (Other number) _ _ e (one, (u .ten, (one, (u .ten, (one, tt))))) λ hs e₁.
       let fields = fieldsOf stripped s in
-      refused-bind _ _ e₁ (samples-never number u (wordAt 27 fields) (longAt 29 fields) .never (place + longAt 0 s) (drop (longAt 0 s) s) r)
+      refused-bind _ _ e₁ (samples-never number (u .samples) (wordAt 27 fields) (longAt 29 fields) .never (place + longAt 0 s) (drop (longAt 0 s) s) r)
       (λ v m ev e₂. absurd (got-never e₂));
 }
 
@@ -162,8 +170,8 @@ module _ (kind : ModuleKind) (file : List ℕ) (small : length file ≤ fileMost
   first-three : (g : Got HeaderFound) → (checked (hasOrders ∷ isMarked ∷ isVersion ∷ later kind 0 file) >> g) ≡ (checked (later kind 0 file) >> g)
   first-three g =
       test-holds hasOrders (isMarked ∷ isVersion ∷ later kind 0 file) g long
-      ∙ test-holds isMarked (isVersion ∷ later kind 0 file) g (f .0)
-      ∙ test-holds isVersion (later kind 0 file) g (f .1)
+      ∙ test-holds isMarked (isVersion ∷ later kind 0 file) g (fits-pair kind file f .0)
+      ∙ test-holds isVersion (later kind 0 file) g (fits-pair kind file f .1)
 
   checking-read : (r : Refusal) → checking file ≡ refuses r → moduleFormat kind .read tt 0 file ≡ refused r
   unfolding checking readWhole
@@ -204,13 +212,11 @@ module _ (kind : ModuleKind) (file : List ℕ) (small : length file ≤ fileMost
 
 free-of : (number : ℕ) → number ≤ 5 → 2 ≤ number → Free number
 free-of number h l = record {
-  one = λ q. omega arith;
+  samples = record { one = λ q. omega arith; twelve = λ q. omega arith; thirteen = λ q. omega arith };
   six = λ q. omega arith;
   seven = λ q. omega arith;
   eight = λ q. omega arith;
   ten = λ q. omega arith;
-  twelve = λ q. omega arith;
-  thirteen = λ q. omega arith;
 }
 
 free-in : (kind : ModuleKind) (number : ℕ) → number ≤ 5 → 2 ≤ number → FreeIn kind number
@@ -223,15 +229,8 @@ neither-three : (file : List ℕ) → length file ≤ fileMost → ordersFrom �
 unfolding checking readWhole readHeader
 neither-three file small long none = answer-refuses checkedAs (as-normal ∙ pass _ (small, tt) (step-refused _ (by (eqb (markAt file) (mark normal)) refl)))
   where
-    normal-kind : (t : Bool) (u : Bool) → eqb (markAt file) (mark stripped) ≡ t → eqb (versionAt file) (version stripped) ≡ u → kindBy (t && u) ≡ normal
-    normal-kind true true p q = absurd (none stripped (eqb-true (markAt file) (mark stripped) p, eqb-true (versionAt file) (version stripped) q))
-    normal-kind true false p q = refl
-    normal-kind false u p q = refl
-
     as-normal : readFile file ≡ readWhole (moduleFormat normal) file
-    as-normal =
-        ap (λ (k : ModuleKind). readWhole (moduleFormat k) file)
-        (kind-stripped file ∙ normal-kind (eqb (markAt file) (mark stripped)) (eqb (versionAt file) (version stripped)) refl refl)
+    as-normal = ap (λ (k : ModuleKind). readWhole (moduleFormat k) file) (kind-else file (none stripped))
 
     by : (t : Bool) → eqb (markAt file) (mark normal) ≡ t → readHeader normal 0 file ≡ refused (3 at 0)
     by true p =
@@ -242,13 +241,11 @@ neither-three file small long none = answer-refuses checkedAs (as-normal ∙ pas
 -- 11 is never given of a stripped file
 free-eleven : Free 11
 free-eleven = record {
-  one = λ q. omega arith;
+  samples = record { one = λ q. omega arith; twelve = λ q. omega arith; thirteen = λ q. omega arith };
   six = λ q. omega arith;
   seven = λ q. omega arith;
   eight = λ q. omega arith;
   ten = λ q. omega arith;
-  twelve = λ q. omega arith;
-  thirteen = λ q. omega arith;
 }
 
 header-eleven : Never (headerFormat stripped) tt 11
@@ -288,3 +285,66 @@ kinds-refused file = record {
             let enough = leb-true (leastHeader kind (songLengthAt file)) (sizeAt file) p in
             absurd (never-four kind file small long f (free-in kind 4 (omega arith) (omega arith)) enough q)
         below false p q = leb-false (leastHeader kind (songLengthAt file)) (sizeAt file) p
+
+-- 10 is given of an instrument whose I or k is out of range, and by nothing behind them
+ten-free : SamplesFree 10
+ten-free = record { one = λ q. omega arith; twelve = λ q. omega arith; thirteen = λ q. omega arith }
+
+module _ (place : ℕ) (s : List ℕ) where
+  abbrev Refused : ModuleKind → Type 0
+  Refused kind = readInstrument kind place s ≡ refused (10 at place)
+
+  samples-ten : (k H : ℕ) (r : Refusal) → samplesFormat .read (replicate k H) (place + longAt 0 s) (drop (longAt 0 s) s) ≡ refused r → Other 10 r
+  samples-ten k H = samples-never 10 ten-free k H .never (place + longAt 0 s) (drop (longAt 0 s) s)
+
+  normal-ten : 29 ≤ length s → Refused normal → (29 ≤ longAt 0 s) × (wordAt 27 s ≤ 16) × (0 < wordAt 27 s → 263 ≤ longAt 0 s) → ⊥
+  unfolding readInstrument
+  normal-ten there e fit =
+      let wide = when (ltb 0 (wordAt 27 s)) (atLeast 263 (longAt 0 s) (10 at place)) in
+      let front = test-holds _ _ _ there ∙ test-holds _ _ _ (fit .0) ∙ test-holds _ _ _ (fit .1)
+      ∙ test-holds wide _ _ (λ q. fit .2 (ltb-true 0 (wordAt 27 s) q)) in
+      refused-tests (Other 10) _ _ (sym front ∙ e) ((λ q. omega arith), ((λ q. omega arith), ((λ q. omega arith), tt))) (λ hs e₁.
+      refused-bind _ _ e₁ (samples-ten (wordAt 27 s) (longAt 29 s) (10 at place)) (λ v m ev e₂. absurd (got-never e₂)))
+      refl
+
+  ten-normal : 29 ≤ length s → ((29 ≤ longAt 0 s) × (wordAt 27 s ≤ 16) × (0 < wordAt 27 s → 263 ≤ longAt 0 s) → ⊥) → Refused normal
+  unfolding readInstrument
+  ten-normal there none = go (decLe 29 (longAt 0 s)) (decLe (wordAt 27 s) 16)
+    where
+      go : Dec (29 ≤ longAt 0 s) → Dec (wordAt 27 s ≤ 16) → Refused normal
+      go (no h) d = test-holds _ _ _ there ∙ test-fails _ _ _ h
+      go (yes h) (no l) = test-holds _ _ _ there ∙ test-holds _ _ _ h ∙ test-fails _ _ _ l
+      go (yes h) (yes l) =
+          test-holds _ _ _ there ∙ test-holds _ _ _ h ∙ test-holds _ _ _ l
+          ∙ test-fails _ _ _ (λ q. none (h, l, λ some. q (lt-ltb 0 (wordAt 27 s) some)))
+
+  stripped-ten : 4 ≤ length s → Refused stripped → (4 ≤ longAt 0 s) × (longAt 0 s ≤ length s → wordAt 27 (fieldsOf stripped s) ≤ 16) → ⊥
+  unfolding readInstrument
+  stripped-ten there e fit = go (decLe (longAt 0 s) (length s))
+    where
+      go : Dec (longAt 0 s ≤ length s) → ⊥
+      go (no l) =
+          let z = same-refusal (sym (test-holds _ _ _ there ∙ test-holds _ _ _ (fit .0) ∙ test-fails _ _ _ l) ∙ e) in
+          let different : _≡_ {A = ℕ} 1 10 = ap Refusal.number z in
+          omega arith
+      go (yes l) =
+          let fields = fieldsOf stripped s in
+          let front = test-holds _ _ _ there ∙ test-holds _ _ _ (fit .0) ∙ test-holds _ _ _ l ∙ test-holds _ _ _ (fit .1 l) in
+          refused-tests (Other 10) _ _ (sym front ∙ e) ((λ q. omega arith), tt) (λ hs e₁.
+          refused-bind _ _ e₁ (samples-ten (wordAt 27 fields) (longAt 29 fields) (10 at place)) (λ v m ev e₂. absurd (got-never e₂)))
+          refl
+
+  ten-stripped : 4 ≤ length s → ((4 ≤ longAt 0 s) × (longAt 0 s ≤ length s → wordAt 27 (fieldsOf stripped s) ≤ 16) → ⊥) → Refused stripped
+  unfolding readInstrument
+  ten-stripped there none = go (decLe 4 (longAt 0 s)) (decLe (longAt 0 s) (length s))
+    where
+      go : Dec (4 ≤ longAt 0 s) → Dec (longAt 0 s ≤ length s) → Refused stripped
+      go (no h) d = test-holds _ _ _ there ∙ test-fails _ _ _ h
+      go (yes h) (no l) = absurd (none (h, λ q. absurd (l q)))
+      go (yes h) (yes l) = test-holds _ _ _ there ∙ test-holds _ _ _ h ∙ test-holds _ _ _ l ∙ test-fails _ _ _ (λ q. none (h, λ inside. q))
+
+  pub ten-exactly : TenExactly place s
+  ten-exactly = record {
+    normal-so = λ there. (normal-ten there, ten-normal there);
+    stripped-so = λ there. (stripped-ten there, ten-stripped there);
+  }

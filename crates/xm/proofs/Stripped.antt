@@ -13,7 +13,7 @@ use Rattle.xm.specs.Format.{joined, flat, EachGood}
 use Rattle.xm.specs.Sample.{leastHead, Samples, SamplesFound, samplesFormat, cutSamplesFormat, cutHeadFormat, smallestHead, headFormat}
 use Rattle.xm.specs.Instrument.{leastStripped, samplesMost, voiceSize, voiceOf, fieldsOf, instrumentTests, Instrument, InstrumentFound}
 use Rattle.xm.specs.Instrument.{readInstrument, writeFields, writeInstrument, GoodVoice, GoodInstrument, instrumentView, instrumentFormat}
-use Rattle.xm.specs.Demands.{SmallestIn, SmallestSizes}
+use Rattle.xm.specs.Demands.{InstrumentOf, headSizeIn, SmallestSizes}
 use Rattle.xm.proofs.Number.{bytes-drop, bytes-take, bytes-append, bytes-nil, bytes-cons, agree-long, agree-take, agree-drop}
 use Rattle.xm.proofs.Got.{pass, step, passed, bind-got, got-both, got-carry}
 use Rattle.xm.proofs.Format.{cons-path, Back, ReadsBack, Keeps, Held, Firm, each-length}
@@ -22,7 +22,7 @@ use Rattle.xm.proofs.Cut.{padded-length, padded-bytes, padded-append, p
 use Rattle.xm.proofs.Cut.{trimmed-padded, trimmed-bytes, trimmed-le, trimmed-mono, trimmed-four}
 use Rattle.xm.proofs.Sample.{samples-firm, cut-samples-back, cut-samples-keeps, samples-alike, smallest-least}
 use Rattle.xm.proofs.Sample.{smallest-fits, cut-heads, whole-heads, heads-mono, cut-heads-size}
-use Rattle.xm.proofs.Instrument.{found-path, samples-used, samples-sizes, all-low, normal-back, normal-keeps, normal-firm}
+use Rattle.xm.proofs.Instrument.{found-path, samples-used, normal-back, normal-keeps, normal-firm}
 
 -- The fields behind I: name, type, k, H, bytes 33 to 240
 abbrev Fields : Type 0
@@ -357,16 +357,48 @@ stripped-keeps = record {
       got-carry (λ (r : InstrumentFound) (t : ℕ). Held (instrumentFormat stripped) tt place s r t) e (found-held place s b h v m ev);
 }
 
+-- An instrument that is read has no smaller H and no smaller I than what is written of its content
+module _ (x : Instrument) (s : List ℕ) (f : InstrumentOf x s) where
+  read-good : GoodInstrument x
+  read-good = rw (f .same) at (stripped-keeps .keeps (f .place) s (f .found) (f .used) (f .plain) (f .reads) .good)
+
+  abbrev Low : Instrument → Type 0
+  Low y = (smallestHead (y .samples .0) ≤ headSizeIn s) × (leastStripped + length (writeFields y) ≤ longAt 0 s)
+
+  read-low : Low x
+  unfolding readInstrument
+  read-low =
+      subst Low (f .same)
+      (passed _ _ (f .reads) λ h e. bind-got _ _ e λ v m ev e.
+      got-carry (λ (r : InstrumentFound) (t : ℕ). Low (instrumentView r)) e
+      (head-low (f .place) s (f .plain) h v m ev, size-low (f .place) s (f .plain) h v m ev))
+
+-- which is an instrument of that content, whatever follows, with just these sizes
+module _ (x : Instrument) (g : GoodInstrument x) (place : ℕ) (rest : List ℕ) (b : Bytes rest) where
+  written-of : InstrumentOf x (writeInstrument stripped x ++ rest)
+  written-of = record {
+    plain = bytes-append (stripped-plain x g) b;
+    place = place;
+    found = stripped-back .back place x rest g .found;
+    used = length (writeInstrument stripped x);
+    reads = stripped-back .back place x rest g .reads;
+    same = stripped-back .back place x rest g .same;
+  }
+
+  head-written : headSizeIn (writeInstrument stripped x ++ rest) ≡ smallestHead (x .samples .0)
+  unfolding row
+  head-written = ap (λ (r : Fields). r .1 .1 .1 .0) (row-reads x g place rest)
+
 pub smallest-sizes : SmallestSizes
-unfolding readInstrument
-smallest-sizes place s i n b e =
-    passed _ _ e λ h e. bind-got _ _ e λ v m ev e.
-    got-carry (λ (r : InstrumentFound) (t : ℕ). SmallestIn r) e
-    (record {
-      head = all-low (smallestHead (heads place s b h v m ev)) (H place s b h v m ev) (v .0) (head-low place s b h v m ev)
-          (samples-sizes (k place s b h v m ev) (H place s b h v m ev) (place + longAt 0 s) (drop (longAt 0 s) s) v m ev);
-      size = size-low place s b h v m ev;
-    })
+unfolding written-of
+smallest-sizes x s rest f b =
+    let g = read-good x s f in
+    record {
+      written = written-of x g (f .place) rest b;
+      ends = refl;
+      head = λ other o. omega (arith, head-written x g (f .place) rest b, read-low x other o .0);
+      size = λ other o. omega (arith, size-reads x g (f .place) rest, read-low x other o .1);
+    }
 
 -- What follows does not matter
 same-tests : (I k H n m : ℕ) (s t : List ℕ) → TestsOf I k H (length s) → k * H ≤ m → I + m ≤ n → n ≤ length t → TestsOf I k H (length t)

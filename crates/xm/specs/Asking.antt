@@ -13,6 +13,10 @@ pub record Stretch : Type 0 where
   pub place : ℕ
   pub size : ℕ
 
+-- What stands for one where there is none.
+abbrev pub nowhere : Stretch
+nowhere = record { place = 0; size = 0 }
+
 unfoldable pub asking : (file : List ℕ) (rows : ℕ) (number : ℕ) (row : Stretch) → Answer Stretch
 asking file rows number row = answered (λ stretch used. stretch) (do
   checked (

@@ -1,8 +1,9 @@
 -- The three demands, and the paper's further claims, as statements over these definitions. docs/PROMISES.md says where each is proved.
 -- `Demand₁`, `Demand₂`, `Demand₃`; then of packing `Fifteen` and `EmptyPatterns`; of pressing `PressesWhole` and `SameBytes`; of normal and
--- stripped modules `KindsTold`, `SmallestSizes`, `KindsRefused`; of conversion `OwnRefusalFirst`, `KeptElse`, `ConvertsBack`, `ConvertsWithin`; of
--- the check's tables `TablesTell`; of a sample header `TwelveExactly` and `ThirteenExactly`; of accepted files `AcceptedFiles`, `AsksExactly`, `RestIgnored`,
--- `RestartsRead`, `PlaysOrders`; of the small reader `ReadersTell`; of the loader `LoadersTell`.
+-- stripped modules `KindsTold`, `SmallestSizes`, `KindsRefused`, `TenExactly`; of the press and of conversion `OwnRefusalsFirst`; of conversion
+-- `ConvertsKeep`, `ConvertsBack`, `ConvertsWithin`; of the check's tables `TablesTell`; of a sample header `TwelveExactly` and `ThirteenExactly`; of
+-- accepted files `AcceptedFiles`, `AsksExactly`, `RestIgnored`, `RestartsRead`, `PlaysOrders`; of the small reader `ReadersTell`; of the loader
+-- `LoadersTell`.
 use Prim.Native.Nat.{ℕ, _+_, _*_, _/_, _%_, _^_, _≤_, _<_, min}
 use mathlib.Core.Bool.{true, cond}
 use mathlib.Core.List.{List, [], _∷_, _++_, map}
@@ -11,27 +12,28 @@ use mathlib.Core.Path.{_≡_}
 use lib.Dec.{ltb, eqb}
 use lib.IntN.{ℤ}
 use lib.ListN.{length, getD, take, drop, replicate}
-use Rattle.xm.specs.Number.{Bytes, byteAt, longAt, part, byte, word, long, signed}
+use Rattle.xm.specs.Number.{Bytes, byteAt, wordAt, longAt, part, byte, word, long, signed}
 use Rattle.xm.specs.ModuleKind.{ModuleKind, normal, stripped}
 use Rattle.xm.specs.Got.{Refusal, got, refused, _at_, AllHold}
 use Rattle.xm.specs.Format.{Format, Kind, Region, patternHeader, patternData, instrument, sampleHeader, sampleData, joined, flat, All}
 use Rattle.xm.specs.Answer.{Answer, gives, refuses, inFront, after}
 use Rattle.xm.specs.Cell.{cellSize, cellMost}
 use Rattle.xm.specs.Stored.{rowsMost, Pattern, emptyRows, readStored, writeStored, GoodPattern}
-use Rattle.xm.specs.Header.{mark, version, markAt, versionAt, sizeAt, songLengthAt, restartAt, ordersFrom, kindAt, noTracker}
+use Rattle.xm.specs.Header.{sizeAt, songLengthAt, restartAt, ordersFrom, kindAt}
 use Rattle.xm.specs.PatternInFile.{dataMost, leastPattern, writePattern}
 use Rattle.xm.specs.Packing.{argumentTests, cellBytes, unpacking, unpackNumbers, unpackAfter, unpackLoader}
 use Rattle.xm.specs.Packing.{patternOf, packing, packNumbers, packAfter, packLoader}
 use Rattle.xm.specs.Sample.{StretchFound, leastHead, headBytes, lengthOf, loopStart, loopLength, kindOf, loopBits, isWide, loops}
-use Rattle.xm.specs.Sample.{adpcm, deltaTable, adpcmSize, dataSizeBy, readHead, smallestHead}
-use Rattle.xm.specs.Instrument.{leastStripped, Instrument, InstrumentFound, instrumentView, readInstrument, writeFields}
+use Rattle.xm.specs.Sample.{adpcm, deltaTable, adpcmSize, dataSizeBy, readHead}
+use Rattle.xm.specs.Instrument.{instrumentSizeAt, countAt, sampleHeadSizeAt, fieldsOf, Instrument, InstrumentFound, instrumentView, readInstrument}
+use Rattle.xm.specs.Instrument.{writeInstrument}
 use Rattle.xm.specs.Module.{Found, Content, moduleFormat, regionsOf, fileMost, readWhole, readFile, plays}
 use Rattle.xm.specs.Delta.{storedNumbers, decoding, decodeNumbers, decodeAfter, decodingLimited, decodeLoader}
 use Rattle.xm.specs.Delta.{allFit, coding, codeNumbers, codeAfter, codingLimited, codeLoader}
 use Rattle.xm.specs.Adpcm.{chosen, adpcmDecoded, adpcmDecoding, adpcmLimited, adpcmLoader, decodingBy, valuesOf}
-use Rattle.xm.specs.Table.{PatternRow, InstrumentRow, SampleRow, patternRows, instrumentRows, sampleRowsIn, sampleRows, sampleNumbers}
+use Rattle.xm.specs.Table.{PatternRow, InstrumentRow, SampleRow, patternRows, sampleCount, instrumentRows, sampleRowsIn, sampleRows, sampleNumbers}
 use Rattle.xm.specs.Table.{CheckReport, checkedAs, checking, checkNumbers, checkLoader, Room, checkingInto, checkIntoLoader, Tables, roomOf, tablesAfter}
-use Rattle.xm.specs.Asking.{Stretch, asking, stretchOf, askingFlat, askingRows, noRow, rowStretch}
+use Rattle.xm.specs.Asking.{Stretch, nowhere, asking, stretchOf, askingFlat, askingRows, noRow, rowStretch}
 use Rattle.xm.specs.Structure.{isStructure, structures, ended, handed, reading, called, readFor}
 use Rattle.xm.specs.Region.{Adjoin, regionAt, ofKind}
 use Rattle.xm.specs.Press.{contentOf, pressed, pressingAs, pressing, pressNumbersAs, pressAfterAs, pressLoader}
@@ -262,28 +264,49 @@ pub record SameBytes {I A : Type 0} (F : Format (Unit {0}) I A) : Type 0 where
       → let bytes = pressedInto F file out in
       length bytes ≤ length out′ → accepts (pressNumbersAs F bytes (length out′)) × (pressedInto F bytes out′ ≡ bytes)
 
--- Mark and version are those of a kind.
+-- Mark and version are those of a kind: "mark 1A, version 0x0104"; of a stripped module "mark and version are 0".
 abbrev pub Fits : ModuleKind → (file : List ℕ) → Type 0
-Fits kind file = (markAt file ≡ mark kind) × (versionAt file ≡ version kind)
+Fits normal file = (byteAt 37 file ≡ 0x1A) × (wordAt 58 file ≡ 0x0104)
+Fits stripped file = (byteAt 37 file ≡ 0) × (wordAt 58 file ≡ 0)
 
--- A file of a kind: the check reads it as one and the press presses it as one; its mark tells the kind, so no call does.
+-- Read and pressed as a file of a kind.
 pub record KindTold (kind : ModuleKind) (file : List ℕ) : Type 0 where
   pub is : kindAt file ≡ kind
-  pub mark-tells : Fits kind file
   pub reads : readFile file ≡ readWhole (moduleFormat kind) file
   pub found : (found : Found) (end : ℕ) → readFile file ≡ got found end → found .0 .kind ≡ kind
   pub presses : (room : ℕ) → pressing file room ≡ pressingAs (moduleFormat kind) file room
 
-abbrev pub KindsTold : Type 0
-KindsTold = (kind : ModuleKind) (content : Content) (file : List ℕ) → FileOf (moduleFormat kind) content file → KindTold kind file
+-- Any file, accepted or not, is taken for a stripped module if mark and version are those of one, and otherwise for a normal one. Those of an
+-- accepted file are its kind's, so that byte 37 alone tells the kind, and no call does.
+pub record KindsTold (file : List ℕ) : Type 0 where
+  pub stripped-so : Fits stripped file → KindTold stripped file
+  pub normal-else : (Fits stripped file → ⊥) → KindTold normal file
+  pub by-kind : (kind : ModuleKind) (content : Content) → FileOf (moduleFormat kind) content file → KindTold kind file
+  pub fits : (kind : ModuleKind) (content : Content) → FileOf (moduleFormat kind) content file → Fits kind file
 
--- "Our stripped press uses the smallest H, then the smallest I": no instrument that is read as the same content has smaller ones.
-pub record SmallestIn (i : InstrumentFound) : Type 0 where
-  pub head : All (λ (head : StretchFound). smallestHead (instrumentView i .samples .0) ≤ head .size) (i .samples .0)
-  pub size : leastStripped + length (writeFields (instrumentView i)) ≤ i .size
+-- An instrument of a stripped file that is read as a content; and its H, which I may cut off.
+pub record InstrumentOf (content : Instrument) (s : List ℕ) : Type 0 where
+  pub plain : Bytes s
+  pub place : ℕ
+  pub found : InstrumentFound
+  pub used : ℕ
+  pub reads : readInstrument stripped place s ≡ got found used
+  pub same : instrumentView found ≡ content
+
+abbrev pub headSizeIn : List ℕ → ℕ
+headSizeIn s = sampleHeadSizeAt (fieldsOf stripped s)
+
+-- "Our stripped press uses the smallest H, then the smallest I": what it writes of an instrument, whatever follows, is one of the same
+-- content, and none of that content has a smaller H or a smaller I.
+pub record SmallestIn (content : Instrument) (rest : List ℕ) : Type 0 where
+  pub written : InstrumentOf content (writeInstrument stripped content ++ rest)
+  pub ends : written .used ≡ length (writeInstrument stripped content)
+  pub head : (other : List ℕ) → InstrumentOf content other → headSizeIn (writeInstrument stripped content ++ rest) ≤ headSizeIn other
+  pub size : (other : List ℕ) → InstrumentOf content other
+      → instrumentSizeAt (writeInstrument stripped content ++ rest) ≤ instrumentSizeAt other
 
 abbrev pub SmallestSizes : Type 0
-SmallestSizes = (place : ℕ) (s : List ℕ) (i : InstrumentFound) (used : ℕ) → Bytes s → readInstrument stripped place s ≡ got i used → SmallestIn i
+SmallestSizes = (content : Instrument) (s rest : List ℕ) → InstrumentOf content s → Bytes rest → SmallestIn content rest
 
 -- "3 now means neither pair of mark and version fits; 4 takes the stripped limit, 11 never occurs for stripped files": of a file within
 -- the limit that has its first 80 bytes.
@@ -294,14 +317,23 @@ pub record KindsRefused (file : List ℕ) : Type 0 where
       → (checking file ≡ refuses (4 at 0)) ↔ (sizeAt file < 20 + songLengthAt file)
   pub eleven-never : Fits stripped file → (place : ℕ) → checking file ≡ refuses (11 at place) → ⊥
 
--- A conversion gives the file's own refusal first.
-abbrev pub OwnRefusalFirst : Type 0
-OwnRefusalFirst = (to : ModuleKind) (file : List ℕ) (room : ℕ) (r : Refusal) → readFile file ≡ refused r → converting to file room ≡ refuses r
+-- 10 of an instrument that has its first bytes: "I below 29, k above 16, or I below 263 with k above 0"; of a stripped one "I below 4 (10), I bytes
+-- present (1), k above 16 (10)", so that k is tried only where the I bytes are there.
+pub record TenExactly (place : ℕ) (s : List ℕ) : Type 0 where
+  pub normal-so : 29 ≤ length s → (readInstrument normal place s ≡ refused (10 at place)) ↔
+      ((29 ≤ instrumentSizeAt s) × (countAt s ≤ 16) × (0 < countAt s → 263 ≤ instrumentSizeAt s) → ⊥)
+  pub stripped-so : 4 ≤ length s → (readInstrument stripped place s ≡ refused (10 at place)) ↔
+      ((4 ≤ instrumentSizeAt s) × (instrumentSizeAt s ≤ length s → countAt (fieldsOf stripped s) ≤ 16) → ⊥)
 
--- "a conversion keeps everything else in the content": all but the tracker name, which is 20 nulls.
+-- The file's own refusal comes first, of the press and of a conversion, whatever room is lent.
+pub record OwnRefusalsFirst (file : List ℕ) (r : Refusal) : Type 0 where
+  pub press : (room : ℕ) → readFile file ≡ refused r → pressing file room ≡ refuses r
+  pub convert : (to : ModuleKind) (room : ℕ) → readFile file ≡ refused r → converting to file room ≡ refuses r
+
+-- Contents that are the same but for the tracker name, which is 20 nulls in the second.
 pub record KeptElse (x y : Content) : Type 0 where
   pub module-name : y .0 .moduleName ≡ x .0 .moduleName
-  pub tracker-null : y .0 .trackerName ≡ noTracker
+  pub tracker-null : y .0 .trackerName ≡ replicate 20 0
   pub song-length : y .0 .songLength ≡ x .0 .songLength
   pub restart : y .0 .restart ≡ x .0 .restart
   pub channels : y .0 .channels ≡ x .0 .channels
@@ -313,26 +345,41 @@ pub record KeptElse (x y : Content) : Type 0 where
   pub orders : y .0 .orders ≡ x .0 .orders
   pub body : y .1 ≡ x .1
 
--- "convert both ways": a stripped file that is converted to a normal one, and that back, is the stripped file pressed.
-abbrev pub ConvertsBack : Type 0
-ConvertsBack = (content : Content) (file : List ℕ) → FileOf (moduleFormat stripped) content file
-    → (room room′ : ℕ) (bytes : List ℕ) → converting normal file room ≡ gives bytes
-    → length (pressed stripped content) ≤ room′ → converting stripped bytes room′ ≡ gives (pressed stripped content)
+-- "a conversion keeps everything else in the content": so does whatever the file that was written is read as.
+abbrev pub ConvertsKeep : Type 0
+ConvertsKeep = (kind to : ModuleKind) (content other : Content) (file out : List ℕ) → FileOf (moduleFormat kind) content file
+    → let reported = convertNumbers to file (length out) in
+    accepts reported → FileOf (moduleFormat to) other (take (resultIn reported 0) (convertAfter to file out)) → KeptElse content other
 
--- A conversion to a normal file "may be longer than its input", by so many bytes at most: 255 of an order table of one entry, and 875 of each of
--- 128 instruments, which has 263 for 28, and 40 for none of each of 16 sample headers. To a stripped one it adds nothing.
-abbrev pub addedMost : (to : ModuleKind) → ℕ
-addedMost normal = 112255
-addedMost stripped = 0
+-- "convert both ways": a file that is converted, and what was written converted back to the kind that the file had, is the file pressed,
+-- but for the tracker name. So a stripped file comes back whole, and converted to its own kind it is pressed.
+pub record ConvertsBack : Type 0 where
+  pub comes-back : (kind to : ModuleKind) (content : Content) (file : List ℕ) → FileOf (moduleFormat kind) content file
+      → (room room′ : ℕ) (bytes : List ℕ) → converting to file room ≡ gives bytes
+      → length (pressed kind (converted content)) ≤ room′ → converting kind bytes room′ ≡ gives (pressed kind (converted content))
+  pub stripped-whole : (content : Content) (file : List ℕ) → FileOf (moduleFormat stripped) content file → converted content ≡ content
+  pub stripped-pressed : (content : Content) (file : List ℕ) (room : ℕ) → FileOf (moduleFormat stripped) content file
+      → converting stripped file room ≡ pressing file room
 
--- So room for that, or for the longest file there may be, is enough; and there is a file that grows by just that.
+-- A conversion of a stripped file to a normal one "may be longer than its input", by so many bytes at most: 255 of an order table of one
+-- entry, and 875 of each of 128 instruments, which has 263 for 28, and 40 for none of each of 16 sample headers. Any other adds nothing.
+abbrev pub addedMost : (kind to : ModuleKind) → ℕ
+addedMost normal normal = 0
+addedMost normal stripped = 0
+addedMost stripped normal = 112255
+addedMost stripped stripped = 0
+
+-- So room for that, or for the longest file there may be, is enough, and what has that much below the limit is never over it; and there is
+-- a file that grows by just that.
 pub record ConvertsWithin : Type 0 where
   pub no-longer : (kind to : ModuleKind) (content : Content) (file : List ℕ) → FileOf (moduleFormat kind) content file
-      → length (pressed to (converted content)) ≤ length file + addedMost to
+      → length (pressed to (converted content)) ≤ length file + addedMost kind to
   pub room-enough : (kind to : ModuleKind) (content : Content) (file : List ℕ) (room : ℕ) → FileOf (moduleFormat kind) content file
-      → min (length file + addedMost to) fileMost ≤ room → converting to file room ≡ refuses (14 at 0) → ⊥
+      → min (length file + addedMost kind to) fileMost ≤ room → converting to file room ≡ refuses (14 at 0) → ⊥
+  pub never-over : (kind to : ModuleKind) (content : Content) (file : List ℕ) (room : ℕ) → FileOf (moduleFormat kind) content file
+      → length file + addedMost kind to ≤ fileMost → converting to file room ≡ refuses (2 at 0) → ⊥
   pub reached : (content : Content) × (file : List ℕ) × FileOf (moduleFormat stripped) content file
-      × (length (pressed normal (converted content)) ≡ length file + addedMost normal)
+      × (length (pressed normal (converted content)) ≡ length file + addedMost stripped normal)
 
 -- The check that fills tables: the file's own refusal first, then 14 exactly when a count is above the rows lent.
 abbrev pub HasRoom : Room → Found → Type 0
@@ -376,16 +423,59 @@ FindsRows all [] (i ∷ is) = ⊥
 FindsRows all (row ∷ rows) [] = ⊥
 FindsRows all (row ∷ rows) (i ∷ is) = (take (row .samples) (drop (row .first) all) ≡ sampleRowsIn i) × FindsRows all rows is
 
+-- A byte of a structure that lies in the file, by its offset; what is beyond the structure's size reads as 0.
+abbrev pub byteWithin : (file : List ℕ) → Stretch → (offset : ℕ) → ℕ
+byteWithin file lies offset = cond (ltb offset (lies .size)) (byteAt (lies .place + offset) file) 0
+
+-- "Instrument bytes at offset I and beyond read as 0": an instrument's I is what stands at its place, and its other fields are what stands
+-- behind it in I bytes, whatever the kind. In a normal file all of them do.
+abbrev pub fieldByte : (file : List ℕ) → InstrumentFound → (offset : ℕ) → ℕ
+fieldByte file i offset = byteWithin file (record { place = i .place; size = i .size }) offset
+
+pub record FieldsStand (file : List ℕ) (i : InstrumentFound) : Type 0 where
+  pub size : i .size ≡ longAt 0 (drop (i .place) file)
+  pub name-size : length (i .name) ≡ 22
+  pub name : (k : ℕ) → k < 22 → byteAt k (i .name) ≡ fieldByte file i (4 + k)
+  pub type : i .type ≡ fieldByte file i 26
+  pub count : sampleCount i ≡ fieldByte file i 27 + 256 * fieldByte file i 28
+  pub voice-size : length (i .voice) ≡ cond (ltb 0 (sampleCount i)) 208 0
+  pub voice : 0 < sampleCount i → (k : ℕ) → k < 208 → byteAt k (i .voice) ≡ fieldByte file i (33 + k)
+
 -- A sample header in the content is what stands in its region of the file; of a stripped one, whose region may be shorter, what is beyond
 -- reads as 0.
 abbrev pub HeadStands : (file : List ℕ) → Stretch → (head : List ℕ) → Type 0
-HeadStands file lies head = (k : ℕ) → k < leastHead → byteAt k head ≡ cond (ltb k (lies .size)) (byteAt (lies .place + k) file) 0
+HeadStands file lies head = (k : ℕ) → k < leastHead → byteAt k head ≡ byteWithin file lies k
 
 abbrev pub HeadsStand : (file : List ℕ) → List Stretch → (heads : List (List ℕ)) → Type 0
 HeadsStand file [] [] = Unit {0}
 HeadsStand file [] (h ∷ hs) = ⊥
 HeadsStand file (l ∷ ls) [] = ⊥
 HeadsStand file (l ∷ ls) (h ∷ hs) = HeadStands file l h × HeadsStand file ls hs
+
+-- "Then k sample headers of H bytes each, then the k samples' data": the headers of an instrument are of one size, H, and stand one behind
+-- the other from the instrument's end on, and the data of its first sample right behind them.
+abbrev pub HeadsFrom : (place size : ℕ) → List SampleRow → Type 0
+HeadsFrom place size [] = Unit {0}
+HeadsFrom place size (row ∷ rows) = (row .headerPlace ≡ place) × HeadsFrom (place + size) size rows
+
+abbrev pub FirstData : (place : ℕ) → List SampleRow → Type 0
+FirstData place [] = Unit {0}
+FirstData place (row ∷ rows) = row .dataPlace ≡ place
+
+pub record HeadsTogether (file : List ℕ) (i : InstrumentFound) : Type 0 where
+  pub size : ℕ
+  pub stands : 0 < sampleCount i
+      → size ≡ fieldByte file i 29 + 256 * fieldByte file i 30 + 65536 * fieldByte file i 31 + 16777216 * fieldByte file i 32
+  pub sized : All (λ (head : StretchFound). head .size ≡ size) (i .samples .0)
+  pub headers : HeadsFrom (i .place + i .size) size (sampleRowsIn i)
+  pub data-behind : FirstData (i .place + i .size + sampleCount i * size) (sampleRowsIn i)
+
+-- So an instrument's row and that of its first sample tell H, which is the size of each of its sample headers: their data begin k times H behind
+-- the first header.
+abbrev pub TellsHeads : (heads : List Stretch) (all : List SampleRow) → InstrumentRow → Type 0
+TellsHeads heads all row = (j : ℕ) → j < row .samples
+    → let first = getD all (row .first) noRow in
+    (row .first + j < length all) × (first .dataPlace ≡ first .headerPlace + row .samples * getD heads (row .first + j) nowhere .size)
 
 -- What holds of each sample row with its header and its data, those of the content.
 abbrev pub bytesIn : Content → List (List ℕ)
@@ -477,6 +567,9 @@ pub record AcceptedFile (file : List ℕ) (found : Found) (end : ℕ) : Type 0 w
   pub rows-unpack : RowsUnpack file (found .0 .content .channels) (patternRows found) (contentOf found .1 .0)
   pub rows-found : FindsRows (sampleRows found) (instrumentRows found) (found .1 .1)
   pub heads-stand : HeadsStand file (ofKind sampleHeader (regionsOf found)) (headsIn (contentOf found))
+  pub fields-stand : All (FieldsStand file) (found .1 .1)
+  pub heads-together : All (HeadsTogether file) (found .1 .1)
+  pub rows-tell-heads : All (TellsHeads (ofKind sampleHeader (regionsOf found)) (sampleRows found)) (instrumentRows found)
   pub heads-whole : found .0 .kind ≡ normal → All (λ (l : Stretch). leastHead ≤ l .size) (ofKind sampleHeader (regionsOf found))
   pub rows-read : EachSample RowReads (sampleRows found) (headsIn (contentOf found)) (bytesIn (contentOf found))
   pub rows-loop : EachSample RowLoops (sampleRows found) (headsIn (contentOf found)) (bytesIn (contentOf found))
