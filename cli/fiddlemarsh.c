@@ -48,7 +48,7 @@ static const char help[] =
     "bytes behind the end. The module's name is content, so a module under another\n"
     "name (in it, not the file's) is another song; so are tempo, tracker name and\n"
     "all else that press keeps. A normal module and a stripped one are two songs:\n"
-    "convert them first.\n"
+    "convert both --to stripped first, where no tracker name is left to differ.\n"
     "\n"
     "samples prints the sheet for setting a board up, a line a sample: instrument and\n"
     "sample, counted from 1; its name; where its data begin in the file and how many\n"

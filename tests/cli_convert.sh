@@ -155,11 +155,14 @@ fiddlemarsh convert --to normal -qi into morning/a/other.xm
 ok "convert --into --quiet" says_nothing
 ok "converts" is_same into/other.xm normal.xm
 
-# A normal module and a stripped one are two songs, and one once they are converted
-fiddlemarsh same normal.xm stripped.xm
+# A normal module and a stripped one are two songs, and one once both are stripped; converted to normal ones a tracker name tells them apart
+fiddlemarsh same example.xm stripped.xm
 ok "the same song of two kinds is two" says '^2 files: 2 accepted as 2 songs, 0 refused, 0 troubles$'
-fiddlemarsh convert --to stripped --into into normal.xm stripped.xm
-fiddlemarsh same into/normal.xm into/stripped.xm
-ok "and one of one kind" says '^into/normal.xm: one song with into/stripped.xm$'
+fiddlemarsh convert --to stripped --into into example.xm stripped.xm
+fiddlemarsh same into/example.xm into/stripped.xm
+ok "and one where both are stripped" says '^into/example.xm: one song with into/stripped.xm$'
+fiddlemarsh convert --to normal --into into example.xm stripped.xm
+fiddlemarsh same into/example.xm into/stripped.xm
+ok "and two where one keeps its tracker name" says '^2 files: 2 accepted as 2 songs, 0 refused, 0 troubles$'
 
 verdict cli_convert
