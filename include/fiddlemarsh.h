@@ -47,10 +47,10 @@
        check               384    file_len: what stands in headers and patterns is read once, sample data are passed over
        unpack              304    data_len + rows x channels
        pack                 72    cells_len
-       press               760    file_len: as the check, and once more what is written
-       to_normal           760    file_len: as the check, and once more what is written
-       to_stripped         760    file_len: as the check, and once more what is written
-       tables              544    file_len: as the check, and once more the headers
+       press               712    file_len: as the check, and once more what is written
+       to_normal           712    file_len: as the check, and once more what is written
+       to_stripped         712    file_len: as the check, and once more what is written
+       tables              560    file_len: as the check, and once more the headers
        decode               24    bytes_len
        code                 24    values_len
        adpcm                40    length
@@ -66,7 +66,8 @@
    name say nothing in it. Which kind an accepted module is, fiddlemarsh_is_stripped tells. Pressing leaves a module the kind that it
    is; fiddlemarsh_to_normal and fiddlemarsh_to_stripped convert it.
    Who reads a sample header from the file, at the place that the table has, must heed how long it is
-   (fiddlemarsh_sample_header_size): behind it stand other bytes, or none.
+   (fiddlemarsh_sample_header_size): behind it stand other bytes, or none. The same holds of an instrument, whose first four bytes
+   say how long it is: from there on its name and all else in it read as 0.
 
    Pressed files and players
 
@@ -97,8 +98,8 @@ extern "C" {
 
 #define FIDDLEMARSH_VERSION_MAJOR 6
 #define FIDDLEMARSH_VERSION_MINOR 0
-#define FIDDLEMARSH_VERSION_PATCH 1
-#define FIDDLEMARSH_VERSION "6.0.1"
+#define FIDDLEMARSH_VERSION_PATCH 2
+#define FIDDLEMARSH_VERSION "6.0.2"
 
 /* The refusal numbers, and the place that comes with each. */
 enum fiddlemarsh_number {
@@ -229,7 +230,7 @@ uint64_t fiddlemarsh_press(const uint8_t *file, size_t file_len, uint8_t *out, s
    Returns the length, and has filled that many bytes of out. The length may exceed file_len, by at most FIDDLEMARSH_NORMAL_MORE_MOST
    bytes, and never exceeds FIDDLEMARSH_FILE_MOST: room of fiddlemarsh_normal_room(file_len) bytes is always enough. (Of the bytes
    that may come in addition, 255 are an order table's of one entry; 875 are an instrument's, 263 bytes for 28 and 40 for each of 16
-   sample headers of none; and of instruments there are 128.)
+   sample headers of none; and of instruments there are 128.) A module that is normal already never gets longer, and never gets 2.
    What is written is accepted, and pressing it again gives the same bytes.
    Refusals: those of the check, then 2 if the file written would be over FIDDLEMARSH_FILE_MOST bytes, then 14. */
 uint64_t fiddlemarsh_to_normal(const uint8_t *file, size_t file_len, uint8_t *out, size_t out_len);
