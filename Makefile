@@ -32,13 +32,11 @@ test check tests:
 BASE = "$$DESTDIR$$PREFIX"
 LIB = "$${LIBDIR:-$$PREFIX/lib}"
 
-# On Arm the program is a script and the x86-64 program that it runs.
 install: all
 	install -d $(BASE)/bin $(BASE)/include $(BASE)/share/man/man1 $(BASE)/share/man/man3 "$$DESTDIR"$(LIB)/pkgconfig
 	install -m 644 include/fiddlemarsh.h $(BASE)/include
 	install -m 644 target/staticlib/libfiddlemarsh.a "$$DESTDIR"$(LIB)
 	install -m 755 cli/build/fiddlemarsh $(BASE)/bin
-	if [ -e cli/build/fiddlemarsh.x86-64 ]; then install -m 755 cli/build/fiddlemarsh.x86-64 $(BASE)/bin; fi
 	install -m 644 man/fiddlemarsh.1 $(BASE)/share/man/man1
 	install -m 644 man/fiddlemarsh.3 $(BASE)/share/man/man3
 	{ printf 'prefix=%s\nlibdir=%s\nincludedir=$${prefix}/include\n\n' "$$PREFIX" $(LIB) && \

@@ -336,7 +336,7 @@ else
 fi
 
 # Progress, on a terminal that shows no lines
-on_terminal() { run script --quiet --return --command "{ sleep 1.3; cat example.xm; } | ${RUN:-} ./program check $1 - example.xm" /dev/null; }
+on_terminal() { run script --quiet --return --command "{ sleep 1.3; cat example.xm; } | ./program check $1 - example.xm" /dev/null; }
 shows_progress() { # on a busy machine the program may start late
     for _ in 1 2 3; do
         on_terminal --quiet

@@ -187,12 +187,11 @@ ok "a new OUT heeds the mask" [ "$(stat -c %a masked)" = 640 ]
 
 # System calls that fail, and those that must not be missing
 # failing 'NAME NUMBER ERROR' ARGUMENTS...: errors are 1 not permitted, 4 interrupted, 5 input or output, 28 no space
-# shellcheck disable=SC2086  # RUN is a list
 failing() {
     wish=$1
     shift
     rm -f calls
-    run env CALLS=calls FAILS="$wish" timeout 10 ${RUN:-} ./failing "$@"
+    run env CALLS=calls FAILS="$wish" timeout 10 ./failing "$@"
 }
 cp precious kept && chmod 640 kept
 failing 'none 0 0' press example.xm kept
@@ -247,8 +246,7 @@ if [ "$(id -u)" -eq 0 ] && permissions_bind; then
     fiddlemarsh press example.xm owned
     ok "owner and group are kept" [ "$(stat -c %u:%g owned)" = 1234:5678 ]
     cp precious open/shared && chown 1234:5678 open/shared && chmod 662 open/shared
-    # shellcheck disable=SC2086
-    run somebody 5678 ${RUN:-} ./program press example.xm open/shared
+    run somebody 5678 ./program press example.xm open/shared
     ok "the group alone where that is all" [ "$(stat -c '%u:%g %a' open/shared)" = '65534:5678 662' ]
     chown 1234:5678 open/shared
     as_somebody press example.xm open/shared
@@ -274,8 +272,8 @@ held() {
 }
 for signal in 1:HUP 2:INT 3:QUIT 10:USR1 12:USR2 13:PIPE 14:ALRM 15:TERM 24:XCPU 26:VTALRM 27:PROF; do
     number=${signal%:*} signal=${signal#*:}
-    # shellcheck disable=SC2086  # a shell's background commands ignore INT and QUIT, and all under nohup ignore HUP
-    held env --default-signal=HUP,INT,QUIT ${RUN:-} ./program press example.xm precious
+    # a shell's background commands ignore INT and QUIT, and all under nohup ignore HUP
+    held env --default-signal=HUP,INT,QUIT ./program press example.xm precious
     ok "$signal: the program is held up with a temporary file" half_file
     kill -s "$signal" $held
     status=0
@@ -285,8 +283,7 @@ for signal in 1:HUP 2:INT 3:QUIT 10:USR1 12:USR2 13:PIPE 14:ALRM 15:TERM 24:XCPU
     ok "$signal leaves OUT" is_same precious precious.copy
 done
 trap '' HUP
-# shellcheck disable=SC2086
-held ${RUN:-} ./program press example.xm precious
+held ./program press example.xm precious
 trap - HUP
 kill -s HUP $held
 sleep 0.1
@@ -300,8 +297,7 @@ exec 3>&-
 cp precious.copy precious
 mkfifo unread
 exec 3<>unread 4>unread 3>&- # a pipe that nobody reads from
-# shellcheck disable=SC2086
-run eval '${RUN:-} ./program press example.xm precious >&4'
+run eval './program press example.xm precious >&4'
 exec 4>&-
 ok "nobody to read its line" exits 141
 ok "leaves OUT" is_same precious precious.copy

@@ -188,11 +188,10 @@ ok "lines that cannot be written" exits 2
 
 # A file that cannot be read again. Each takes two reads: example.xm 1 and 2, behind.xm 3 and 4, tempo.xm 5 and 6, header.xm 7 and 8;
 # then example.xm 9 and 10, behind.xm 11 and 12, header.xm 13 and 14
-# shellcheck disable=SC2086  # RUN is a list
 failing() {
     wish=$1
     shift
-    run env FAILS="$wish" timeout 10 ${RUN:-} ./failing "$@"
+    run env FAILS="$wish" timeout 10 ./failing "$@"
 }
 failing 'read 7 5' same example.xm behind.xm tempo.xm header.xm
 ok "a read that fails" complains_only 'fiddlemarsh: header.xm: cannot be read: Input/output error'
@@ -214,8 +213,7 @@ mkfifo pipe
 changing() {
     cp example.xm one.xm && cp behind.xm two.xm && cp header.xm three.xm
     exec 9<>pipe
-    # shellcheck disable=SC2086
-    ${RUN:-} ./program same one.xm two.xm three.xm pipe >said 2>complained 9>&- &
+    ./program same one.xm two.xm three.xm pipe >said 2>complained 9>&- &
     held=$!
     tries=0
     # the program has opened it, which its 9 of the first moment does not show
@@ -264,20 +262,15 @@ fiddlemarsh same many
 ok "300 files are 100 songs" says '^300 files: 300 accepted as 100 songs, 0 refused, 0 troubles$'
 ok "of three files each" [ "$(grep -c '^many/0\([0-9][0-9]\).xm: one song with many/1\1.xm, many/2\1.xm$' said)" -eq 100 ]
 ok "in their order" eval "sed '\$d' said | sort -c"
-# memory_of ARGUMENTS...: how many kilobytes the program had at once, an emulator's own among them
+# memory_of ARGUMENTS...: how many kilobytes the program had at once
 memory_of() {
-    # shellcheck disable=SC2086
     python3 -c 'import resource, subprocess, sys
 subprocess.run(sys.argv[1:], stdout=subprocess.DEVNULL)
-print(resource.getrusage(resource.RUSAGE_CHILDREN).ru_maxrss)' ${RUN:-} ./program "$@"
+print(resource.getrusage(resource.RUSAGE_CHILDREN).ru_maxrss)' ./program "$@"
 }
 few=$(memory_of same many/000.xm many/100.xm many/200.xm)
 ok "they take hardly more memory than three" [ "$(memory_of same many)" -lt $((few + 65536)) ]
-if [ -z "${RUN:-}" ]; then
-    run eval '(ulimit -v 65536 && program same many)'
-    ok "and 64 megabytes are enough" exits 0
-else
-    skip 1 "little memory, where an emulator needs more"
-fi
+run eval '(ulimit -v 65536 && program same many)'
+ok "and 64 megabytes are enough" exits 0
 
 verdict cli_same

@@ -1,5 +1,5 @@
 # cli_tools.sh: what the tests of the command-line program have in common. They are run in a directory of their own that has the
-# program and the example module; RUN may name an emulator. With STOP set, the first failure ends them.
+# program and the example module. With STOP set, the first failure ends them.
 #
 #   . cli_tools.sh    with the arguments PROGRAM EXAMPLE; EXAMPLE is the module that cli/example.c makes
 # shellcheck shell=sh
@@ -21,8 +21,7 @@ run() {
 }
 
 # A program that waits for what never comes has failed.
-# shellcheck disable=SC2086  # RUN is a list
-program() { timeout 10 ${RUN:-} ./program "$@"; }
+program() { timeout 10 ./program "$@"; }
 fiddlemarsh() { run program "$@"; }
 
 # ok DESCRIPTION COMMAND...: the command must succeed.
@@ -83,7 +82,5 @@ else
         "$@"
     }
 fi
-# shellcheck disable=SC2086
-as_somebody() { run somebody '' ${RUN:-} ./program "$@"; }
-# shellcheck disable=SC2086
-permissions_bind() { somebody '' ${RUN:-} ./program --help >/dev/null 2>&1; }
+as_somebody() { run somebody '' ./program "$@"; }
+permissions_bind() { somebody '' ./program --help >/dev/null 2>&1; }

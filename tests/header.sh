@@ -2,8 +2,8 @@
 # header.sh: the header as a manual. Each of its constants and functions is named in a test, and the program at its end does what it
 # says. The last line is 'header: N passed, 0 failed'.
 #
-#   header.sh BUILD EXAMPLE     EXAMPLE is the module that cli/example.c makes; CC, CFLAGS, LDFLAGS, LIBRARY and RUN are taken from
-#                               the environment
+#   header.sh BUILD EXAMPLE     EXAMPLE is the module that cli/example.c makes; CC, CFLAGS, LDFLAGS and LIBRARY are taken from the
+#                               environment
 set -u
 header=../include/fiddlemarsh.h
 build=$1 example=$2
@@ -34,7 +34,7 @@ program=$build/header-program
 sed -n '/^\/\* A whole program/,/^\*\//s/^       //p' $header >"$program.c"
 # shellcheck disable=SC2086  # lists
 compile() { $CC -std=c99 -Wall -Wextra -Wpedantic -Werror -I../include $CFLAGS $LDFLAGS "$program.c" "$LIBRARY" -o "$program"; }
-run() { ${RUN:-} "$program" "$@" >"$program.said"; }
+run() { "$program" "$@" >"$program.said"; }
 says() { [ "$(cat "$program.said")" = "$1" ]; }
 refuses() { ! run "$1" && says "$2"; }
 

@@ -2,7 +2,7 @@
 # make.sh: the Makefile's commands, as users and packagers call them: names of any kind, and installing. The last line is
 # 'make: N passed, 0 failed'.
 #
-#   make.sh EXAMPLE     EXAMPLE is the module that cli/example.c makes; CC, CFLAGS, LDFLAGS and RUN are taken from the environment
+#   make.sh EXAMPLE     EXAMPLE is the module that cli/example.c makes; CC, CFLAGS and LDFLAGS are taken from the environment
 set -u
 unset MAKEFLAGS MFLAGS MAKELEVEL # a make of its own
 root=$(cd .. && pwd)
@@ -89,7 +89,7 @@ END
 value_of() { sed -n "s/^$1=//p" "$2" | sed "s,\${prefix},$(sed -n 's/^prefix=//p' "$2"),"; }
 pc=plain/usr/lib/pkgconfig/fiddlemarsh.pc
 # shellcheck disable=SC2086  # lists
-compile() { $CC $CFLAGS $LDFLAGS user.c "$@" -o user >said 2>&1 && ${RUN:-} ./user; }
+compile() { $CC $CFLAGS $LDFLAGS user.c "$@" -o user >said 2>&1 && ./user; }
 ok "the pkg-config file's directories" compile -I"plain$(value_of includedir $pc)" -L"plain$(value_of libdir $pc)" -lfiddlemarsh
 ok "the pkg-config file's version" grep -q "^Version: $version\$" $pc
 # shellcheck disable=SC2016

@@ -2,7 +2,7 @@
 # must-see-cli.sh: puts each deliberate fault of must-see-cli/ into a copy of the command-line program or the header, one at a time,
 # and lets the test run that is named in it. The test must notice every one. The last line is 'N deliberate faults noticed'.
 #
-#   must-see-cli.sh BUILD LIBRARY EXAMPLE     CC, LDFLAGS, WRAP, RUN, HOST_CC and JOBS (2) are taken from the environment
+#   must-see-cli.sh BUILD LIBRARY EXAMPLE     CC, LDFLAGS, WRAP, HOST_CC and JOBS (2) are taken from the environment
 #
 # A fault is a file of lines: what it is, 'by:' (the test), 'file:', and pairs of 'old:' (one whole line of that file) and 'new:'.
 set -eu

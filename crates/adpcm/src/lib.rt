@@ -1,4 +1,6 @@
 // ADPCM samples: a table of 16 deltas, and two 4-bit indexes into it to a byte, to values.
+#![tactic(auto)]
+
 ghost use Rattle.std.specs.Prelude.{◌≡◌, ◌/◌, ◌%◌, ◌≤◌, ◌<◌, length};
 ghost use Rattle.xm.specs.Answer.{in_front};
 ghost use Rattle.xm.specs.Sample.{delta_table, adpcm_size};

@@ -1,4 +1,6 @@
 // What the fast loops stand on: eight bytes at once, empty cells among them, and two cells ahead; and the lengths of a block of bytes.
+#![tactic(auto)]
+
 ghost use Rattle.std.specs.Prelude.{◌≡◌, ◌+◌, ◌*◌, ◌%◌, ◌≤◌, length};
 ghost use Rattle.xm.specs.Cell.{length_by};
 ghost use Rattle.ahead.specs.Ahead.{eight_at, EightRead, Empties, AheadOf, cell_behind, lengths_by, block_size, BlockOf, Follows, lengths_from};

@@ -1,4 +1,6 @@
 // A sample asked for by number, of a table over flat numbers, or by the numbers of its row.
+#![tactic(auto)]
+
 ghost use Rattle.std.specs.Prelude.{◌≡◌};
 ghost use Rattle.xm.specs.Answer.{number_of};
 ghost use Rattle.xm.specs.Asking.{asking, stretch_of, asking_flat};

@@ -7,7 +7,7 @@ ghost use Rattle.cell.specs.Read.{bits_by, fields_from, FirstField, NextField, c
 
 use refusal::{Refusal, Step};
 
-#[derive(Drop)]
+#[derive(Clone, Copy)]
 pub struct Cell {
     pub note: u8,
     pub instrument: u8,
@@ -17,7 +17,7 @@ pub struct Cell {
 }
 
 // A field of a stored cell: it stands at its place if the lowest of its bits says so.
-#[derive(Drop)]
+#[derive(Clone, Copy)]
 pub struct Field {
     pub place: usize,
     pub bits: u8,

@@ -1,4 +1,6 @@
 // Unpacking: a stored pattern's cells, five bytes each.
+#![tactic(auto)]
+
 ghost use Rattle.std.specs.Prelude.{◌≡◌, ◌+◌, ◌*◌, ◌≤◌, true, length, drop};
 ghost use Rattle.xm.specs.Got.{accepted};
 ghost use Rattle.xm.specs.Format.{flat};

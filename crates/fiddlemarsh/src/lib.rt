@@ -1,4 +1,6 @@
 // What the loader links: eleven calls, each with the loader's one number as its answer.
+#![tactic(auto)]
+
 ghost use Rattle.std.specs.Prelude.{◌≡◌, length};
 ghost use Rattle.xm.specs.Table.{check_loader, check_into_loader, room_of};
 ghost use Rattle.xm.specs.Packing.{unpack_loader, unpack_after, pack_loader, pack_after};

@@ -1,4 +1,6 @@
 // The fields and the sample headers of an instrument, as they are written. What its own structures cut off is 0.
+#![tactic(auto)]
+
 ghost use Rattle.std.specs.Prelude.{◌≡◌, ◌+◌, ◌*◌, ◌≤◌, ◌<◌, length, take, drop};
 ghost use Rattle.xm.specs.ModuleKind.{padded};
 ghost use Rattle.xm.specs.Answer.{in_front};

@@ -1,5 +1,7 @@
 // The form in which an instrument is written: I, H and how many bytes it takes. In a stripped module they are the smallest that read the same:
 // from the end of the fields back to the last byte that is not 0.
+#![tactic(auto)]
+
 ghost use Rattle.std.specs.Prelude.{◌≡◌, ◌+◌, ◌-◌, ◌*◌, ◌≤◌, length, take, drop};
 ghost use Rattle.xm.specs.Number.{part};
 ghost use Rattle.xm.specs.ModuleKind.{stripped, kind_by, padded, trimmed};
@@ -15,7 +17,7 @@ ghost use Rattle.forms.specs.Form.{FormIs, normal_form, written_fields};
 use ahead::eight_at;
 use steps::instrument::InstrumentPart;
 
-#[derive(Drop)]
+#[derive(Clone, Copy)]
 pub struct Form {
     pub size: usize,
     pub head_size: usize,

@@ -1,4 +1,5 @@
 -- Laws of the steps over sample headers and sample data. Assumes nothing.
+use borrow.Author.Rules.{rules}
 use Prim.Native.Nat.{ℕ, zero, suc, ◌+◌, ◌-◌, ◌*◌, ◌≤◌, ◌<◌}
 use mathlib.Core.Bool.{Bool, true, false, cond}
 use mathlib.Core.List.{List, [], ◌∷◌}
@@ -100,7 +101,7 @@ cut_filled file place size few e =
 -- A header's tests, by the fields that the code has
 same_refusal : (place : ℕ) (head : SampleHead) → first_refusal (head_tests_of 0 head) ≡ first_refusal (head_tests_of place head)
 unfolding first_refusal
-same_refusal place head = refl
+same_refusal place head = search rules
 
 module _ (file : List ℕ) (place size : ℕ) {head : SampleHead} (v : HeadAt (head_bytes size (drop place file)) head) (there : place + size ≤ length file) where
   abbrev found : Got StretchFound

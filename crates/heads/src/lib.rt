@@ -1,4 +1,6 @@
 // Sample headers and sample data. Data are never read, only stepped over.
+#![tactic(auto)]
+
 ghost use Rattle.std.specs.Prelude.{◌≡◌, ◌+◌, ◌*◌, ◌≤◌, ◌<◌, length, take, drop, replicate};
 ghost use Rattle.xm.specs.ModuleKind.{padded};
 ghost use Rattle.xm.specs.Got.{passes};

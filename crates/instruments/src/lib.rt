@@ -1,4 +1,6 @@
 // An instrument of a file that is written: its fields, its sample headers and its samples' data.
+#![tactic(auto)]
+
 ghost use Rattle.std.specs.Prelude.{◌≡◌, ◌≤◌, length};
 ghost use Rattle.xm.specs.ModuleKind.{normal, stripped, kind_by};
 ghost use Rattle.xm.specs.Answer.{in_front};

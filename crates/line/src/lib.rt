@@ -1,4 +1,6 @@
 // The listing's one line: `ok END CHANNELS PATTERNS INSTRUMENTS SAMPLES`, or `refused NUMBER PLACE`.
+#![tactic(auto)]
+
 ghost use Rattle.std.specs.Prelude.{◌≡◌, ◌+◌, ◌≤◌, ◌++◌, length};
 ghost use Rattle.xm.specs.Answer.{in_front};
 ghost use Rattle.xm.specs.Lay.{lay};

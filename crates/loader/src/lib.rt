@@ -1,5 +1,7 @@
 // The loader's one number for the answer of each call: "refusal number × 2^32 + place, or else the end, the rows, length + 65,536 × rows,
 // the length"; of deltas, how many values or bytes were written; and of a period both its numbers, E + 65,536 × 2^(octave + 1).
+#![tactic(auto)]
+
 pub mod limit;
 
 ghost use Rattle.std.specs.Prelude.{◌≡◌, ◌^◌, ◌<◌};

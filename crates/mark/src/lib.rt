@@ -1,4 +1,6 @@
 // What the walk leaves for a second pass over the patterns: a mark for each.
+#![tactic(auto)]
+
 ghost use Rattle.std.specs.Prelude.{◌≡◌, ◌≤◌, ◌<◌, length};
 ghost use Rattle.mark.specs.Mark.{mark_by, with_two, bits_of, pattern_mark, Put};
 

@@ -1,4 +1,6 @@
 // Stored cells checked and measured in one pass: how short they can be, and whether they stand so already.
+#![tactic(auto)]
+
 ghost use Rattle.std.specs.Prelude.{◌≡◌, ◌+◌, ◌*◌, ◌≤◌, true, ◌&&◌, eqb, length, drop};
 ghost use Rattle.xm.specs.Got.{AllHold};
 ghost use Rattle.xm.specs.Cell.{bit};
@@ -14,7 +16,7 @@ use cell::{pattern, read};
 use refusal::{Refusal, Step, refusal_of};
 
 // Of stored cells: the bytes that they take, those of their shortest form, and whether they stand in that form already.
-#[derive(Drop)]
+#[derive(Clone, Copy)]
 pub struct StoredSize {
     pub used: usize,
     pub shortest: usize,

@@ -1,4 +1,6 @@
 // The whole of a file that is written: the header, then each pattern and each instrument into what remains of the output.
+#![tactic(auto)]
+
 ghost use Rattle.std.specs.Prelude.{◌&&◌, not, ◌≡◌, ◌≤◌, length, replicate};
 ghost use Rattle.xm.specs.ModuleKind.{kind_by};
 ghost use Rattle.xm.specs.Got.{Told};

@@ -1,4 +1,6 @@
 // Packing: the cells of a pattern in their shortest stored form.
+#![tactic(auto)]
+
 ghost use Rattle.std.specs.Prelude.{◌≡◌, ◌+◌, ◌*◌, ◌≤◌, length, drop, replicate};
 ghost use Rattle.xm.specs.Got.{◌at◌};
 ghost use Rattle.xm.specs.Format.{joined};

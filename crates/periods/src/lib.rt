@@ -1,4 +1,6 @@
 // The period of a note and its finetune, by document 001's table: two whole numbers.
+#![tactic(auto)]
+
 mod table;
 
 ghost use Rattle.std.specs.Prelude.{◌≡◌, ◌≤◌, ◌<◌};

@@ -3,42 +3,43 @@ use crate::lent::least;
 use crate::write::{Answer, accepted, put, put_answer, put_lent, refused, say};
 use press::Pressed;
 use reader::count::Counted;
+use std::io;
 use structures::{Standing, hand, start};
 use walk::Verdict;
 
 // The check's numbers.
-pub fn put_verdict(verdict: Verdict) {
+pub fn put_verdict(rt: &impl Print, verdict: Verdict) -> io::Result<()> {
     match verdict {
         Verdict::Accepted(module) => {
-            put_answer(accepted(module.end, module.channels));
-            put(module.patterns);
-            put(module.instruments);
-            put(module.samples);
+            put_answer(rt, accepted(module.end, module.channels))?;
+            put(rt, module.patterns)?;
+            put(rt, module.instruments)?;
+            put(rt, module.samples)
         }
-        Verdict::Refused(refusal) => put_answer(refused(refusal)),
+        Verdict::Refused(refusal) => put_answer(rt, refused(refusal)),
     }
 }
 
 // A structure's kind and place; true, for it is not the end.
-fn put_structure(kind: &[u8], place: usize) -> bool {
-    say(kind);
-    put(place);
-    true
+fn put_structure(rt: &impl Print, kind: &[u8], place: usize) -> io::Result<bool> {
+    say(rt, kind)?;
+    put(rt, place)?;
+    Ok(true)
 }
 
 // Answers whether a structure was handed over.
-fn put_standing(standing: Standing) -> bool {
+fn put_standing(rt: &impl Print, standing: Standing) -> io::Result<bool> {
     match standing {
-        Standing::Pattern(place) => put_structure(b" pattern", place),
-        Standing::Instrument(place) => put_structure(b" instrument", place),
-        Standing::SampleHeader(place) => put_structure(b" sample", place),
+        Standing::Pattern(place) => put_structure(rt, b" pattern", place),
+        Standing::Instrument(place) => put_structure(rt, b" instrument", place),
+        Standing::SampleHeader(place) => put_structure(rt, b" sample", place),
         Standing::End => {
-            say(b" end");
-            false
+            say(rt, b" end")?;
+            Ok(false)
         }
         Standing::Refused(refusal) => {
-            put_answer(refused(refusal));
-            false
+            put_answer(rt, refused(refusal))?;
+            Ok(false)
         }
     }
 }
@@ -47,7 +48,7 @@ fn put_standing(standing: Standing) -> bool {
 const STRUCTURES_MOST: usize = 1000;
 
 // All structures in order, and the end.
-pub fn put_structures(file: &[u8]) {
+pub fn put_structures(rt: &impl Print, file: &[u8]) -> io::Result<()> {
     let mut reached = start(file);
     let mut on = true;
     let mut left = STRUCTURES_MOST;
@@ -55,29 +56,30 @@ pub fn put_structures(file: &[u8]) {
         let handed = hand(file, reached);
         let standing = handed.standing;
         let further = handed.reached;
-        on = put_standing(standing);
+        on = put_standing(rt, standing)?;
         reached = further;
         left -= 1;
     }
+    Ok(())
 }
 
 // What the small reader counted.
-pub fn put_counted(counted: Counted) {
+pub fn put_counted(rt: &impl Print, counted: Counted) -> io::Result<()> {
     match counted {
         Counted::Accepted(counts) => {
-            put_answer(accepted(counts.patterns, counts.instruments));
-            put(counts.samples);
+            put_answer(rt, accepted(counts.patterns, counts.instruments))?;
+            put(rt, counts.samples)
         }
-        Counted::Refused(refusal) => put_answer(refused(refusal)),
+        Counted::Refused(refusal) => put_answer(rt, refused(refusal)),
     }
 }
 
 // The listing's line, with its own end.
-pub fn put_line(file: &[u8]) {
+pub fn put_line(rt: &impl Print, file: &[u8]) -> io::Result<()> {
     let mut text = [0u8; 128];
     let length = line::fill_line(file, &mut text);
-    say(b" ");
-    say(&text[..length]);
+    say(rt, b" ")?;
+    say(rt, &text[..length])
 }
 
 // The numbers of a press.
@@ -89,11 +91,11 @@ fn of_pressed(pressed: Pressed) -> Answer {
 }
 
 // Numbers: the room.
-pub fn put_press(file: &[u8], wanted: usize, lent: &mut [u8]) {
+pub fn put_press(rt: &impl Print, file: &[u8], wanted: usize, lent: &mut [u8]) -> io::Result<()> {
     let room = least(wanted, lent.len());
     let pressed = press::press(file, &mut lent[0..room]);
-    put_answer(of_pressed(pressed));
-    put_lent(lent, room);
+    put_answer(rt, of_pressed(pressed))?;
+    put_lent(rt, lent, room)
 }
 
 // To a stripped module if `kind` is 1, and else to a normal one.
@@ -105,9 +107,15 @@ fn converted(file: &[u8], kind: usize, out: &mut [u8]) -> Pressed {
 }
 
 // Numbers: the kind, the room.
-pub fn put_converted(file: &[u8], kind: usize, wanted: usize, lent: &mut [u8]) {
+pub fn put_converted(
+    rt: &impl Print,
+    file: &[u8],
+    kind: usize,
+    wanted: usize,
+    lent: &mut [u8],
+) -> io::Result<()> {
     let room = least(wanted, lent.len());
     let answer = converted(file, kind, &mut lent[0..room]);
-    put_answer(of_pressed(answer));
-    put_lent(lent, room);
+    put_answer(rt, of_pressed(answer))?;
+    put_lent(rt, lent, room)
 }

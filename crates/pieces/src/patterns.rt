@@ -3,6 +3,7 @@ use crate::lent::{least, part};
 use crate::script::Numbers;
 use crate::write::{Answer, accepted, put_answer, put_lent, refused};
 use cells::Unpacked;
+use std::io;
 
 // A table's number.
 fn wide(number: u32) -> usize {
@@ -29,11 +30,17 @@ fn of_unpacked(unpacked: Unpacked) -> Answer {
 }
 
 // Numbers: the pattern, data bytes skipped, rows, channels, the room.
-pub fn put_unpack(file: &[u8], numbers: Numbers, patterns: &[u32], lent: &mut [u8]) {
+pub fn put_unpack(
+    rt: &impl Print,
+    file: &[u8],
+    numbers: Numbers,
+    patterns: &[u32],
+    lent: &mut [u8],
+) -> io::Result<()> {
     let stored = stored_of(file, patterns, numbers.first);
     let skipped = part(stored, numbers.second, stored.len());
     let room = least(numbers.fifth, lent.len());
     let unpacked = cells::unpack(numbers.third, numbers.fourth, skipped, &mut lent[0..room]);
-    put_answer(of_unpacked(unpacked));
-    put_lent(lent, room);
+    put_answer(rt, of_unpacked(unpacked))?;
+    put_lent(rt, lent, room)
 }

@@ -45,7 +45,7 @@ fn number(line: &[u8], wanted: usize) -> usize {
 }
 
 // The numbers of a line; 0 for each that it doesn't have.
-#[derive(Drop)]
+#[derive(Clone, Copy)]
 pub struct Numbers {
     pub first: usize,
     pub second: usize,

@@ -6,6 +6,7 @@ use crate::script::Numbers;
 use crate::stretches::{put_ask, put_deltas, put_values};
 use crate::sum;
 use crate::write::put_sum;
+use std::io;
 use tables::check_into;
 use walk::Verdict;
 
@@ -25,33 +26,41 @@ fn rooms(call: u8, numbers: Numbers) -> Numbers {
 
 // The check's numbers, and the sum of all four tables.
 fn put_tables(
+    rt: &impl Print,
     verdict: Verdict,
     patterns: &[u32; 776],
     instruments: &[u32; 392],
     samples: &[u32; 456],
     tunes: &[i8; 132],
-) {
-    put_verdict(verdict);
+) -> io::Result<()> {
+    put_verdict(rt, verdict)?;
     let first = sum::of_numbers(sum::START, patterns);
     let second = sum::of_numbers(first, instruments);
     let third = sum::of_numbers(second, samples);
-    put_sum(sum::of_tunes(third, tunes));
+    put_sum(rt, sum::of_tunes(third, tunes))
 }
 
 // The call of a line, on filled tables.
-fn run_on(file: &[u8], numbers: Numbers, call: u8, patterns: &[u32; 776], samples: &[u32; 456]) {
+fn run_on(
+    rt: &impl Print,
+    file: &[u8],
+    numbers: Numbers,
+    call: u8,
+    patterns: &[u32; 776],
+    samples: &[u32; 456],
+) -> io::Result<()> {
     let mut lent = memory();
     match call {
-        b'a' => put_ask(file, numbers, samples),
-        b'd' => put_deltas(file, numbers, samples, &mut lent),
-        b'v' => put_values(file, numbers, samples),
-        _ => put_unpack(file, numbers, patterns, &mut lent),
+        b'a' => put_ask(rt, file, numbers, samples),
+        b'd' => put_deltas(rt, file, numbers, samples, &mut lent),
+        b'v' => put_values(rt, file, numbers, samples),
+        _ => put_unpack(rt, file, numbers, patterns, &mut lent),
     }
 }
 
 // Tables with room for 256 patterns, 128 instruments and 64 samples, and some numbers more. Of the check that fills them, the line's
 // numbers: how many are lent of each.
-pub fn run_tables(file: &[u8], numbers: Numbers, call: u8) {
+pub fn run_tables(rt: &impl Print, file: &[u8], numbers: Numbers, call: u8) -> io::Result<()> {
     let mut patterns: [u32; 776] = [1515870810; 776];
     let mut instruments: [u32; 392] = [1515870810; 392];
     let mut samples: [u32; 456] = [1515870810; 456];
@@ -69,8 +78,7 @@ pub fn run_tables(file: &[u8], numbers: Numbers, call: u8) {
         &mut tunes[0..tune_room],
     );
     if call == b't' {
-        put_tables(verdict, &patterns, &instruments, &samples, &tunes);
-        return;
+        return put_tables(rt, verdict, &patterns, &instruments, &samples, &tunes);
     }
-    run_on(file, numbers, call, &patterns, &samples);
+    run_on(rt, file, numbers, call, &patterns, &samples)
 }

@@ -1,22 +1,22 @@
 // The program's words and numbers, on standard output.
 use crate::lent::{least, part};
 use crate::sum;
-use libc::STDOUT_FILENO;
 use refusal::Refusal;
+use std::io;
+use std::io::Write;
 
 // Words, as they stand.
-pub fn say(words: &[u8]) {
-    io::write_all(STDOUT_FILENO, words);
+pub fn say(rt: &impl Print, words: &[u8]) -> io::Result<()> {
+    io::writer(rt).write_all(words)
 }
 
 // A space, and a number.
-pub fn put(number: usize) {
-    say(b" ");
-    io::print_decimal(STDOUT_FILENO, number as u64);
+pub fn put(rt: &impl Print, number: usize) -> io::Result<()> {
+    print!(rt; " {number}")
 }
 
 // An answer: a refusal's number and place, and the results, which are 0 where there are none.
-#[derive(Drop)]
+#[derive(Clone, Copy)]
 pub struct Answer {
     pub number: usize,
     pub place: usize,
@@ -45,20 +45,21 @@ pub fn refused(refusal: Refusal) -> Answer {
 }
 
 // Number, place and two results.
-pub fn put_answer(answer: Answer) {
-    put(answer.number);
-    put(answer.place);
-    put(answer.first);
-    put(answer.second);
+pub fn put_answer(rt: &impl Print, answer: Answer) -> io::Result<()> {
+    put(rt, answer.number)?;
+    put(rt, answer.place)?;
+    put(rt, answer.first)?;
+    put(rt, answer.second)
 }
 
 // A checksum.
-pub fn put_sum(sum: u64) {
-    say(b" sum");
-    put(sum as usize);
+pub fn put_sum(rt: &impl Print, sum: u64) -> io::Result<()> {
+    say(rt, b" sum")?;
+    put(rt, sum as usize)
 }
 
 // Memory of which so much was lent, and 16 bytes behind that.
-pub fn put_lent(memory: &[u8], room: usize) {
-    put_sum(sum::of_bytes(part(memory, 0, least(room, memory.len()) + 16)));
+pub fn put_lent(rt: &impl Print, memory: &[u8], room: usize) -> io::Result<()> {
+    let lent = part(memory, 0, least(room, memory.len()) + 16);
+    put_sum(rt, sum::of_bytes(lent))
 }

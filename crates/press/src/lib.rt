@@ -1,4 +1,6 @@
 // Pressing: the shortest file of a module's content, of its own kind. And conversion: of either kind.
+#![tactic(auto)]
+
 mod convert;
 
 ghost use Rattle.std.specs.Prelude.{◌≡◌, length};

@@ -1,9 +1,11 @@
 -- The structures counted one by one, as a reader from the start hands them over. Assumes nothing.
-use Prim.Native.Nat.{ℕ, zero, suc, ◌+◌, ◌*◌, ◌≤◌, ◌<◌, ◌^◌}
-use mathlib.Core.Bool.{true, false}
+use Prim.Native.Nat.{ℕ, zero, suc, ◌+◌, ◌-◌, ◌*◌, ◌≤◌, ◌<◌, ◌^◌}
+use mathlib.Core.Bool.{Bool, true, false}
 use mathlib.Core.List.{List, [], ◌∷◌, ◌++◌}
-use mathlib.Core.Path.{◌≡◌, refl, sym, ap, ◌∙◌}
+use mathlib.Core.Path.{◌≡◌, refl, sym, ap, ap₂, ◌∙◌}
 use native.Mathlib.Omega.{arith}
+use borrow.Author.Tests.{ltb-true, ltb-false}
+use lib.Dec.{ltb}
 use lib.ListN.{length, take, length-append}
 use Rattle.xm.specs.Number.{Bytes}
 use Rattle.xm.specs.Got.{Got, got, refused, list_in}
@@ -23,7 +25,8 @@ use Rattle.structures.specs.Handing.{standing_at, standing_in, standing_of, ahea
 use Rattle.structures.specs.declared.Reached.{Reached}
 use Rattle.structures.specs.declared.Reached.TheVariants as reached
 use Rattle.structures.specs.declared.Standing.{Standing}
-use Rattle.structures.specs.declared.Standing.TheVariants.{End}
+use Rattle.structures.specs.declared.Standing.TheVariants.{Pattern, Instrument, SampleHeader, End}
+use Rattle.structures.specs.declared.Standing.TheVariants as standing
 use Rattle.structures.proofs.FewLaws.{structures_few}
 use Rattle.structures.proofs.Calls.{OfStanding, IsStructure, all_structures, hand_kind, reached_back}
 use Rattle.reader.specs.declared.count.Counts.{Counts}
@@ -184,3 +187,90 @@ running file plain = go (read_file file) refl
           stops = ap hands_over told;
           counted = ap (ends_as (structure_counts [])) told ∙ sym (ap counted_of (answer_refuses _ e));
         }
+
+-- One structure more is counted
+total_next : (counts : Counts) (standing : Standing) → hands_over standing ≡ true → total (one_more counts standing) ≡ total counts + 1
+total_next counts (Pattern place) h = omega arith
+total_next counts (Instrument place) h = omega arith
+total_next counts (SampleHeader place) h = omega arith
+total_next counts End h = absurd (no_true h)
+total_next counts (standing.Refused refusal) h = absurd (no_true h)
+
+-- Before a turn: so many structures are counted, and what the last call handed over is the next one, or none
+pub record Turned (file : List ℕ) (place : Reached) (counts : Counts) (standing : Standing) : Type 0 where
+  pub turns : ℕ
+  pub most : turns ≤ length (list_in structures (read_file file))
+  pub reached : place ≡ place_after file (suc turns)
+  pub counted : counts ≡ structure_counts (take turns (list_in structures (read_file file)))
+  pub stands : standing ≡ stand_after file turns
+
+-- A call's answer, by how far has been read before it
+calls_same : (file : List ℕ) {x y : Reached} {standing : Standing} → x ≡ y → standing ≡ standing_of (called file (reached_in x))
+    → standing ≡ (handing file y).standing
+calls_same file e s = s ∙ ap (λ (x : Reached). (handing file x).standing) e
+
+reads_same : (file : List ℕ) {x y place : Reached} → x ≡ y → place ≡ reached_of (read_on file (reached_in x)) → place ≡ (handing file y).reached
+reads_same file e p = p ∙ ap (λ (x : Reached). (handing file x).reached) e
+
+pub turned_first : (file : List ℕ) {x place : Reached} {counts : Counts} {standing : Standing} → x ≡ reached_of (started file)
+    → place ≡ reached_of (read_on file (reached_in x))
+    → counts ≡ structure_counts []
+    → standing ≡ standing_of (called file (reached_in x))
+    → Turned file place counts standing
+turned_first file e p c s = record { turns = 0; most = omega arith; reached = reads_same file e p; counted = c; stands = calls_same file e s }
+
+module _ (file : List ℕ) (plain : Bytes file) {place : Reached} {counts : Counts} {standing : Standing} (t : Turned file place counts standing) where
+  abbrev all : List Region
+  all = list_in structures (read_file file)
+
+  abbrev run : Running file all
+  run = running file plain
+
+  turned_inside : hands_over standing ≡ true → t.turns < length all
+  turned_inside h = go (ltb t.turns (length all)) refl
+    where
+      go : (b : Bool) → ltb t.turns (length all) ≡ b → t.turns < length all
+      go true e = ltb-true _ _ e
+      go false e =
+          let last : t.turns ≡ length all = omega (arith, ltb-false _ _ e, t.most) in
+          absurd (no_true (sym (sym h ∙ ap hands_over t.stands ∙ ap (λ (i : ℕ). hands_over (stand_after file i)) last ∙ run.stops)))
+
+  turned_last : hands_over standing ≡ false → t.turns ≡ length all
+  turned_last h = go (ltb t.turns (length all)) refl
+    where
+      go : (b : Bool) → ltb t.turns (length all) ≡ b → t.turns ≡ length all
+      go true e = absurd (no_true (sym h ∙ ap hands_over t.stands ∙ run.goes_on t.turns (ltb-true _ _ e)))
+      go false e = omega (arith, ltb-false _ _ e, t.most)
+
+  pub turned_fits : hands_over standing ≡ true → counts.patterns + counts.instruments + counts.samples + 1 < 2 ^ 64
+  turned_fits h = rw t.counted (run.fits t.turns (turned_inside h))
+
+  pub turned_less : hands_over standing ≡ true → {next : Counts} → next ≡ one_more counts standing → length all - total next < length all - total counts
+  turned_less h e =
+      omega (
+        arith,
+        ap total e,
+        total_next counts standing h,
+        turned_inside h,
+        ap total t.counted,
+        counts_few all t.turns,
+      )
+
+  pub turned_on : hands_over standing ≡ true → {place' : Reached} {counts' : Counts} {standing' : Standing}
+      → place' ≡ reached_of (read_on file (reached_in place))
+      → counts' ≡ one_more counts standing
+      → standing' ≡ standing_of (called file (reached_in place))
+      → Turned file place' counts' standing'
+  turned_on h p c s =
+      record {
+        turns = suc t.turns;
+        most = turned_inside h;
+        reached = reads_same file t.reached p;
+        counted = c ∙ ap₂ one_more t.counted t.stands ∙ run.counts_on t.turns (turned_inside h);
+        stands = calls_same file t.reached s;
+      }
+
+  pub turned_done : hands_over standing ≡ false → ends_as counts standing ≡ counted_of (counting file)
+  turned_done h =
+      ap₂ ends_as t.counted t.stands
+      ∙ ap (λ (i : ℕ). ends_as (structure_counts (take i all)) (stand_after file i)) (turned_last h) ∙ run.counted

@@ -1,4 +1,2 @@
 pub mod CountLaws
 pub mod Calls
-pub mod KnownBytes
-pub mod CallNext

@@ -1,5 +1,7 @@
 // The small reader over a file: it hands over one structure's kind and place at a call, and remembers how far it has read. The work is
 // done by functions on a plain slice and numbers; over the reader itself there are only calls and a store.
+#![tactic(auto)]
+
 pub mod count;
 
 ghost use Rattle.std.specs.Prelude.{◌≡◌};

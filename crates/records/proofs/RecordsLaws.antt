@@ -1,7 +1,8 @@
 -- The laws that the walks and the covered functions rest on. Assumes nothing.
-use Prim.Native.Nat.{ℕ, zero, suc, ◌≤◌, ◌<◌}
+use Prim.Native.Nat.{ℕ, zero, suc, ◌+◌, ◌≤◌, ◌<◌}
 use mathlib.Core.List.{List, [], ◌∷◌}
-use mathlib.Core.Path.{◌≡◌, refl, sym, ap, ◌∙◌}
+use mathlib.Core.Path.{◌≡◌, refl, sym, ap, ap₂, ◌∙◌}
+use native.Mathlib.Numerals.{add-one}
 use native.Mathlib.Omega.{arith}
 use lib.ListN.{length, get_or, set, take, drop, length-map, length-append, length-take, length-drop, get_or-map}
 use lib.Seq.{take_all}
@@ -43,6 +44,18 @@ records_length file = length-map (list_in sample_rows (read_file file)) code_row
 
 pub record_is : (file : List ℕ) (number : ℕ) → code_row (get_or (list_in sample_rows (read_file file)) number no_row) ≡ get_or (records_in file) number no_record
 record_is file number = sym (get_or-map code_row (list_in sample_rows (read_file file)) number no_row)
+
+-- The record of the next number is stored
+pub stored_next : (file : List ℕ) (lent : List SampleRow) (i : ℕ) {row : SampleRow} {held : List SampleRow}
+    → row ≡ code_row (get_or (list_in sample_rows (read_file file)) i no_row)
+    → held ≡ in_front (take i (records_in file)) lent
+    → i < length (records_in file)
+    → i < length lent
+    → set held i row ≡ in_front (take (i + 1) (records_in file)) lent
+stored_next file lent i e h l m =
+    ap₂ (λ (held : List SampleRow) (row : SampleRow). set held i row) h (e ∙ record_is file i)
+    ∙ stored_one (records_in file) lent i no_record l m
+    ∙ ap (λ (j : ℕ). in_front (take j (records_in file)) lent) (sym (add-one i))
 
 -- A check beside the records: what it counts is there and has room, and so many records stored are the records afterwards
 module _ (file patterns instruments : List ℕ) (lent : List SampleRow) where

@@ -1,5 +1,6 @@
-// The sample table as a lent row of records, thin over the flat core. Functions over a slice of records are proved by hand: a row read
-// back, and the filling. What is asked with a row that was read back takes it by value.
+// The sample table as a lent row of records, thin over the flat core. What is asked with a row that was read back takes it by value.
+#![tactic(auto)]
+
 pub mod row;
 
 ghost use Rattle.std.specs.Prelude.{◌≡◌, ◌≤◌, length, take};

@@ -1,9 +1,11 @@
 // A refusal as the calls answer it; and the step that gives no more than the next place.
+#![tactic(auto)]
+
 ghost use Rattle.std.specs.Prelude.{◌≡◌};
 ghost use Rattle.refusal.specs.Refusal.{no_refusal, step_refusal};
 
 // One of the paper's numbers, and a place.
-#[derive(Drop)]
+#[derive(Clone, Copy)]
 pub struct Refusal {
     pub number: u32,
     pub place: usize,

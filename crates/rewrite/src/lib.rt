@@ -1,5 +1,7 @@
 // One stored cell written again in its shortest form. A field is read where it is written, by the slice and its place; the lead byte, which
 // tells of all five, comes last.
+#![tactic(auto)]
+
 ghost use Rattle.std.specs.Prelude.{◌≡◌, ◌+◌, ◌*◌, ◌%◌, ◌≤◌, ◌<◌, ◌&&◌, eqb, length, get_or, drop, set};
 ghost use Rattle.xm.specs.Answer.{in_front};
 ghost use Rattle.xm.specs.Lay.{lay};

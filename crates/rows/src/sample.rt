@@ -20,7 +20,7 @@ pub const TUNE_STRIDE: usize = 2;
 
 // Header place, data place, length in bytes, width (8 or 16); loop kind (0 none, 1 forward, 2 both ways), loop start and loop length in
 // samples; finetune, relative note.
-#[derive(Drop)]
+#[derive(Clone, Copy)]
 pub struct SampleRow {
     pub header_place: u32,
     pub data_place: u32,

@@ -1,4 +1,6 @@
 // Samples: stored differences to values, and values to stored differences, at 8 and at 16 bits.
+#![tactic(auto)]
+
 ghost use Rattle.std.specs.Prelude.{◌≡◌, ◌+◌, ◌*◌, ◌%◌, ◌^◌, ◌≤◌, length};
 ghost use Rattle.xm.specs.Number.{signed};
 ghost use Rattle.xm.specs.Got.{◌at◌};

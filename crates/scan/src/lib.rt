@@ -1,4 +1,6 @@
 // Stored cells that are only tried, for 7, and a stored pattern's for 8 too: where they end.
+#![tactic(auto)]
+
 ghost use Rattle.std.specs.Prelude.{◌≡◌, ◌≤◌, length, drop};
 ghost use Rattle.xm.specs.Got.{AllHold};
 ghost use Rattle.xm.specs.Stored.{read_run, read_stored};

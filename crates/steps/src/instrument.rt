@@ -13,7 +13,7 @@ use refusal::{Refusal, Step, no_refusal, refusal_of};
 use slices::read::{long, long_in, word, word_in};
 
 // An instrument's I, k and H (0 if there are no samples), and where the next one starts.
-#[derive(Drop)]
+#[derive(Clone, Copy)]
 pub struct InstrumentPart {
     pub size: usize,
     pub samples: usize,
@@ -28,7 +28,7 @@ pub enum InstrumentStep {
 }
 
 // What its fields tell: k, where its sample headers start, and H (0 if there are none).
-#[derive(Drop)]
+#[derive(Clone, Copy)]
 pub struct InstrumentHead {
     pub samples: usize,
     pub heads: usize,

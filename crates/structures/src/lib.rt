@@ -1,5 +1,7 @@
 // One structure after the other: what a reader hands over at a call, and how far it has read then. On a plain slice and numbers, so that the
 // small reader itself has only calls and a store. The file is checked once, at the start; a call reads one structure's own fields.
+#![tactic(auto)]
+
 ghost use Rattle.std.specs.Prelude.{◌≡◌, cond, ◌+◌, ◌≤◌, ◌<◌, leb, length, drop};
 ghost use Rattle.xm.specs.Header.{kind_at};
 ghost use Rattle.xm.specs.PatternInFile.{least_pattern};
@@ -17,7 +19,7 @@ use steps::pattern::pattern_head;
 use walk::{Verdict, check};
 
 // A structure's kind and place; or that the end is reached; or the check's refusal.
-#[derive(Drop)]
+#[derive(Clone, Copy)]
 pub enum Standing {
     Pattern(usize),
     Instrument(usize),
@@ -28,7 +30,7 @@ pub enum Standing {
 
 // So many patterns and then instruments are left, from a place on; and before them, of the instrument that was handed over last, so many
 // sample headers, of a size, from a place on.
-#[derive(Drop)]
+#[derive(Clone, Copy)]
 pub struct Ahead {
     pub patterns: usize,
     pub instruments: usize,
@@ -39,7 +41,7 @@ pub struct Ahead {
 }
 
 // How far has been read; of a refused file the check's refusal.
-#[derive(Drop)]
+#[derive(Clone, Copy)]
 pub enum Reached {
     Within(Ahead),
     Refused(Refusal),

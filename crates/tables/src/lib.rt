@@ -1,4 +1,6 @@
 // The tables of an accepted file, filled in a second pass.
+#![tactic(auto)]
+
 pub mod fill;
 
 ghost use Rattle.std.specs.Prelude.{◌≡◌, ◌/◌, min, length, get_or};

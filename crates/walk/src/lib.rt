@@ -1,4 +1,6 @@
 // The walk over a file: header, patterns and instruments, one step after the other; and the check.
+#![tactic(auto)]
+
 ghost use Rattle.std.specs.Prelude.{◌≡◌, ℕ, ◌*◌, ◌≤◌, List, length, drop, replicate};
 ghost use Rattle.xm.specs.ModuleKind.{kind_by};
 ghost use Rattle.xm.specs.Got.{got};
@@ -60,7 +62,7 @@ pub enum WalkStep {
 }
 
 // What a check reports: the end of the last structure, and the counts.
-#[derive(Drop)]
+#[derive(Clone, Copy)]
 pub struct Module {
     pub end: usize,
     pub channels: usize,
@@ -69,7 +71,7 @@ pub struct Module {
     pub samples: usize,
 }
 
-#[derive(Drop)]
+#[derive(Clone, Copy)]
 pub enum Verdict {
     Accepted(Module),
     Refused(Refusal),

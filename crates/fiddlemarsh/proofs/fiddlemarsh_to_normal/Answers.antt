@@ -1,0 +1,18 @@
+-- `fiddlemarsh::fiddlemarsh_to_normal` meets its contract: the number of what the call below it answers. Assumes nothing.
+use mathlib.Core.Path.{◌∙◌}
+use native.Mathlib.Omega.{arith}
+use lib.ListN.{length}
+use Rattle.xm.specs.ModuleKind.{normal}
+use Rattle.loader.proofs.NumberLaws.{convert_fits, convert_same}
+use Rattle.fiddlemarsh.proofs.fiddlemarsh_to_normal.Goals as goal
+
+pub press_number-requires : goal.press_number-requires
+press_number-requires c =
+    let a = c.args in
+    convert_fits normal a.file.now (length a.out.now) c.to_normal-converted.ensures.answer
+    (record { below = λ i. omega (arith, c.type_inv.file i) })
+
+pub returns-clause-answer : goal.returns-clause-answer
+returns-clause-answer c =
+    let a = c.args in
+    c.press_number.ensures ∙ convert_same normal a.file.now (length a.out.now) c.to_normal-converted.ensures.answer

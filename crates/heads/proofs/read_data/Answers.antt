@@ -1,0 +1,14 @@
+-- `heads::read_data` meets its contract. Assumes nothing.
+use native.Mathlib.Omega.{arith}
+use Rattle.heads.proofs.SampleLaws.{data_cut, data_there}
+use Rattle.heads.proofs.read_data.Goals as goal
+
+pub returns-then-file-at : goal.returns-then-file-at
+returns-then-file-at c =
+    let a = c.args in
+    data_cut a.file.now a.head a.size a.at c.sample_head-sample.ensures c.data_size-bytes.ensures (omega arith) (omega arith)
+
+pub returns : goal.returns
+returns c =
+    let a = c.args in
+    data_there a.file.now a.head a.size a.at c.sample_head-sample.ensures c.data_size-bytes.ensures (omega arith)

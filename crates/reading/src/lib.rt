@@ -1,0 +1,21 @@
+// Reading into lent memory: what the programs share.
+#![tactic(auto)]
+
+ghost use Rattle.std.specs.Prelude.{◌≤◌, length};
+
+use std::io::Read;
+
+// Reads until the memory is full, the input ends or a read fails; how many bytes stand at its front then.
+pub fn read_full<R: Read>(input: &mut R, memory: &mut [u8]) -> usize
+    ensures { result ≤ length memory.new }
+{
+    let mut done: usize = 0;
+    while done < memory.len() {
+        match input.read(&mut memory[done..]) {
+            Ok(0) => break,
+            Ok(count) => done += count,
+            Err(_) => break,
+        }
+    }
+    done
+}

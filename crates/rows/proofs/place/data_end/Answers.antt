@@ -1,0 +1,14 @@
+-- `rows::place::data_end` meets its contract. The loop's invariant: so many samples are left to be stepped over. Assumes nothing.
+use mathlib.Core.Path.{◌∙◌}
+use native.Mathlib.Omega.{arith}
+use Rattle.heads.proofs.SampleLaws.{head_size}
+use Rattle.rows.proofs.PlaceLoops.{left_on, left_end}
+use Rattle.rows.proofs.place.data_end.Goals as goal
+
+pub loop-left-preserved : goal.loop-left-preserved
+loop-left-preserved c =
+    left_on _ _ _ c.loop-left.invariant c.loop-left-test.true
+    (c.data_size-place.ensures ∙ head_size c.sample_head-sample.ensures)
+
+pub returns : goal.returns
+returns c = left_end _ _ _ c.loop-left.invariant (omega arith)

@@ -1,0 +1,11 @@
+-- `scan::scan_from` meets its contract. The loop's invariant: the answer is where the cells from here on end. Assumes nothing.
+use native.Mathlib.Omega.{arith}
+use Rattle.scan.proofs.BlockLaws.{scanning_next, scanning_stop}
+use Rattle.scan.proofs.scan_from.Goals as goal
+
+pub returns-in_default : goal.returns-in_default
+returns-in_default c = scanning_stop c.loop-left.invariant (omega arith) c.try_cell-step.ensures c.in_default.is
+
+pub loop-left-preserved : goal.loop-left-preserved
+loop-left-preserved c =
+    scanning_next c.loop-left.invariant (omega arith) c.try_cell-step.ensures c.in-Next.is

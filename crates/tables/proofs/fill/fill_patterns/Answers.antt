@@ -1,0 +1,54 @@
+-- `tables::fill::fill_patterns` meets its contract. The loop's invariant: the numbers of the patterns that are left are still to be laid.
+-- Assumes nothing.
+use mathlib.Core.Path.{ap}
+use native.Mathlib.Omega.{arith}
+use Rattle.steps.specs.declared.header.HeaderPart.{HeaderPart}
+use Rattle.rows.proofs.Reading.{accepted-header}
+use Rattle.rows.proofs.PlaceLoops.{skipping_room}
+use Rattle.tables.proofs.FillLaws.{patterns_start, patterns_fit, patterns_room, patterns_on, patterns_done}
+use Rattle.tables.proofs.fill.fill_patterns.Goals as goal
+
+pub header_part-counts-requires : goal.header_part-counts-requires
+header_part-counts-requires c = (accepted-header _ c.requires.file_value).0
+
+pub loop-left-init : goal.loop-left-init
+loop-left-init c =
+    let e = c.header_part-counts.ensures in
+    rw (ap HeaderPart.patterns e, ap HeaderPart.start e) (patterns_start _ _ c.requires.file_value c.requires.file_in_bounds)
+
+pub pattern_head-pattern-requires : goal.pattern_head-pattern-requires
+pattern_head-pattern-requires c = skipping_room _ c.loop-left.invariant.skipping c.loop-left-test.true
+
+pub overflow_cast-pattern : goal.overflow_cast-pattern
+overflow_cast-pattern c =
+    let w = c.loop-left.invariant in
+    let f = patterns_fit _ _ w c.loop-left-test.true c.pattern_head-pattern.ensures in
+    omega (arith, f.inside, w.skipping.small)
+
+pub overflow_cast-pattern-in-loop-left : goal.overflow_cast-pattern-in-loop-left
+overflow_cast-pattern-in-loop-left c =
+    let w = c.loop-left.invariant in
+    let f = patterns_fit _ _ w c.loop-left-test.true c.pattern_head-pattern.ensures in
+    omega (arith, f.inside, w.skipping.small)
+
+pub overflow_cast-pattern-in-loop-left-2 : goal.overflow_cast-pattern-in-loop-left-2
+overflow_cast-pattern-in-loop-left-2 c =
+    let f = patterns_fit _ _ c.loop-left.invariant c.loop-left-test.true c.pattern_head-pattern.ensures in
+    omega (arith, f.few)
+
+pub put_three-requires : goal.put_three-requires
+put_three-requires c =
+    patterns_room _ _ c.loop-left.invariant c.loop-left-test.true c.pattern_head-pattern.ensures
+
+pub overflow_add-place : goal.overflow_add-place
+overflow_add-place c =
+    let w = c.loop-left.invariant in
+    let f = patterns_fit _ _ w c.loop-left-test.true c.pattern_head-pattern.ensures in
+    omega (arith, f.inside, w.skipping.small)
+
+pub loop-left-preserved : goal.loop-left-preserved
+loop-left-preserved c =
+    patterns_on _ _ c.loop-left.invariant c.loop-left-test.true c.pattern_head-pattern.ensures c.put_three.ensures
+
+pub returns-clause-table : goal.returns-clause-table
+returns-clause-table c = let w = c.loop-left.invariant in patterns_done _ _ w (omega arith)
