@@ -212,13 +212,6 @@ calls_same file e s = s ∙ ap (λ (x : Reached). (handing file x).standing) e
 reads_same : (file : List ℕ) {x y place : Reached} → x ≡ y → place ≡ reached_of (read_on file (reached_in x)) → place ≡ (handing file y).reached
 reads_same file e p = p ∙ ap (λ (x : Reached). (handing file x).reached) e
 
-pub turned_first : (file : List ℕ) {x place : Reached} {counts : Counts} {standing : Standing} → x ≡ reached_of (started file)
-    → place ≡ reached_of (read_on file (reached_in x))
-    → counts ≡ structure_counts []
-    → standing ≡ standing_of (called file (reached_in x))
-    → Turned file place counts standing
-turned_first file e p c s = record { turns = 0; most = omega arith; reached = reads_same file e p; counted = c; stands = calls_same file e s }
-
 module _ (file : List ℕ) (plain : Bytes file) {place : Reached} {counts : Counts} {standing : Standing} (t : Turned file place counts standing) where
   abbrev all : List Region
   all = list_in structures (read_file file)

@@ -1,13 +1,15 @@
 // Reading into lent memory: what the programs share.
 #![tactic(auto)]
 
-ghost use Rattle.std.specs.Prelude.{◌≤◌, length};
+ghost use Rattle.std.specs.Prelude.{◌≤◌, length, take};
+ghost use Rattle.std.specs.Io.KnownBytes.{Consumes};
 
 use std::io::Read;
 
-// Reads until the memory is full, the input ends or a read fails; how many bytes stand at its front then.
+// Reads until the memory is full, the input ends or a read fails; how many bytes stand at its front then, each as the input gave it.
 pub fn read_full<R: Read>(input: &mut R, memory: &mut [u8]) -> usize
-    ensures { result ≤ length memory.new }
+    ensures bound { result ≤ length memory.new }
+    ensures bytes { Consumes (R.remaining input.old) (R.remaining input.new) (take result memory.new) }
 {
     let mut done: usize = 0;
     while done < memory.len() {

@@ -1,4 +1,4 @@
--- The laws that the walks and the covered functions rest on. Assumes nothing.
+-- The laws that storing the records, and asking with a row read back, rest on. Assumes nothing.
 use Prim.Native.Nat.{ℕ, zero, suc, ◌+◌, ◌≤◌, ◌<◌}
 use mathlib.Core.List.{List, [], ◌∷◌}
 use mathlib.Core.Path.{◌≡◌, refl, sym, ap, ap₂, ◌∙◌}
