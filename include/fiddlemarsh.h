@@ -44,17 +44,17 @@
    Stack is what a call takes below its caller's, return address included: the most that was measured on x86-64.
 
        call       stack, bytes    time grows with
-       check               384    file_len: what stands in headers and patterns is read once, sample data are passed over
-       unpack              304    data_len + rows x channels
+       check               360    file_len: what stands in headers and patterns is read once, sample data are passed over
+       unpack              240    data_len + rows x channels
        pack                 72    cells_len
-       press               712    file_len: as the check, and once more what is written
-       to_normal           712    file_len: as the check, and once more what is written
-       to_stripped         712    file_len: as the check, and once more what is written
-       tables              560    file_len: as the check, and once more the headers
-       decode               24    bytes_len
-       code                 24    values_len
-       adpcm                40    length
-       period              544    nothing: it is the same for all
+       press               728    file_len: as the check, and once more what is written
+       to_normal           728    file_len: as the check, and once more what is written
+       to_stripped         728    file_len: as the check, and once more what is written
+       tables              552    file_len: as the check, and once more the headers
+       decode               72    bytes_len
+       code                 64    values_len
+       adpcm                64    length
+       period               24    nothing: it is the same for all
 
    Time grows in proportion to that and no faster, whatever the input holds.
 
@@ -98,8 +98,8 @@ extern "C" {
 
 #define FIDDLEMARSH_VERSION_MAJOR 6
 #define FIDDLEMARSH_VERSION_MINOR 0
-#define FIDDLEMARSH_VERSION_PATCH 2
-#define FIDDLEMARSH_VERSION "6.0.2"
+#define FIDDLEMARSH_VERSION_PATCH 3
+#define FIDDLEMARSH_VERSION "6.0.3"
 
 /* The refusal numbers, and the place that comes with each. */
 enum fiddlemarsh_number {
