@@ -9,7 +9,7 @@ use cell::read::chosen;
 use slices::read::wide;
 
 // Of cells from a place on: how many stand in front of the last one, where that stands, and what follows it.
-#[derive(Drop)]
+#[derive(Clone, Copy)]
 pub struct Ahead {
     pub cells: usize,
     pub last: usize,

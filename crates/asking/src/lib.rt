@@ -12,13 +12,13 @@ use refusal::Refusal;
 pub const SAMPLE_STRIDE: usize = 7;
 
 // Where a sample's data lies.
-#[derive(Drop)]
+#[derive(Clone, Copy)]
 pub struct Stretch {
     pub place: usize,
     pub length: usize,
 }
 
-#[derive(Drop)]
+#[derive(Clone, Copy)]
 pub enum Asked {
     Given(Stretch),
     Refused(Refusal),

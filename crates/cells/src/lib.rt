@@ -16,7 +16,7 @@ use cell::{pattern, read};
 use refusal::{Refusal, Step, refusal_of};
 use slices::write::clear;
 
-#[derive(Drop)]
+#[derive(Clone, Copy)]
 pub enum Unpacked {
     Rows(usize),
     Refused(Refusal),

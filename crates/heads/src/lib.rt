@@ -19,7 +19,7 @@ use slices::write::copy;
 const ADPCM: usize = 0xAD;
 
 // The fields of a sample header that the walk and the tables use.
-#[derive(Drop)]
+#[derive(Clone, Copy)]
 pub struct SampleHead {
     pub length: usize,
     pub loop_start: usize,

@@ -40,7 +40,7 @@ struct Skip {
     left: usize,
 }
 
-#[derive(Drop)]
+#[derive(Clone, Copy)]
 pub enum StoredStep {
     Read(StoredSize),
     Refused(Refusal),

@@ -24,7 +24,7 @@ use writers::header::write_header;
 use writers::pattern::write_pattern;
 
 // How far the patterns reach: in the file, and in what is written of them.
-#[derive(Drop)]
+#[derive(Clone, Copy)]
 pub struct Reached {
     pub place: usize,
     pub written: usize,

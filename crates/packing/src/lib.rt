@@ -17,13 +17,13 @@ use refusal::Refusal;
 use slices::read::wide;
 
 // A stored form that was written: how many data bytes, and its row number.
-#[derive(Drop)]
+#[derive(Clone, Copy)]
 pub struct Form {
     pub length: usize,
     pub rows: usize,
 }
 
-#[derive(Drop)]
+#[derive(Clone, Copy)]
 pub enum Packed {
     Stored(Form),
     Refused(Refusal),

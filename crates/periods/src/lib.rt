@@ -12,13 +12,13 @@ ghost use Rattle.periods.specs.Tuned.{quotient_of, tuned_of};
 use refusal::Refusal;
 
 // The period is `dividend / divisor`: E, and 2^(octave + 1).
-#[derive(Drop)]
+#[derive(Clone, Copy)]
 pub struct Quotient {
     pub dividend: u32,
     pub divisor: u32,
 }
 
-#[derive(Drop)]
+#[derive(Clone, Copy)]
 pub enum Tuned {
     Period(Quotient),
     Refused(Refusal),

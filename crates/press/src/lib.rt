@@ -15,7 +15,7 @@ use refusal::Refusal;
 use steps::kind::is_stripped;
 use walk::{WalkStep, refusal_of_walk};
 
-#[derive(Drop)]
+#[derive(Clone, Copy)]
 pub enum Pressed {
     // How many bytes were written.
     Length(usize),

@@ -9,14 +9,14 @@ use refusal::Refusal;
 use structures::{Reached, Standing, start};
 
 // How many structures there are of each kind.
-#[derive(Drop)]
+#[derive(Clone, Copy)]
 pub struct Counts {
     pub patterns: usize,
     pub instruments: usize,
     pub samples: usize,
 }
 
-#[derive(Drop)]
+#[derive(Clone, Copy)]
 pub enum Counted {
     Accepted(Counts),
     Refused(Refusal),

@@ -11,7 +11,7 @@ ghost use Rattle.structures.specs.Handing.{standing_of, reached_of, reached_in};
 use structures::{Reached, Standing, hand, start};
 
 // The place is how far it has read: what is left, and where that begins; on a refused file the check's refusal.
-#[derive(Drop)]
+#[derive(Clone, Copy)]
 pub struct Reader<'a> {
     pub file: &'a [u8],
     pub place: Reached,

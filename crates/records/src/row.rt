@@ -11,7 +11,7 @@ use rows::sample::SampleRow;
 use walk::Verdict;
 
 // A row read back; 16 for a number at or above the rows lent.
-#[derive(Drop)]
+#[derive(Clone, Copy)]
 pub enum RowAsked {
     Row(SampleRow),
     Refused(Refusal),

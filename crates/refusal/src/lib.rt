@@ -12,7 +12,7 @@ pub struct Refusal {
 }
 
 // "either a value with the next place, or a refusal", where there is no value.
-#[derive(Drop)]
+#[derive(Clone, Copy)]
 pub enum Step {
     Next(usize),
     Refused(Refusal),

@@ -78,7 +78,7 @@ fn sample_row(file: &[u8], head: usize, size: usize, data_place: usize) -> Sampl
 
 // A sample sought: its number, how many samples its instrument has from it on, where its header stands, H, and where its data begin.
 // With none left, the next instrument stands there.
-#[derive(Drop)]
+#[derive(Clone, Copy)]
 pub struct Sought {
     pub number: usize,
     pub left: usize,
@@ -88,7 +88,7 @@ pub struct Sought {
 }
 
 // The row of the sample sought, and from where the next one is sought.
-#[derive(Drop)]
+#[derive(Clone, Copy)]
 pub struct RowStep {
     pub row: SampleRow,
     pub next: Sought,

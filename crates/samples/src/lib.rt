@@ -12,14 +12,14 @@ ghost use Rattle.samples.specs.Answers.{decode_answer, code_answer};
 use refusal::Refusal;
 use slices::read::signed_byte;
 
-#[derive(Drop)]
+#[derive(Clone, Copy)]
 pub enum Decoded {
     // How many values were written.
     Values(usize),
     Refused(Refusal),
 }
 
-#[derive(Drop)]
+#[derive(Clone, Copy)]
 pub enum Coded {
     // How many bytes were written.
     Bytes(usize),

@@ -11,7 +11,7 @@ use refusal::{Refusal, no_refusal};
 use slices::read::{byte, long, word};
 
 // What the walk needs of a header: its counts, and where the first pattern starts.
-#[derive(Drop)]
+#[derive(Clone, Copy)]
 pub struct HeaderPart {
     pub channels: usize,
     pub patterns: usize,
@@ -19,7 +19,7 @@ pub struct HeaderPart {
     pub start: usize,
 }
 
-#[derive(Drop)]
+#[derive(Clone, Copy)]
 pub enum HeaderStep {
     Read(HeaderPart),
     Refused(Refusal),

@@ -21,7 +21,7 @@ pub struct InstrumentPart {
     pub next: usize,
 }
 
-#[derive(Drop)]
+#[derive(Clone, Copy)]
 pub enum InstrumentStep {
     Read(InstrumentPart),
     Refused(Refusal),

@@ -12,21 +12,21 @@ use refusal::{Refusal, Step, no_refusal, refusal_of};
 use slices::read::{long, word};
 
 // The bytes of a pattern's shortest stored form and whether it stands in that form already, and where the next structure starts.
-#[derive(Drop)]
+#[derive(Clone, Copy)]
 pub struct PatternPart {
     pub shortest: usize,
     pub same: bool,
     pub next: usize,
 }
 
-#[derive(Drop)]
+#[derive(Clone, Copy)]
 pub enum PatternStep {
     Read(PatternPart),
     Refused(Refusal),
 }
 
 // What its header tells: where its data stand, how many bytes, and its rows.
-#[derive(Drop)]
+#[derive(Clone, Copy)]
 pub struct PatternHead {
     pub place: usize,
     pub size: usize,

@@ -47,7 +47,7 @@ pub enum Reached {
     Refused(Refusal),
 }
 
-#[derive(Drop)]
+#[derive(Clone, Copy)]
 pub struct Handed {
     pub standing: Standing,
     pub reached: Reached,

@@ -55,7 +55,7 @@ enum CountStep {
 }
 
 // The length of an accepted file's pressed form.
-#[derive(Drop)]
+#[derive(Clone, Copy)]
 pub enum WalkStep {
     Accepted(usize),
     Refused(Refusal),
