@@ -5,9 +5,10 @@ ghost use Rattle.std.specs.Prelude.{◌≡◌, ◌/◌, ◌%◌, ◌≤◌, ◌<
 ghost use Rattle.xm.specs.Answer.{in_front};
 ghost use Rattle.xm.specs.Sample.{delta_table, adpcm_size};
 ghost use Rattle.xm.specs.Adpcm.{adpcm_decoded, adpcm_decoding, adpcm_after};
-ghost use Rattle.samples.specs.Answers.{decode_answer};
+ghost use Rattle.refusal.specs.Refusal.{outcome};
 
-use samples::{Decoded, bad_argument, no_room, sum8, value8};
+use refusal::{Cause, Refusal};
+use samples::Stored;
 
 const DELTA_TABLE: usize = 16;
 
@@ -25,14 +26,14 @@ pub fn adpcm_size(count: usize) -> usize
 fn low_half(pair: u8) -> usize
     ensures { (result ≡ pair % 16) × (result < delta_table) }
 {
-    (pair % 16) as usize
+    usize::from(pair % 16)
 }
 
 // The index in the high half of a byte.
 fn high_half(pair: u8) -> usize
     ensures { (result ≡ pair / 16) × (result < delta_table) }
 {
-    (pair / 16) as usize
+    usize::from(pair / 16)
 }
 
 // The running sums of the chosen deltas, two to a byte; the deltas are read where they stand. At an odd
@@ -42,37 +43,34 @@ fn write_values(count: usize, bytes: &[u8], values: &mut [i16])
     requires count_in_bounds { count ≤ length values.old }
     ensures { values.new ≡ in_front (adpcm_decoded count bytes.now) values.old }
 {
-    let mut sum: u8 = 0;
-    let mut at: usize = DELTA_TABLE;
-    let mut i: usize = 0;
-    while 2 <= count - i {
-        let pair = bytes[at];
+    let mut sum = u8::zero();
+    for i in 0..count / 2 {
+        let pair = bytes[DELTA_TABLE + i];
         let low = low_half(pair);
         let high = high_half(pair);
-        let first = sum8(sum, bytes[low]);
-        sum = sum8(first, bytes[high]);
-        values[i] = value8(first);
-        values[i + 1] = value8(sum);
-        at += 1;
-        i += 2;
+        let first = sum.plus(bytes[low]);
+        sum = first.plus(bytes[high]);
+        values[2 * i] = first.value();
+        values[2 * i + 1] = sum.value();
     }
-    if i < count {
-        let last = low_half(bytes[at]);
-        values[i] = value8(sum8(sum, bytes[last]));
+    if count % 2 == 1 {
+        let last = low_half(bytes[DELTA_TABLE + count / 2]);
+        let sum = sum.plus(bytes[last]);
+        values[count - 1] = sum.value();
     }
 }
 
 // Stored bytes to values; `count` is the header's length.
-pub fn decode_adpcm(count: usize, bytes: &[u8], values: &mut [i16]) -> Decoded
-    ensures answer { result ≡ decode_answer (adpcm_decoding count bytes.now (length values.old)) }
+pub fn decode_adpcm(count: usize, bytes: &[u8], values: &mut [i16]) -> Result<usize, Refusal>
+    ensures answer { result ≡ outcome length (adpcm_decoding count bytes.now (length values.old)) }
     ensures memory { values.new ≡ adpcm_after count bytes.now values.old }
 {
     if bytes.len() != adpcm_size(count) {
-        return Decoded::Refused(bad_argument());
+        return Err(Cause::Argument.at(0));
     }
     if values.len() < count {
-        return Decoded::Refused(no_room());
+        return Err(Cause::NoRoom.at(0));
     }
     write_values(count, bytes, values);
-    Decoded::Values(count)
+    Ok(count)
 }

@@ -30,106 +30,6 @@ trailing_times (suc j) (suc k) n h = go (trailing_times j k (n / 2)) (n % 2) ref
         (r.0, a ∙ ap (λ (x : ℕ). 2 * x) r.1 ∙ sym (mul_assoc 2 (2 ^ j) r.0) ∙ ap (λ (x : ℕ). x * r.0) (sym (pow-succ' 2 j)))
     go ih (suc d) e p = absurd (omega arith)
 
--- The bytes of an eight
-pub byte_at : (s : List ℕ) (place eight : ℕ) → ((i : ℕ) → get_or s i 0 ≤ 255) → eight ≡ eight_at s place → (i : ℕ) → i ≤ 7 → byte_in eight i ≡ get_or s (place + i) 0
-byte_at s place eight small e zero h =
-    rw add-zero (omega (
-      arith,
-      small place,
-      small (place + 1),
-      small (place + 2),
-      small (place + 3),
-      small (place + 4),
-      small (place + 5),
-      small (place + 6),
-      small (place + 7),
-    ))
-byte_at s place eight small e (suc zero) h =
-    omega (
-      arith,
-      small place,
-      small (place + 1),
-      small (place + 2),
-      small (place + 3),
-      small (place + 4),
-      small (place + 5),
-      small (place + 6),
-      small (place + 7),
-    )
-byte_at s place eight small e (suc (suc zero)) h =
-    omega (
-      arith,
-      small place,
-      small (place + 1),
-      small (place + 2),
-      small (place + 3),
-      small (place + 4),
-      small (place + 5),
-      small (place + 6),
-      small (place + 7),
-    )
-byte_at s place eight small e (suc (suc (suc zero))) h =
-    omega (
-      arith,
-      small place,
-      small (place + 1),
-      small (place + 2),
-      small (place + 3),
-      small (place + 4),
-      small (place + 5),
-      small (place + 6),
-      small (place + 7),
-    )
-byte_at s place eight small e (suc (suc (suc (suc zero)))) h =
-    omega (
-      arith,
-      small place,
-      small (place + 1),
-      small (place + 2),
-      small (place + 3),
-      small (place + 4),
-      small (place + 5),
-      small (place + 6),
-      small (place + 7),
-    )
-byte_at s place eight small e (suc (suc (suc (suc (suc zero))))) h =
-    omega (
-      arith,
-      small place,
-      small (place + 1),
-      small (place + 2),
-      small (place + 3),
-      small (place + 4),
-      small (place + 5),
-      small (place + 6),
-      small (place + 7),
-    )
-byte_at s place eight small e (suc (suc (suc (suc (suc (suc zero)))))) h =
-    omega (
-      arith,
-      small place,
-      small (place + 1),
-      small (place + 2),
-      small (place + 3),
-      small (place + 4),
-      small (place + 5),
-      small (place + 6),
-      small (place + 7),
-    )
-byte_at s place eight small e (suc (suc (suc (suc (suc (suc (suc zero))))))) h =
-    omega (
-      arith,
-      small place,
-      small (place + 1),
-      small (place + 2),
-      small (place + 3),
-      small (place + 4),
-      small (place + 5),
-      small (place + 6),
-      small (place + 7),
-    )
-byte_at s place eight small e (suc (suc (suc (suc (suc (suc (suc (suc i)))))))) h = absurd (omega arith)
-
 -- Those of a number, less seven times 128, below its lowest digit that is set
 pub run_of : (eight x : ℕ) → x ≡ eight % 72057594037927936 + 9187201950435737472 → Empties eight (count_trailing_zeros 64 x / 8)
 run_of eight x e = record { few = few (ltb (count_trailing_zeros 64 x) 64) refl; all = byte }
@@ -142,68 +42,52 @@ run_of eight x e = record { few = few (ltb (count_trailing_zeros 64 x) 64) refl;
         absurd (omega arith)
 
     byte : (i : ℕ) → i < count_trailing_zeros 64 x / 8 → byte_in eight i ≡ 128
-    byte zero h =
-        let q = trailing_times 8 64 x (omega arith) in
-        let p : x ≡ 256 * q.0 = q.1 in
-        omega arith
-    byte (suc zero) h =
-        let q = trailing_times 16 64 x (omega arith) in
-        let p : x ≡ 65536 * q.0 = q.1 in
-        omega arith
-    byte (suc (suc zero)) h =
-        let q = trailing_times 24 64 x (omega arith) in
-        let p : x ≡ 16777216 * q.0 = q.1 in
-        omega arith
-    byte (suc (suc (suc zero))) h =
-        let q = trailing_times 32 64 x (omega arith) in
-        let p : x ≡ 4294967296 * q.0 = q.1 in
-        omega arith
-    byte (suc (suc (suc (suc zero)))) h =
-        let q = trailing_times 40 64 x (omega arith) in
-        let p : x ≡ 1099511627776 * q.0 = q.1 in
-        omega arith
-    byte (suc (suc (suc (suc (suc zero))))) h =
-        let q = trailing_times 48 64 x (omega arith) in
-        let p : x ≡ 281474976710656 * q.0 = q.1 in
-        omega arith
-    byte (suc (suc (suc (suc (suc (suc zero)))))) h =
-        let q = trailing_times 56 64 x (omega arith) in
-        let p : x ≡ 72057594037927936 * q.0 = q.1 in
-        omega arith
+    byte zero h = omega (arith, (trailing_times 8 64 x (omega arith)).1)
+    byte (suc zero) h = omega (arith, (trailing_times 16 64 x (omega arith)).1)
+    byte (suc (suc zero)) h = omega (arith, (trailing_times 24 64 x (omega arith)).1)
+    byte (suc (suc (suc zero))) h = omega (arith, (trailing_times 32 64 x (omega arith)).1)
+    byte (suc (suc (suc (suc zero)))) h = omega (arith, (trailing_times 40 64 x (omega arith)).1)
+    byte (suc (suc (suc (suc (suc zero))))) h = omega (arith, (trailing_times 48 64 x (omega arith)).1)
+    byte (suc (suc (suc (suc (suc (suc zero)))))) h = omega (arith, (trailing_times 56 64 x (omega arith)).1)
     byte (suc (suc (suc (suc (suc (suc (suc i))))))) h = absurd (omega (arith, few (ltb (count_trailing_zeros 64 x) 64) refl))
 
-run_at : (s : List ℕ) (place eight count : ℕ) → ((i : ℕ) → get_or s i 0 ≤ 255) → eight ≡ eight_at s place → Empties eight count → EmptyRun s place count
-run_at s place eight count small e r =
-    let few = r.few in
-    record { few = few; all = λ i h. sym (byte_at s place eight small e i (omega arith)) ∙ r.all i h }
-
--- What an eight has ahead
+-- What an eight has ahead, by its bytes
 module _ (s : List ℕ) (place eight : ℕ) (small : (i : ℕ) → get_or s i 0 ≤ 255) (e : eight ≡ eight_at s place) where
+  smalls : (get_or s place 0 ≤ 255) × (get_or s (place + 1) 0 ≤ 255) × (get_or s (place + 2) 0 ≤ 255) × (get_or s (place + 3) 0 ≤ 255)
+      × (get_or s (place + 4) 0 ≤ 255) × (get_or s (place + 5) 0 ≤ 255) × (get_or s (place + 6) 0 ≤ 255) × (get_or s (place + 7) 0 ≤ 255)
+  smalls =
+      (small place, small (place + 1), small (place + 2), small (place + 3), small (place + 4), small (place + 5), small (place + 6), small (place + 7))
+
+  pub byte_at : (i : ℕ) → i ≤ 7 → byte_in eight i ≡ get_or s (place + i) 0
+  byte_at zero h = rw add-zero (omega (arith, smalls))
+  byte_at (suc zero) h = omega (arith, smalls)
+  byte_at (suc (suc zero)) h = omega (arith, smalls)
+  byte_at (suc (suc (suc zero))) h = omega (arith, smalls)
+  byte_at (suc (suc (suc (suc zero)))) h = omega (arith, smalls)
+  byte_at (suc (suc (suc (suc (suc zero))))) h = omega (arith, smalls)
+  byte_at (suc (suc (suc (suc (suc (suc zero)))))) h = omega (arith, smalls)
+  byte_at (suc (suc (suc (suc (suc (suc (suc zero))))))) h = omega (arith, smalls)
+  byte_at (suc (suc (suc (suc (suc (suc (suc (suc i)))))))) h = absurd (omega arith)
+
   pub lead_at : eight % 256 ≡ get_or s place 0
-  lead_at =
-      omega (
-        arith,
-        small place,
-        small (place + 1),
-        small (place + 2),
-        small (place + 3),
-        small (place + 4),
-        small (place + 5),
-        small (place + 6),
-        small (place + 7),
-      )
+  lead_at = omega (arith, smalls)
+
+  run_at : (count : ℕ) → Empties eight count → EmptyRun s place count
+  run_at count r =
+      let few = r.few in
+      record { few = few; all = λ i h. sym (byte_at i (omega arith)) ∙ r.all i h }
 
   last_at : (k bits : ℕ) → k ≤ 7 → bits ≡ 8 * k
       → place + bits / 8 + length_by (eight / 2 ^ bits % 256) ≡ place + bits / 8 + length_by (get_or s (place + bits / 8) 0)
   last_at k bits h b =
       let p : place + k ≡ place + bits / 8 = omega arith in
-      ap (λ (x : ℕ). place + bits / 8 + length_by x) (ap (λ (x : ℕ). eight / 2 ^ x % 256) b ∙ byte_at s place eight small e k h ∙ ap (λ (x : ℕ). get_or s x 0) p)
+      ap (λ (x : ℕ). place + bits / 8 + length_by x) (ap (λ (x : ℕ). eight / 2 ^ x % 256) b ∙ byte_at k h ∙ ap (λ (x : ℕ). get_or s x 0) p)
 
   pub ahead_run : (k bits : ℕ) → eight % 256 ≡ 128 → Empties eight k → bits ≡ 8 * k → AheadOf s place (cell_behind eight place k bits)
   ahead_run k bits l r b =
       let few = r.few in
       record {
-        empties = λ h. (run_at s place eight k small e r, omega arith);
+        empties = λ h. (run_at k r, omega arith);
         one = λ h. absurd (h (sym lead_at ∙ l));
         few = few;
         near = omega arith;

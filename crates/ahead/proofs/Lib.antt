@@ -1,4 +1,3 @@
 pub mod Lengths
 pub mod AheadLaws
-pub mod Fill
 pub mod Walk

@@ -3,6 +3,7 @@ use Rattle.std.specs.Prelude.{ℕ, ◌+◌, ◌/◌, ◌%◌, ◌≤◌, cond, L
 use Rattle.xm.specs.Cell.{marked_from, bit}
 use Rattle.cell.specs.declared.read.Cell.{Cell}
 use Rattle.cell.specs.declared.read.Field.{Field}
+use Rattle.cell.specs.declared.read.Fields.{Fields}
 
 -- The bits of the fields that are there, and how far behind the lead byte the first one stands. A plain cell has all five, from its lead
 -- byte on.
@@ -22,6 +23,14 @@ pub record NextField (field next : Field) : Type 0 where
   pub place : next.place ≡ field.place + field.bits % 2
   pub near : next.place ≤ field.place + 1
   pub bits : next.bits ≡ field.bits / 2
+
+-- A cell's five fields: the first by the lead byte, each other one behind the one before it.
+pub record FieldsOf (lead start : ℕ) (fields : Fields) : Type 0 where
+  pub note : FirstField lead start fields.note
+  pub instrument : NextField fields.note fields.instrument
+  pub volume : NextField fields.instrument fields.volume
+  pub effect : NextField fields.volume fields.effect
+  pub parameter : NextField fields.effect fields.parameter
 
 -- The five fields of a list as a cell, and a cell's as a list.
 abbrev pub cell_of : List ℕ → Cell

@@ -6,6 +6,7 @@ use mathlib.Core.List.{List, [], ◌∷◌}
 use mathlib.Core.Path.{◌≡◌, refl, sym, ap, ◌∙◌}
 use native.Mathlib.Omega.{arith}
 use lib.ListN.{length, replicate, length-replicate}
+use Rattle.std.specs.Prelude.{Result, Ok, Err}
 use Rattle.xm.specs.Got.{got, accepted, all_pass}
 use Rattle.xm.specs.Got as paper
 use Rattle.xm.specs.Format.{flat}
@@ -20,12 +21,10 @@ use Rattle.xm.proofs.Run.{run_read}
 use Rattle.xm.proofs.Packing.{UnpackRange}
 use Rattle.refusal.specs.declared.Refusal.{Refusal}
 use Rattle.refusal.specs.declared.Step.{Step}
-use Rattle.refusal.specs.declared.Step.TheVariants.{Next}
-use Rattle.refusal.specs.Refusal.{code_refusal, place_step}
+use Rattle.refusal.specs.declared.Step.TheVariants.{Given}
+use Rattle.refusal.specs.Refusal.{code_refusal, outcome, place_step}
 use Rattle.refusal.proofs.Steps.{next_got}
-use Rattle.cells.specs.declared.Unpacked.{Unpacked}
-use Rattle.cells.specs.declared.Unpacked.TheVariants.{Rows, Refused as RefusedUnpacked}
-use Rattle.cells.specs.Unpacked.{unpacked_of, unpacked_numbers}
+use Rattle.cells.specs.Unpacked.{unpacked_numbers}
 use Rattle.cells.proofs.Fill.{filled_length}
 
 -- The tests for 16
@@ -42,7 +41,7 @@ pub record StoredFound (channels rows : ℕ) (d : List ℕ) : Type 0 where
   pub used : ℕ
   pub reads : read_stored channels rows 0 d ≡ got pattern used
 
-pub found_of : (channels rows : ℕ) (d : List ℕ) {step : Step} {next : ℕ} → step ≡ place_step 0 (read_stored channels rows 0 d) → step ≡ Next next
+pub found_of : (channels rows : ℕ) (d : List ℕ) {step : Step ℕ} {next : ℕ} → step ≡ place_step 0 (read_stored channels rows 0 d) → step ≡ Given next
     → StoredFound channels rows d
 found_of channels rows d e told = next_got 0 (read_stored channels rows 0 d) (sym told ∙ e) λ p n q en. record { pattern = p; used = n; reads = q }
 
@@ -87,32 +86,32 @@ module _ {channels rows : ℕ} {d : List ℕ} (f : StoredFound channels rows d) 
 
 -- An answer and the memory, from what unpacking comes to
 module _ (rows channels : ℕ) (stored lent : List ℕ) where
-  abbrev pub Answers : (answer : Unpacked) (left : List ℕ) → Type 0
-  Answers answer left = (answer ≡ unpacked_of (unpacking rows channels stored (length lent))) × (left ≡ unpack_after rows channels stored lent)
+  abbrev pub Answers : (answer : Result ℕ Refusal) (left : List ℕ) → Type 0
+  Answers answer left = (answer ≡ outcome rows_read (unpacking rows channels stored (length lent))) × (left ≡ unpack_after rows channels stored lent)
 
   pub answers_refusal : {r : paper.Refusal} {refusal : Refusal} → unpacking rows channels stored (length lent) ≡ refuses r → refusal ≡ code_refusal r
-      → Answers (RefusedUnpacked refusal) lent
-  answers_refusal e f = (rw e (ap RefusedUnpacked f), rw e)
+      → Answers (Err refusal) lent
+  answers_refusal e f = (rw e (ap Err f), rw e)
 
   pub answers_pattern : {p : Pattern} {reported : ℕ} {left : List ℕ} → unpacking rows channels stored (length lent) ≡ gives p → reported ≡ p.rows
-      → left ≡ in_front (cell_bytes p) lent → Answers (Rows reported) left
-  answers_pattern e r m = (rw e (ap Rows r), rw e m)
+      → left ≡ in_front (cell_bytes p) lent → Answers (Ok reported) left
+  answers_pattern e r m = (rw e (ap Ok r), rw e m)
 
   -- Two answers and memories that both meet the contract are the same
-  pub unpack_once : (one other : Unpacked) (left kept : List ℕ) → Answers one left → Answers other kept → (one ≡ other) × (left ≡ kept)
+  pub unpack_once : (one other : Result ℕ Refusal) (left kept : List ℕ) → Answers one left → Answers other kept → (one ≡ other) × (left ≡ kept)
   unpack_once one other left kept a b = (a.0 ∙ sym b.0, a.1 ∙ sym b.1)
 
 -- A refusal leaves the memory as it was
-refused-kept : (answer : Answer Pattern) (lent : List ℕ) {refusal : Refusal} → RefusedUnpacked refusal ≡ unpacked_of answer → after cell_bytes answer lent ≡ lent
+refused-kept : (answer : Answer Pattern) (lent : List ℕ) {refusal : Refusal} → Err refusal ≡ outcome rows_read answer → after cell_bytes answer lent ≡ lent
 refused-kept (gives p) lent e = absurd (let z : ◌≡◌ {A = ℕ} 0 1 = cc in omega arith)
 refused-kept (refuses r) lent e = refl
 
 pub unpack_unchanged : (rows channels : ℕ) (stored lent : List ℕ) {refusal : Refusal} {held : List ℕ}
-    → RefusedUnpacked refusal ≡ unpacked_of (unpacking rows channels stored (length lent))
+    → Err refusal ≡ outcome rows_read (unpacking rows channels stored (length lent))
     → held ≡ unpack_after rows channels stored lent → held ≡ lent
 unpack_unchanged rows channels stored lent told met = met ∙ refused-kept (unpacking rows channels stored (length lent)) lent told
 
 -- and its numbers are the paper's
-pub unpacked_numbers_lem : (answer : Answer Pattern) → unpacked_numbers (unpacked_of answer) ≡ numbers (rows_read ∷ []) answer
+pub unpacked_numbers_lem : (answer : Answer Pattern) → unpacked_numbers (outcome rows_read answer) ≡ numbers (rows_read ∷ []) answer
 unpacked_numbers_lem (gives p) = refl
 unpacked_numbers_lem (refuses r) = refl

@@ -18,7 +18,7 @@ pub extern "C" fn fiddlemarsh_check(file: &[u8]) -> u64
     ensures { result ≡ check_loader file.now }
 {
     let verdict = walk::check(file);
-    loader::check_number(verdict)
+    loader::answer_number(verdict)
 }
 
 // The rows that were unpacked.
@@ -33,7 +33,7 @@ pub extern "C" fn fiddlemarsh_unpack(
     ensures memory { cells.new ≡ unpack_after rows channels stored.now cells.old }
 {
     let unpacked = cells::unpack(rows, channels, stored, cells);
-    loader::unpack_number(unpacked)
+    loader::answer_number(unpacked)
 }
 
 // Length + 65,536 × rows.
@@ -48,7 +48,7 @@ pub extern "C" fn fiddlemarsh_pack(
     ensures memory { out.new ≡ pack_after rows channels cells.now out.old }
 {
     let packed = packing::pack(rows, channels, cells, out);
-    loader::pack_number(packed)
+    loader::answer_number(packed)
 }
 
 // The pressed length.
@@ -58,7 +58,7 @@ pub extern "C" fn fiddlemarsh_press(file: &[u8], out: &mut [u8]) -> u64
     ensures memory { out.new ≡ press_after file.now out.old }
 {
     let pressed = press::press(file, out);
-    loader::press_number(pressed)
+    loader::answer_number(pressed)
 }
 
 // The length of the normal module that was written.
@@ -68,7 +68,7 @@ pub extern "C" fn fiddlemarsh_to_normal(file: &[u8], out: &mut [u8]) -> u64
     ensures memory { out.new ≡ convert_after normal file.now out.old }
 {
     let converted = press::to_normal(file, out);
-    loader::press_number(converted)
+    loader::answer_number(converted)
 }
 
 // The length of the stripped module that was written.
@@ -78,7 +78,7 @@ pub extern "C" fn fiddlemarsh_to_stripped(file: &[u8], out: &mut [u8]) -> u64
     ensures memory { out.new ≡ convert_after stripped file.now out.old }
 {
     let converted = press::to_stripped(file, out);
-    loader::press_number(converted)
+    loader::answer_number(converted)
 }
 
 // Three numbers to a pattern, three to an instrument; of a sample seven, and its two tunes apart.
@@ -95,7 +95,7 @@ pub extern "C" fn fiddlemarsh_tables(
         ≡ tables_then file.now (lent patterns.old instruments.old samples.old tunes.old) }
 {
     let verdict = tables::check_into(file, patterns, instruments, samples, tunes);
-    loader::check_number(verdict)
+    loader::answer_number(verdict)
 }
 
 // How many values were written.
@@ -105,7 +105,7 @@ pub extern "C" fn fiddlemarsh_decode(width: usize, bytes: &[u8], values: &mut [i
     ensures memory { values.new ≡ decode_limited_after width bytes.now values.old }
 {
     let decoded = loader::limit::decode(width, bytes, values);
-    loader::decode_number(decoded)
+    loader::answer_number(decoded)
 }
 
 // How many bytes were written.
@@ -115,7 +115,7 @@ pub extern "C" fn fiddlemarsh_code(width: usize, values: &[i16], bytes: &mut [u8
     ensures memory { bytes.new ≡ code_limited_after width values.now bytes.old }
 {
     let coded = loader::limit::code(width, values, bytes);
-    loader::code_number(coded)
+    loader::answer_number(coded)
 }
 
 // `count` is the length that the sample's header says: how many values.
@@ -125,7 +125,7 @@ pub extern "C" fn fiddlemarsh_adpcm(count: usize, bytes: &[u8], values: &mut [i1
     ensures memory { values.new ≡ adpcm_limited_after count bytes.now values.old }
 {
     let decoded = loader::limit::decode_adpcm(count, bytes, values);
-    loader::decode_number(decoded)
+    loader::answer_number(decoded)
 }
 
 // E + 65,536 × 2^(octave + 1).
@@ -134,5 +134,5 @@ pub extern "C" fn fiddlemarsh_period(note: u64, finetune: i64) -> u64
     ensures { result ≡ period_loader note finetune }
 {
     let tuned = periods::period(note, finetune);
-    loader::period_number(tuned)
+    loader::answer_number(tuned)
 }

@@ -93,9 +93,9 @@ pub record HeadsToWrite (file lent goal : List ℕ) (size kept left head : ℕ) 
   pub laid : Laid lent goal out to (heads_cut left size kept (drop head file))
 
 module _ (file lent : List ℕ) (size kept : ℕ) (few : kept ≤ least_head) where
-  pub heads_none : (count head : ℕ) → head + count * size ≤ length file → count * kept ≤ length lent
-      → HeadsToWrite file lent (heads_cut count size kept (drop head file)) size kept count head lent 0
-  heads_none count head h room = record { inside = h; laid = laid_none lent _ (omega (arith, heads_size size kept few count (drop head file))) }
+  pub heads_none : (count head : ℕ) {left : ℕ} → left ≡ count → head + count * size ≤ length file → count * kept ≤ length lent
+      → HeadsToWrite file lent (heads_cut count size kept (drop head file)) size kept left head lent 0
+  heads_none count head all h room = rw all (record { inside = h; laid = laid_none lent _ (omega (arith, heads_size size kept few count (drop head file))) })
 
   module _ {goal out : List ℕ} {left head to : ℕ} (w : HeadsToWrite file lent goal size kept left head out to) where
     pub heads_done : left ≡ 0 → out ≡ in_front goal lent
@@ -103,13 +103,13 @@ module _ (file lent : List ℕ) (size kept : ℕ) (few : kept ≤ least_head) wh
     heads_done z = laid_done w.laid (ap (λ (n : ℕ). heads_cut n size kept (drop head file)) z)
 
     module _ (some : 0 < left) where
-      less : left * size ≡ size + (left - 1) * size
-      less =
+      one_less : left * size ≡ size + (left - 1) * size
+      one_less =
           let n : left ≡ 1 + (left - 1) = omega arith in
           ap (λ (m : ℕ). m * size) n ∙ add-mul 1 (left - 1) size ∙ ap (λ (m : ℕ). m + (left - 1) * size) (one-mul size)
 
       pub head_inside : head + size ≤ length file
-      head_inside = omega (arith, w.inside, less)
+      head_inside = omega (arith, w.inside, one_less)
 
       abbrev first : List ℕ
       first = padded kept (take size (drop head file))
@@ -120,9 +120,9 @@ module _ (file lent : List ℕ) (size kept : ℕ) (few : kept ≤ least_head) wh
       pub head_room : to + kept ≤ length out
       head_room = omega (arith, w.laid.room, ap length rest ∙ length-append first _, padded-length kept (take size (drop head file)))
 
-      pub heads_more : {next : ℕ} {part : List ℕ} → next ≡ head + size → part ≡ in_front first (take (length out - to) (drop to out))
-          → HeadsToWrite file lent goal size kept (left - 1) next (put_mid to (length out - to) out part) (to + kept)
-      heads_more n e = rw n (record {
-        inside = omega (arith, w.inside, less);
+      pub heads_more : {next less : ℕ} {part : List ℕ} → next ≡ head + size → less ≡ left - 1 → part ≡ in_front first (take (length out - to) (drop to out))
+          → HeadsToWrite file lent goal size kept less next (put_mid to (length out - to) out part) (to + kept)
+      heads_more n fewer e = rw (n, fewer) (record {
+        inside = omega (arith, w.inside, one_less);
         laid = laid_part w.laid first _ rest refl (omega (arith, padded-length kept (take size (drop head file)))) e;
       })

@@ -1,93 +1,86 @@
 -- Laws of what is left of bytes without the zeros at their end. Assumes nothing.
-use Prim.Native.Nat.{ℕ, zero, suc, ◌+◌, ◌-◌, ◌*◌, ◌≤◌, ◌<◌, max}
+use Prim.Native.Nat.{ℕ, zero, suc, ◌+◌, ◌-◌, ◌*◌, ◌≤◌, ◌<◌, min, max}
+use mathlib.Core.Bool.{Bool, true, false}
 use mathlib.Core.List.{List, [], ◌∷◌, ◌++◌}
+use Rattle.std.proofs.lemmas.Bool.{leb-true, leb-false}
+use lib.Dec.{leb}
 use mathlib.Core.Path.{◌≡◌, refl, sym, ap, ◌∙◌}
 use native.Mathlib.Nat.{add-zero, add-mul, one-mul}
 use native.Mathlib.Omega.{arith}
-use lib.ListN.{length, get_or, take, drop, length-take, length-drop, drop_of_length-le}
-use lib.Seq.{take-suc, take-take, take-nil, drop-drop, get_or-drop}
+use lib.ListN.{length, get_or, take, drop, length-take, drop_of_length-le}
+use lib.Seq.{take-suc, take-take, take-nil, drop-drop}
+use Rattle.std.proofs.lemmas.List.{nil_from_length, take_all}
 use Rattle.xm.specs.Number.{part}
 use Rattle.xm.specs.ModuleKind.{padded, before, trimmed}
 use Rattle.xm.specs.Sample.{least_head, head_bytes, smallest_head}
-use Rattle.xm.proofs.Format.{cons_path}
 use Rattle.xm.proofs.Cut.{padded-drop, take-padded, drop-take, trimmed_le, trimmed-zero, trimmed_some}
 use Rattle.ahead.specs.Ahead.{eight_at}
 use Rattle.heads.specs.Sample.{heads_from}
 
--- One byte after the other, from the end: a part, and the byte behind it
-one_more_lem : (place last : ℕ) (file : List ℕ) → place + (last + 1) ≤ length file
-    → part place (last + 1) file ≡ part place last file ++ (get_or file (place + last) 0 ∷ [])
-one_more_lem place last file h =
+-- One byte after the other, from the end: those before, and the last
+one_more_lem : (last : ℕ) (bytes : List ℕ) → last + 1 ≤ length bytes → take (last + 1) bytes ≡ take last bytes ++ (get_or bytes last 0 ∷ [])
+one_more_lem last bytes h =
     let n : last + 1 ≡ suc last = omega arith in
-    ap (λ (k : ℕ). take k (drop place file)) n
-    ∙ take-suc (drop place file) last 0 (omega (arith, length-drop place file))
-    ∙ ap (λ (b : ℕ). take last (drop place file) ++ (b ∷ [])) (get_or-drop place file last 0)
+    ap (λ (k : ℕ). take k bytes) n ∙ take-suc bytes last 0 (omega arith)
 
 -- and without the zeros behind, as many are left of those before as of all
-pub record KeptLeft (file : List ℕ) (place count left : ℕ) : Type 0 where
-  pub inside : place + left ≤ length file
-  pub same : length (trimmed (part place left file)) ≡ length (trimmed (part place count file))
+pub record KeptLeft (bytes : List ℕ) (left : ℕ) : Type 0 where
+  pub inside : left ≤ length bytes
+  pub same : length (trimmed (take left bytes)) ≡ length (trimmed bytes)
 
-module _ {file : List ℕ} {place count left : ℕ} (w : KeptLeft file place count left) where
-  pub kept_none : left ≡ 0 → 0 ≡ length (trimmed (part place count file))
+module _ {bytes : List ℕ} {left : ℕ} (w : KeptLeft bytes left) where
+  pub kept_none : left ≡ 0 → 0 ≡ length (trimmed bytes)
   unfolding trimmed
-  kept_none z = sym (ap (λ (n : ℕ). length (trimmed (part place n file))) z) ∙ w.same
+  kept_none z = sym (ap (λ (n : ℕ). length (trimmed (take n bytes))) z) ∙ w.same
 
   module _ (some : 0 < left) where
-    split : part place left file ≡ part place (left - 1) file ++ (get_or file (place + (left - 1)) 0 ∷ [])
+    split : take left bytes ≡ take (left - 1) bytes ++ (get_or bytes (left - 1) 0 ∷ [])
     split =
         let n : left ≡ left - 1 + 1 = omega arith in
-        ap (λ (n : ℕ). part place n file) n ∙ one_more_lem place (left - 1) file (omega (arith, w.inside))
+        ap (λ (n : ℕ). take n bytes) n ∙ one_more_lem (left - 1) bytes (omega (arith, w.inside))
 
-    pub kept-zero : get_or file (place + (left - 1)) 0 ≡ 0 → KeptLeft file place count (left - 1)
+    pub kept-zero : get_or bytes (left - 1) 0 ≡ 0 → KeptLeft bytes (left - 1)
     kept-zero z =
-        let zero_last = split ∙ ap (λ (b : ℕ). part place (left - 1) file ++ (b ∷ [])) z in
+        let zero_last = split ∙ ap (λ (b : ℕ). take (left - 1) bytes ++ (b ∷ [])) z in
         record {
           inside = omega (arith, w.inside);
-          same = ap length (sym (ap trimmed zero_last ∙ trimmed-zero (part place (left - 1) file))) ∙ w.same;
+          same = ap length (sym (ap trimmed zero_last ∙ trimmed-zero (take (left - 1) bytes))) ∙ w.same;
         }
 
-    pub kept_some : (get_or file (place + (left - 1)) 0 ≡ 0 → ⊥) → left ≡ length (trimmed (part place count file))
+    pub kept_some : (get_or bytes (left - 1) 0 ≡ 0 → ⊥) → left ≡ length (trimmed bytes)
     kept_some z =
-        let long : length (part place left file) ≡ left = length-take left (drop place file) ∙ omega (arith, w.inside, length-drop place file) in
-        let all : trimmed (part place left file) ≡ part place left file =
-        ap trimmed split ∙ trimmed_some (part place (left - 1) file) (get_or file (place + (left - 1)) 0) (omega arith) ∙ sym split in
+        let long : length (take left bytes) ≡ left = length-take left bytes ∙ omega (arith, w.inside) in
+        let all : trimmed (take left bytes) ≡ take left bytes =
+        ap trimmed split ∙ trimmed_some (take (left - 1) bytes) (get_or bytes (left - 1) 0) (omega arith) ∙ sym split in
         sym (ap length all ∙ long) ∙ w.same
 
 -- so many zeros; and eight bytes that are one number, 0
-pub zeros_kept : {file : List ℕ} {place count left : ℕ} → KeptLeft file place count left → (n : ℕ) → n ≤ left
-    → ((i : ℕ) → i < n → get_or file (place + (left - n) + i) 0 ≡ 0) → KeptLeft file place count (left - n)
+pub zeros_kept : {bytes : List ℕ} {left : ℕ} → KeptLeft bytes left → (n : ℕ) → n ≤ left
+    → ((i : ℕ) → i < n → get_or bytes (left - n + i) 0 ≡ 0) → KeptLeft bytes (left - n)
 zeros_kept {left = left} w zero h z = let n : left ≡ left - 0 = omega arith in rw n at w
-zeros_kept {file} {place} {count} {left} w (suc n) h z =
+zeros_kept {bytes} {left} w (suc n) h z =
     let later = zeros_kept w n (omega arith) (λ i l.
-    let p : place + (left - n) + i ≡ place + (left - suc n) + (i + 1) = omega arith in
-    ap (λ (k : ℕ). get_or file k 0) p ∙ z (i + 1) (omega arith)) in
-    let p : place + (left - n - 1) ≡ place + (left - suc n) + 0 = omega arith in
+    let p : left - n + i ≡ left - suc n + (i + 1) = omega arith in
+    ap (λ (k : ℕ). get_or bytes k 0) p ∙ z (i + 1) (omega arith)) in
+    let p : left - n - 1 ≡ left - suc n + 0 = omega arith in
     let k : left - n - 1 ≡ left - suc n = omega arith in
-    rw k at (kept-zero later (omega arith) (ap (λ (k : ℕ). get_or file k 0) p ∙ z 0 (omega arith)))
+    rw k at (kept-zero later (omega arith) (ap (λ (k : ℕ). get_or bytes k 0) p ∙ z 0 (omega arith)))
 
-eight_zeros : (file : List ℕ) (place : ℕ) → eight_at file place ≡ 0 → (i : ℕ) → i < 8 → get_or file (place + i) 0 ≡ 0
-eight_zeros file place e zero h = ap (λ (k : ℕ). get_or file k 0) (add-zero place) ∙ omega arith
-eight_zeros file place e (suc zero) h = omega arith
-eight_zeros file place e (suc (suc zero)) h = omega arith
-eight_zeros file place e (suc (suc (suc zero))) h = omega arith
-eight_zeros file place e (suc (suc (suc (suc zero)))) h = omega arith
-eight_zeros file place e (suc (suc (suc (suc (suc zero))))) h = omega arith
-eight_zeros file place e (suc (suc (suc (suc (suc (suc zero)))))) h = omega arith
-eight_zeros file place e (suc (suc (suc (suc (suc (suc (suc zero))))))) h = omega arith
-eight_zeros file place e (suc (suc (suc (suc (suc (suc (suc (suc i)))))))) h = absurd (omega arith)
+eight_zeros : (bytes : List ℕ) (place : ℕ) → eight_at bytes place ≡ 0 → (i : ℕ) → i < 8 → get_or bytes (place + i) 0 ≡ 0
+eight_zeros bytes place e zero h = ap (λ (k : ℕ). get_or bytes k 0) (add-zero place) ∙ omega arith
+eight_zeros bytes place e (suc zero) h = omega arith
+eight_zeros bytes place e (suc (suc zero)) h = omega arith
+eight_zeros bytes place e (suc (suc (suc zero))) h = omega arith
+eight_zeros bytes place e (suc (suc (suc (suc zero)))) h = omega arith
+eight_zeros bytes place e (suc (suc (suc (suc (suc zero))))) h = omega arith
+eight_zeros bytes place e (suc (suc (suc (suc (suc (suc zero)))))) h = omega arith
+eight_zeros bytes place e (suc (suc (suc (suc (suc (suc (suc zero))))))) h = omega arith
+eight_zeros bytes place e (suc (suc (suc (suc (suc (suc (suc (suc i)))))))) h = absurd (omega arith)
 
-pub eight_kept : {file : List ℕ} {place count left : ℕ} → KeptLeft file place count left → 8 ≤ left → eight_at file (place + (left - 8)) ≡ 0
-    → KeptLeft file place count (left - 8)
-eight_kept {file} {place} {left = left} w h e = zeros_kept w 8 h (eight_zeros file (place + (left - 8)) e)
+pub eight_kept : {bytes : List ℕ} {left : ℕ} → KeptLeft bytes left → 8 ≤ left → eight_at bytes (left - 8) ≡ 0 → KeptLeft bytes (left - 8)
+eight_kept {bytes} {left} w h e = zeros_kept w 8 h (eight_zeros bytes (left - 8) e)
 
 -- Of a structure that is cut off
-take_least : (m n : ℕ) (s : List ℕ) → n ≤ m → take m (take n s) ≡ take n s
-take_least m zero s h = take-nil m
-take_least zero (suc n) s h = absurd (omega arith)
-take_least (suc m) (suc n) [] h = refl
-take_least (suc m) (suc n) (b ∷ s) h = cons_path refl (take_least m n s (omega arith))
-
 module _ (file : List ℕ) (at size from to : ℕ) where
   abbrev cut : List ℕ
   cut = take size (drop at file)
@@ -110,7 +103,7 @@ module _ (file : List ℕ) (at size from to : ℕ) where
     omega arith,
   )
 
-  pub kept_whole : from ≤ to → to < size → {kept : ℕ} → kept ≡ length (trimmed (part (at + from) (to - from) file)) → KeptIn kept
+  kept_whole : from ≤ to → to < size → {kept : ℕ} → kept ≡ length (trimmed (part (at + from) (to - from) file)) → KeptIn kept
   kept_whole l h e =
       kept_of
       (sym
@@ -119,14 +112,26 @@ module _ (file : List ℕ) (at size from to : ℕ) where
       ∙ ap (take (to - from)) (drop-drop from at file)))
       e
 
-  pub kept_end : from < size → size ≤ to → {kept : ℕ} → kept ≡ length (trimmed (part (at + from) (size - from) file)) → KeptIn kept
+  kept_end : from < size → size ≤ to → {kept : ℕ} → kept ≡ length (trimmed (part (at + from) (size - from) file)) → KeptIn kept
   kept_end h l e =
       kept_of
       (sym
       (ap (take (to - from)) (drop-take from size (drop at file) (omega arith))
-      ∙ take_least (to - from) (size - from) (drop from (drop at file)) (omega arith)
+      ∙ take_all (to - from) (take (size - from) (drop from (drop at file))) (omega (arith, length-take (size - from) (drop from (drop at file))))
       ∙ ap (take (size - from)) (drop-drop from at file)))
       e
+
+  -- whichever comes first
+  pub kept_least : from ≤ to → from < size → {width kept : ℕ} → width ≡ min size to - from → kept ≡ length (trimmed (part (at + from) width file))
+      → KeptIn kept
+  kept_least l h {width} {kept} m e = go (leb size to) refl
+    where
+      counted : {n : ℕ} → width ≡ n → kept ≡ length (trimmed (part (at + from) n file))
+      counted q = e ∙ ap (λ (n : ℕ). length (trimmed (part (at + from) n file))) q
+
+      go : (ends : Bool) → leb size to ≡ ends → KeptIn kept
+      go true q = let low = leb-true size to q in kept_end h low (counted (omega arith))
+      go false q = let high = leb-false size to q in kept_whole l high (counted (omega arith))
 
 -- Filled up with zeros, bytes are trimmed to the same
 zeros : (width : ℕ) → trimmed (padded width []) ≡ []
@@ -159,13 +164,9 @@ unfolding trimmed
 trimmed-behind [] b h = omega arith
 trimmed-behind (x ∷ a) b h = let q = trimmed-behind a b h in ap length (before_long x (trimmed (a ++ b)) (omega arith)) ∙ omega arith
 
-none_left : (s : List ℕ) → length s ≡ 0 → s ≡ []
-none_left [] h = refl
-none_left (x ∷ s) h = absurd (omega arith)
-
 pub trimmed_front : (a b : List ℕ) → length (trimmed b) ≡ 0 → trimmed (a ++ b) ≡ trimmed a
 unfolding trimmed
-trimmed_front [] b h = none_left (trimmed b) h
+trimmed_front [] b h = nil_from_length (trimmed b) h
 trimmed_front (x ∷ a) b h = ap (before x) (trimmed_front a b h)
 
 -- The loop over the headers: the most of those behind and of those ahead
@@ -221,10 +222,10 @@ module _ {file : List ℕ} {heads size count head most left : ℕ} (w : HeadsLef
     pub head_inside : head + size ≤ length file
     head_inside = omega (arith, w.inside, less)
 
-    pub heads_on : {more next : ℕ} → more ≡ length (trimmed (part most (least_head - most) (take size (drop head file)))) → more ≤ least_head - most
-        → next ≡ most + more
-        → HeadsLeft file heads size count (head + size) next (left - 1)
-    heads_on e l q =
+    pub heads_on : {more next later : ℕ} → more ≡ length (trimmed (part most (least_head - most) (take size (drop head file)))) → more ≤ least_head - most
+        → next ≡ most + more → later ≡ left - 1
+        → HeadsLeft file heads size count (head + size) next later
+    heads_on e l q z = rw z (
         let rest : smallest_head (heads_from (left - 1) size (drop size (drop head file))) ≡ smallest_head (heads_from (left - 1) size (drop (head + size) file)) =
         ap (λ (s : List ℕ). smallest_head (heads_from (left - 1) size s)) (drop-drop size head file) in
         let this = head_beyond most size (drop head file) w.low in
@@ -233,4 +234,4 @@ module _ {file : List ℕ} {heads size count head most left : ℕ} (w : HeadsLef
           inside = omega (arith, w.inside, less);
           low = omega (arith, w.low);
           same = omega (arith, w.same, ahead, rest, this, e, q);
-        }
+        })

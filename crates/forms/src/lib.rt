@@ -4,36 +4,37 @@
 
 ghost use Rattle.std.specs.Prelude.{◌≡◌, ◌+◌, ◌-◌, ◌*◌, ◌≤◌, length, take, drop};
 ghost use Rattle.xm.specs.Number.{part};
-ghost use Rattle.xm.specs.ModuleKind.{stripped, kind_by, padded, trimmed};
+ghost use Rattle.xm.specs.ModuleKind.{stripped, padded, trimmed};
 ghost use Rattle.xm.specs.Got.{Told};
 ghost use Rattle.xm.specs.Header.{kind_at};
 ghost use Rattle.xm.specs.Sample.{least_head, smallest_head};
 ghost use Rattle.xm.specs.Instrument.{least_instrument, least_stripped, samples_most, read_instrument, instrument_view};
 ghost use Rattle.xm.specs.Module.{file_most};
 ghost use Rattle.heads.specs.Sample.{heads_from};
+ghost use Rattle.steps.specs.Kind.{kind_of};
 ghost use Rattle.steps.specs.Step.{InstrumentIs};
 ghost use Rattle.forms.specs.Form.{FormIs, normal_form, written_fields};
 
 use ahead::eight_at;
 use steps::instrument::InstrumentPart;
+use steps::kind::ModuleKind;
 
-#[derive(Clone, Copy)]
+#[derive(Clone, Copy, Debug, PartialEq, Eq)]
 pub struct Form {
     pub size: usize,
     pub head_size: usize,
     pub length: usize,
 }
 
-// How many of `count` bytes are left without whole eights of zeros at their end.
-fn kept_by_eights(file: &[u8], place: usize, count: usize) -> usize
-    requires { place + count ≤ length file.now }
-    ensures upper_bound { result ≤ count }
-    ensures file_len { length (trimmed (part place result file.now)) ≡ length (trimmed (part place count file.now)) }
+// How many bytes are left without whole eights of zeros at their end, as one number each: most of what is cut off is zeros.
+fn kept_by_eights(bytes: &[u8]) -> usize
+    ensures upper_bound { result ≤ length bytes.now }
+    ensures bytes_len { length (trimmed (take result bytes.now)) ≡ length (trimmed bytes.now) }
 {
-    let mut left = count;
+    let mut left = bytes.len();
     while 8 <= left {
         let last = left - 8;
-        if eight_at(file, place + last) != 0 {
+        if eight_at(bytes, last) != 0 {
             return left;
         }
         left = last;
@@ -42,22 +43,20 @@ fn kept_by_eights(file: &[u8], place: usize, count: usize) -> usize
 }
 
 // How many of them are left without any.
-fn kept(file: &[u8], place: usize, count: usize) -> usize
-    requires { place + count ≤ length file.now }
-    ensures { result ≡ length (trimmed (part place count file.now)) }
+fn kept(bytes: &[u8]) -> usize
+    ensures { result ≡ length (trimmed bytes.now) }
 {
-    let mut left = kept_by_eights(file, place, count);
-    while 0 < left {
-        let last = left - 1;
-        if file[place + last] != 0 {
-            return left;
+    let left = kept_by_eights(bytes);
+    for last in (0..left).rev() {
+        if bytes[last] != 0 {
+            return last + 1;
         }
-        left = last;
     }
     0
 }
 
 // The same of a structure of `size` bytes, of those from an offset on up to another.
+// Its place is one clause: in a struct every other clause would read through it.
 fn kept_in(file: &[u8], at: usize, size: usize, from: usize, to: usize) -> usize
     requires size_in_bounds { at + size ≤ length file.now }
     requires from_le_to { from ≤ to }
@@ -67,13 +66,11 @@ fn kept_in(file: &[u8], at: usize, size: usize, from: usize, to: usize) -> usize
     if size <= from {
         return 0;
     }
-    if to < size {
-        return kept(file, at + from, to - from);
-    }
-    kept(file, at + from, size - from)
+    kept(&file[at + from..at + size.min(to)])
 }
 
 // The smallest H of `count` headers, each of `size` bytes: of one after the other only what lies beyond the most so far is looked at.
+// Its place is one clause: in a struct every other clause would read through it.
 fn smallest_head(file: &[u8], heads: usize, size: usize, count: usize) -> usize
     requires { heads + count * size ≤ length file.now }
     ensures value { result ≡ smallest_head (heads_from count size (drop heads file.now)) }
@@ -81,16 +78,15 @@ fn smallest_head(file: &[u8], heads: usize, size: usize, count: usize) -> usize
 {
     let mut head = heads;
     let mut most: usize = 0;
-    let mut left = count;
-    while 0 < left {
+    for _ in 0..count {
         most += kept_in(file, head, size, most, 40);
         head += size;
-        left -= 1;
     }
     most
 }
 
 // The smallest I of an instrument of `size` bytes that is written with this H: 33 and the bytes behind count only if there are samples.
+// Its place is one clause: in a struct every other clause would read through it.
 fn smallest_size(file: &[u8], at: usize, size: usize, samples: usize, head_size: usize) -> usize
     requires size_in_bounds { at + size ≤ length file.now }
     requires samples_le_samples_most { samples ≤ samples_most }
@@ -130,13 +126,14 @@ pub fn normal_form(at: usize, part: InstrumentPart) -> Form
     let data = part.next - (at + part.size + count * part.head_size);
     let size = least_size(count);
     Form {
-        size: size,
+        size,
         head_size: 40,
         length: size + 40 * count + data,
     }
 }
 
-// The same in a stripped one.
+// The same in a stripped one, where I and H are measured and not the least: both in one function would ask of a normal one what only this
+// one needs.
 pub fn stripped_form(file: &[u8], at: usize, part: InstrumentPart) -> Form
     requires instrument_is { InstrumentIs file.now at part }
     requires file_len_bound { length file.now ≤ file_most }
@@ -148,20 +145,20 @@ pub fn stripped_form(file: &[u8], at: usize, part: InstrumentPart) -> Form
     let head_size = smallest_head(file, heads, part.head_size, count);
     let size = smallest_size(file, at, part.size, count, head_size);
     Form {
-        size: size,
-        head_size: head_size,
+        size,
+        head_size,
         length: size + count * head_size + data,
     }
 }
 
-// In either kind.
-pub fn form_of(file: &[u8], at: usize, part: InstrumentPart, stripped: bool) -> Form
+// In either kind. What part it is of is one clause of each form: a struct of file, place and part would ask it of a normal one too.
+pub fn form_of(file: &[u8], at: usize, part: InstrumentPart, kind: ModuleKind) -> Form
     requires instrument_is { InstrumentIs file.now at part }
     requires file_len_bound { length file.now ≤ file_most }
-    ensures { Told (λ i. FormIs (kind_by stripped) at part.next (instrument_view i) result) (read_instrument (kind_at file.now) at (drop at file.now)) }
+    ensures { Told (λ i. FormIs (kind_of kind) at part.next (instrument_view i) result) (read_instrument (kind_at file.now) at (drop at file.now)) }
 {
-    if stripped {
-        return stripped_form(file, at, part);
+    match kind {
+        ModuleKind::Normal => normal_form(at, part),
+        ModuleKind::Stripped => stripped_form(file, at, part),
     }
-    normal_form(at, part)
 }

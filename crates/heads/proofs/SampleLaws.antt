@@ -1,21 +1,18 @@
 -- Laws of the steps over sample headers and sample data. Assumes nothing.
 use borrow.Author.Rules.{rules}
 use Prim.Native.Nat.{ℕ, zero, suc, ◌+◌, ◌-◌, ◌*◌, ◌≤◌, ◌<◌}
-use mathlib.Core.Bool.{Bool, true, false, cond}
 use mathlib.Core.List.{List, [], ◌∷◌}
 use mathlib.Core.Path.{◌≡◌, refl, sym, ap, ap₂, ◌∙◌}
-use native.Mathlib.Nat.{add_assoc, add-sub_cancel_left, mul-le-mul_right, zero-mul}
+use native.Mathlib.Nat.{add_assoc, add-sub_cancel_left, zero-mul}
 use native.Mathlib.Omega.{arith}
-use lib.Dec.{eqb}
-use lib.IntN.{ℤ}
 use lib.ListN.{length, get_or, take, drop, replicate, length-take, length-drop, length-append, length-replicate, get_or-replicate}
-use lib.Seq.{get_or-drop, drop-drop, length-take-le}
-use Rattle.xm.specs.Number.{byte_at, signed}
+use lib.Seq.{drop-drop, length-take-le}
+use Rattle.std.specs.Prelude.{Ok, Err}
 use Rattle.xm.specs.ModuleKind.{padded}
 use Rattle.xm.specs.Answer.{in_front}
 use Rattle.xm.specs.Got.{Got, got, refused, ◌>>=◌, ◌>>◌, checked, ◌at◌}
 use Rattle.xm.specs.Format.{each}
-use Rattle.xm.specs.Sample.{least_head, head_bytes, adpcm, adpcm_size, data_size_by, data_size, StretchFound, read_head, read_data, head_format, data_format}
+use Rattle.xm.specs.Sample.{least_head, head_bytes, data_size_by, data_size, StretchFound, read_head, read_data, head_format, data_format}
 use Rattle.xm.specs.Sample.{SamplesFound}
 use Rattle.xm.specs.Sample.{samples_format, size_of_first}
 use Rattle.xm.proofs.Number.{Agree, agree_byte, agree_long}
@@ -23,45 +20,19 @@ use Rattle.xm.proofs.Cut.{padded-length, take-padded, front_padded, padded_zeros
 use Rattle.xm.proofs.Got.{pass, step, test_holds, test_fails, step_refused, passed, bind_got, got_value, got_used, got_carry}
 use Rattle.xm.proofs.Format.{cons_path, read_length}
 use Rattle.xm.proofs.Instrument.{heads_used}
-use Rattle.refusal.specs.Refusal.{code_refusal, place_step}
+use Rattle.refusal.specs.Refusal.{code_refusal, refusal_at, place_step}
+use Rattle.refusal.specs.declared.Cause.{Cause}
 use Rattle.refusal.specs.declared.Refusal.{Refusal}
 use Rattle.refusal.specs.declared.Step.{Step}
-use Rattle.refusal.specs.declared.Step.TheVariants.{Next, Refused}
+use Rattle.refusal.specs.declared.Step.TheVariants.{Given, Refused}
 use Rattle.refusal.proofs.Steps.{next_got}
-use Rattle.slices.specs.Number.{Byte, Long}
-use Rattle.refusal.specs.Test.{first_refusal}
+use Rattle.refusal.specs.Test.{tested}
 use Rattle.heads.specs.Sample.{fields_end, HeadAt, head_tests_of, heads_from}
 use Rattle.heads.specs.declared.SampleHead.{SampleHead}
-use Rattle.refusal.proofs.TestLaws.{refusal_holds, refusal_refuses}
+use Rattle.refusal.proofs.TestLaws.{tested_holds, tested_refuses}
 use Rattle.refusal.proofs.Walking.{refused_on, Reached, reached_start, reached_on, reached_out, reached_place}
 
--- A header's fields are the numbers at their offsets
-module _ (bytes : List ℕ) (place : ℕ) where
-  abbrev from : List ℕ
-  from = drop place bytes
-
-  tune : {number : ℤ} (offset : ℕ) → number ≡ signed 8 (get_or bytes (place + offset) 0) → number ≡ signed 8 (byte_at offset from)
-  tune offset e = e ∙ ap (signed 8) (sym (get_or-drop place bytes offset 0))
-
-  pub head_made : {length start looped form kind : ℕ} {finetune note : ℤ} → Long 0 from length → Long 4 from start → Long 8 from looped
-      → finetune ≡ signed 8 (get_or bytes (place + 13) 0) → Byte 14 from form → note ≡ signed 8 (get_or bytes (place + 16) 0) → Byte 17 from kind
-      → HeadAt from (record {
-        length = length;
-        loop_start = start;
-        loop_length = looped;
-        finetune = finetune;
-        form = form;
-        relative_note = note;
-        kind = kind;
-      })
-  head_made l s o f t n k = record {
-    value = cc (tune 13 f, tune 16 n);
-    length_small = l.small;
-    start_small = s.small;
-    looped_small = o.small;
-  }
-
--- and are the same of any bytes that begin alike
+-- A header's fields are the same of any bytes that begin alike
 pub head_alike : {s t : List ℕ} → Agree fields_end s t → {r : SampleHead} → HeadAt s r → HeadAt t r
 head_alike a v = record {
   value = v.value ∙ cc (
@@ -99,8 +70,7 @@ cut_filled file place size few e =
     ∙ padded_zeros fields_end (take size (drop place file)) (omega (arith, length-take size (drop place file)))
 
 -- A header's tests, by the fields that the code has
-same_refusal : (place : ℕ) (head : SampleHead) → first_refusal (head_tests_of 0 head) ≡ first_refusal (head_tests_of place head)
-unfolding first_refusal
+same_refusal : (place : ℕ) (head : SampleHead) → tested (head_tests_of 0 head) ≡ tested (head_tests_of place head)
 same_refusal place head = search rules
 
 module _ (file : List ℕ) (place size : ℕ) {head : SampleHead} (v : HeadAt (head_bytes size (drop place file)) head) (there : place + size ≤ length file) where
@@ -112,28 +82,19 @@ module _ (file : List ℕ) (place size : ℕ) {head : SampleHead} (v : HeadAt (h
   read_by =
       test_holds _ _ found (omega (arith, length-drop place file)) ∙ ap (λ (h : SampleHead). checked (head_tests_of place h) >> found) (sym v.value)
 
-  module _ {refusal : ℕ} (e : refusal ≡ first_refusal (head_tests_of 0 head)) where
-    pub head_fails : (refusal ≡ 0 → ⊥) → read_head size place (drop place file) ≡ refused (refusal at place)
-    head_fails f = read_by ∙ refusal_refuses place (head_tests_of place head) found (omega arith) (e ∙ same_refusal place head) f
+  pub head_fails : {cause : Cause} → tested (head_tests_of 0 head) ≡ Err cause → Refused (refusal_at cause place) ≡ place_step place (read_head size place (drop place file))
+  head_fails e =
+      sym (ap (place_step place) (read_by ∙ tested_refuses place (head_tests_of place head) found (omega arith) (sym (same_refusal place head) ∙ e)))
 
-    pub head_passed : refusal ≡ 0 → Next (place + size) ≡ place_step place (read_head size place (drop place file))
-    head_passed z =
-        sym (ap (place_step place)
-        (read_by ∙ pass (head_tests_of place head) (refusal_holds place (head_tests_of place head) (omega arith) (e ∙ same_refusal place head) z) refl))
+  pub head_passed : tested (head_tests_of 0 head) ≡ Ok tt → Given (place + size) ≡ place_step place (read_head size place (drop place file))
+  head_passed e =
+      sym (ap (place_step place) (read_by ∙ pass (head_tests_of place head) (tested_holds (head_tests_of place head) (sym (same_refusal place head) ∙ e)) refl))
 
 -- Sample data: as many bytes as the header says, which are no more than a length can say
 module _ {bytes : List ℕ} {head : SampleHead} (v : HeadAt bytes head) where
   pub head_size : data_size_by head.kind head.length ≡ data_size bytes
   unfolding data_size
   head_size = ap (λ (h : SampleHead). data_size_by h.kind h.length) v.value
-
-  pub size_small : data_size_by head.kind head.length < 4294967296
-  size_small = go (eqb head.kind adpcm) head.length v.length_small
-    where
-      go : (b : Bool) (n : ℕ) → n < 4294967296 → cond b (adpcm_size n) n < 4294967296
-      go true zero h = omega arith
-      go true (suc n) h = omega arith
-      go false n h = h
 
 module _ (file : List ℕ) (head_place size place : ℕ) {head : SampleHead} (v : HeadAt (head_bytes size (drop head_place file)) head) {bytes : ℕ}
     (said : bytes ≡ data_size_by head.kind head.length) where
@@ -146,17 +107,14 @@ module _ (file : List ℕ) (head_place size place : ℕ) {head : SampleHead} (v 
   data_cut h l = sym (ap (place_step place) (test_fails _ _ _ (λ q. omega (arith, same_size, length-drop place file))))
 
   pub data_there : place + bytes ≤ length file
-      → Next (place + bytes) ≡ place_step place (read_data (head_bytes size (drop head_place file)) place (drop place file))
+      → Given (place + bytes) ≡ place_step place (read_data (head_bytes size (drop head_place file)) place (drop place file))
   unfolding read_data
-  data_there h = ap (λ (n : ℕ). Next (place + n)) same_size ∙ sym (ap (place_step place) (pass _ (omega (arith, same_size, length-drop place file), tt) refl))
+  data_there h = ap (λ (n : ℕ). Given (place + n)) same_size ∙ sym (ap (place_step place) (pass _ (omega (arith, same_size, length-drop place file), tt) refl))
 
 -- The loop over the headers
 head_used : (size place : ℕ) (s : List ℕ) {i : StretchFound} {n : ℕ} → read_head size place s ≡ got i n → (i.bytes ≡ head_bytes size s) × (n ≡ size)
 unfolding read_head
 head_used size place s e = passed _ _ e λ h e. (ap StretchFound.bytes (sym (got_value e)), sym (got_used e))
-
-next_times : (j count size : ℕ) → j < count → (j + 1) * size ≤ count * size
-next_times j count size h = mul-le-mul_right size (omega arith)
 
 pub record HeadsRead (file : List ℕ) (start size count j place : ℕ) : Type 0 where
   pub reached : Reached head_format (replicate count size) file start (λ done. Unit {0}) j place
@@ -167,23 +125,20 @@ module _ (file : List ℕ) (start size count : ℕ) where
   heads_start = record { reached = reached_start head_format _ file start (λ done. Unit {0}) tt; there = omega arith }
 
   module _ {j place : ℕ} (w : HeadsRead file start size count j place) where
-    pub heads_room : j < count → start + count * size ≤ length file → place + size ≤ length file
-    heads_room h l = omega (arith, w.there, next_times j count size h)
-
-    pub heads_on : j < count → {next : ℕ} → Next next ≡ place_step place (read_head size place (drop place file)) → HeadsRead file start size count (j + 1) next
+    pub heads_on : j < count → {next : ℕ} → Given next ≡ place_step place (read_head size place (drop place file)) → HeadsRead file start size count (j + 1) next
     heads_on h e = next_got place _ e λ i n ei q. record {
       reached = reached_on head_format _ file start w.reached size (rw length-replicate h) (get_or-replicate count j size size h) (λ done. Unit {0}) ei q
           (λ t. tt);
       there = omega (arith, w.there, (head_used size place (drop place file) ei).1);
     }
 
-    pub heads_out : j < count → {step : Step} {f : Refusal} → step ≡ place_step place (read_head size place (drop place file)) → step ≡ Refused f
+    pub heads_out : j < count → {step : Step ℕ} {f : Refusal} → step ≡ place_step place (read_head size place (drop place file)) → step ≡ Refused f
         → step ≡ place_step start ((each head_format).read (replicate count size) start (drop start file))
     heads_out h e told =
         refused_on place start _ _ e told λ r er.
         reached_out head_format _ file start w.reached size (rw length-replicate h) (get_or-replicate count j size size h) er
 
-    pub heads_end : count ≤ j → Next place ≡ place_step start ((each head_format).read (replicate count size) start (drop start file))
+    pub heads_end : count ≤ j → Given place ≡ place_step start ((each head_format).read (replicate count size) start (drop start file))
     heads_end h = reached_place head_format _ file start w.reached (rw length-replicate h)
 
 -- The bytes of a run of headers: the j-th stands j times a header's size on
@@ -205,41 +160,35 @@ data_inside : (head : List ℕ) (place : ℕ) (s : List ℕ) {i : StretchFound} 
 unfolding read_data
 data_inside head place s e = passed _ _ e λ h e. omega (arith, h.0, got_used e)
 
-pub record DataRead (file : List ℕ) (heads size count start j head place : ℕ) : Type 0 where
+pub record DataRead (file : List ℕ) (heads size count start j place : ℕ) : Type 0 where
   pub reached : Reached data_format (heads_from count size (drop heads file)) file start (λ done. Unit {0}) j place
-  pub there : head ≡ heads + j * size
   pub inside : place ≤ length file
 
 module _ (file : List ℕ) (heads size count start : ℕ) where
-  pub data_start_lem : start ≤ length file → DataRead file heads size count start 0 heads start
-  data_start_lem l = record { reached = reached_start data_format _ file start (λ done. Unit {0}) tt; there = omega arith; inside = l }
+  pub data_start_lem : start ≤ length file → DataRead file heads size count start 0 start
+  data_start_lem l = record { reached = reached_start data_format _ file start (λ done. Unit {0}) tt; inside = l }
 
-  module _ {j head place : ℕ} (w : DataRead file heads size count start j head place) where
-    pub data_room : j < count → heads + count * size ≤ length file → head + size ≤ length file
-    data_room h l = omega (arith, w.there, next_times j count size h)
-
+  module _ {j place : ℕ} (w : DataRead file heads size count start j place) where
     module _ (h : j < count) where
-      same_head : (d : List ℕ) → get_or (heads_from count size (drop heads file)) j d ≡ head_bytes size (drop head file)
-      same_head d =
-          get_or_heads count size j (drop heads file) d h ∙ ap (head_bytes size) (drop-drop (j * size) heads file ∙ ap (λ (n : ℕ). drop n file) (sym w.there))
+      same_head : (d : List ℕ) → get_or (heads_from count size (drop heads file)) j d ≡ head_bytes size (drop (heads + j * size) file)
+      same_head d = get_or_heads count size j (drop heads file) d h ∙ ap (head_bytes size) (drop-drop (j * size) heads file)
 
-      pub data_on : {next : ℕ} → Next next ≡ place_step place (read_data (head_bytes size (drop head file)) place (drop place file))
-          → DataRead file heads size count start (j + 1) (head + size) next
+      pub data_on : {next : ℕ} → Given next ≡ place_step place (read_data (head_bytes size (drop (heads + j * size) file)) place (drop place file))
+          → DataRead file heads size count start (j + 1) next
       data_on e = next_got place _ e λ i n ei q. record {
         reached =
-            reached_on data_format _ file start w.reached (head_bytes size (drop head file)) (rw length_heads h) (same_head _) (λ done. Unit {0}) ei q
+            reached_on data_format _ file start w.reached (head_bytes size (drop (heads + j * size) file)) (rw length_heads h) (same_head _) (λ done. Unit {0}) ei q
             (λ t. tt);
-        there = omega (arith, w.there);
         inside = omega (arith, w.inside, data_inside _ place (drop place file) ei, length-drop place file);
       }
 
-      pub data_out : {step : Step} {f : Refusal} → step ≡ place_step place (read_data (head_bytes size (drop head file)) place (drop place file))
+      pub data_out : {step : Step ℕ} {f : Refusal} → step ≡ place_step place (read_data (head_bytes size (drop (heads + j * size) file)) place (drop place file))
           → step ≡ Refused f
           → step ≡ place_step start ((each data_format).read (heads_from count size (drop heads file)) start (drop start file))
       data_out e told = refused_on place start _ _ e told λ r er.
-          reached_out data_format _ file start w.reached (head_bytes size (drop head file)) (rw length_heads h) (same_head _) er
+          reached_out data_format _ file start w.reached (head_bytes size (drop (heads + j * size) file)) (rw length_heads h) (same_head _) er
 
-    pub data_end_lem : count ≤ j → Next place ≡ place_step start ((each data_format).read (heads_from count size (drop heads file)) start (drop start file))
+    pub data_end_lem : count ≤ j → Given place ≡ place_step start ((each data_format).read (heads_from count size (drop heads file)) start (drop start file))
     data_end_lem h = reached_place data_format _ file start w.reached (rw length_heads h)
 
 -- All headers, and then the data of each
@@ -255,7 +204,7 @@ heads_viewed (suc count) size place s is n e =
 
 place_then : {A B : Type 0} (a : A) (start n : ℕ) (g : Got B) → place_step (start + n) g ≡ place_step {A = A × B} start (g >>= (λ (b, m). got (a, b) (n + m)))
 unfolding ◌>>=◌
-place_then a start n (got b m) = ap Next (add_assoc start n m)
+place_then a start n (got b m) = ap Given (add_assoc start n m)
 place_then a start n (refused r) = refl
 
 module _ (file : List ℕ) (start size count : ℕ) where
@@ -265,10 +214,10 @@ module _ (file : List ℕ) (start size count : ℕ) where
   abbrev samples : Got SamplesFound
   samples = samples_format.read (replicate count size) start (drop start file)
 
-  pub samples_out : {step : Step} {f : Refusal} → step ≡ place_step start heads → step ≡ Refused f → step ≡ place_step start samples
+  pub samples_out : {step : Step ℕ} {f : Refusal} → step ≡ place_step start heads → step ≡ Refused f → step ≡ place_step start samples
   samples_out e told = refused_on start start heads samples e told λ r er. step_refused _ er
 
-  pub samples_on : {next : ℕ} → Next next ≡ place_step start heads
+  pub samples_on : {next : ℕ} → Given next ≡ place_step start heads
       → place_step next ((each data_format).read (heads_from count size (drop start file)) next (drop next file)) ≡ place_step start samples
   samples_on e = next_got start heads e λ hs n eh q.
       rw q
@@ -277,7 +226,7 @@ module _ (file : List ℕ) (start size count : ℕ) where
       ∙ place_then hs start n _
       ∙ ap (place_step start) (sym (step _ eh refl)))
 
-  pub heads_behind : {next : ℕ} → Next next ≡ place_step start heads → next ≡ start + count * size
+  pub heads_behind : {next : ℕ} → Given next ≡ place_step start heads → next ≡ start + count * size
   heads_behind e = next_got start heads e λ hs n eh q. omega (arith, heads_used count size start (drop start file) hs n eh)
 
 -- What the samples take, and what they are written in: 40 bytes a header, and the data as they are

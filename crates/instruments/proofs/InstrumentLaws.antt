@@ -3,8 +3,9 @@ use Prim.Native.Nat.{ℕ, zero, suc, ◌+◌, ◌-◌, ◌*◌, ◌≤◌}
 use mathlib.Core.List.{List, [], ◌∷◌, ◌++◌, append_assoc, append-nil}
 use mathlib.Core.Path.{◌≡◌, refl, sym, ap, ap₂, ◌∙◌}
 use native.Mathlib.Omega.{arith}
-use lib.ListN.{length, take, drop, replicate, length-append, length-map}
-use lib.Seq.{take-add, drop-drop}
+use lib.ListN.{length, take, drop, replicate, get_or, length-append, length-drop, length-map}
+use lib.Seq.{take-add, take-take, drop-drop, length-take-le}
+use Rattle.std.proofs.Common.{Fits, w8}
 use Rattle.xm.specs.Number.{Bytes, byte_at, part, byte, word, long}
 use Rattle.xm.specs.ModuleKind.{ModuleKind, normal, stripped, padded, before, trimmed}
 use Rattle.xm.specs.Got.{got, AllHold, list_in, Told}
@@ -16,7 +17,7 @@ use Rattle.xm.specs.Instrument.{Instrument, InstrumentFound, voice_of, read_inst
 use Rattle.xm.specs.Instrument.{instrument_view}
 use Rattle.xm.proofs.Number.{bytes_drop, bytes_take}
 use Rattle.xm.proofs.Got.{no_true, passed, bind_got, got_value, got_used, got_carry}
-use Rattle.xm.proofs.Cut.{padded-length, padded_bytes, padded-drop, padded-long, take-padded, trimmed_le, trimmed-take}
+use Rattle.xm.proofs.Cut.{padded-length, padded_bytes, padded-drop, padded-long, take-padded, drop-take, trimmed_le, trimmed-take}
 use Rattle.xm.proofs.Sample.{smallest_fits}
 use Rattle.xm.proofs.Instrument.{heads_used}
 use Rattle.xm.proofs.Stripped.{instrument_keeps}
@@ -29,9 +30,10 @@ use Rattle.forms.specs.declared.Form.{Form}
 use Rattle.forms.proofs.KeptLaws.{trimmed_front}
 use Rattle.forms.proofs.FormLaws.{least_low}
 use Rattle.writers.specs.Found.{instrument_as}
+use Rattle.instruments.specs.Form.{FieldsFit}
 use Rattle.fields.specs.Fields.{voice_in, fields_in, heads_cut}
 use Rattle.writers.proofs.Kept.{part_split, byte-kept, word_kept}
-use Rattle.fields.proofs.CutLaws.{padded_short, padded_front, cut_whole}
+use Rattle.fields.proofs.CutLaws.{padded_short, padded_front}
 use Rattle.fields.proofs.PieceLaws.{fields_short, fields_size, heads_size, heads_whole}
 
 -- The fields as they are read, of either kind of module: the bytes of the structure itself, through its cut
@@ -49,11 +51,13 @@ module _ (kind : ModuleKind) (place : ℕ) (s : List ℕ) (h : AllHold (instrume
       go : (kind : ModuleKind) → AllHold (instrument_tests kind place s) → (kind ≡ normal → from + count ≤ instrument_size_at s)
           → part from count (fields_of kind s) ≡ padded count (drop from own)
       go normal h whole =
+          let I = instrument_size_at s in
           let size = whole refl in
-          let n : count ≡ 0 + from + count - (0 + from) = omega arith in
-          let at : from ≡ 0 + from = omega arith in
-          ap₂ (λ (a b : ℕ). take a (drop b s)) n at ∙ cut_whole s 0 (instrument_size_at s) from count (omega (arith, (fields_pass normal place s h).there))
-          (omega arith) (omega arith)
+          let there = length-take-le I s (fields_pass normal place s h).there in
+          sym
+          (padded-long count (drop from own) (omega (arith, there, length-drop from own))
+          ∙ ap (take count) (drop-take from I s (omega arith))
+          ∙ take-take count (I - from) (drop from s) (omega arith))
       go stripped h whole =
           let n : 241 ≡ from + (241 - from) = omega arith in
           ap (λ (k : ℕ). part from count (padded k own)) n ∙ ap (take count) (padded-drop from (241 - from) own)
@@ -245,7 +249,7 @@ module _ (file : List ℕ) (place : ℕ) (piece : InstrumentPart) where
     pub headed : behind ≤ piece.next
     pub inside : piece.next ≤ length file
     pub low : least_stripped ≤ form.size
-    pub high : to ≡ stripped → form.size ≤ 241
+    pub fits : FieldsFit to piece form
     pub kept : form.head_size ≤ least_head
     pub heads_long : length (heads_by form) ≡ piece.samples * form.head_size
     pub long : form.length ≡ length (instrument_as to file place)
@@ -315,7 +319,7 @@ module _ (file : List ℕ) (place : ℕ) (piece : InstrumentPart) where
     -- its form, in a module of either kind
     record Shape (to : ModuleKind) (form : Form) : Type 0 where
       low : least_stripped ≤ form.size
-      high : to ≡ stripped → form.size ≤ 241
+      fits : FieldsFit to piece form
       kept : form.head_size ≤ least_head
       long : form.length ≡ length (write_instrument to x)
       written : write_instrument to x ≡ fields_by form ++ (heads_by form ++ bytes)
@@ -323,20 +327,20 @@ module _ (file : List ℕ) (place : ℕ) (piece : InstrumentPart) where
     shape : (to : ModuleKind) → Shape to (form_by to x)
     shape normal = record {
       low = omega (arith, least_low (count_of x));
-      high = λ e. absurd (no_true (cc));
+      fits = (ap least_instrument (counted ∙ sym lies.count), refl);
       kept = omega arith;
       long = refl;
       written = written_normal x cut front voiced bare ∙ ap (λ (l : List ℕ). fields_by (form_by normal x) ++ l) samples_whole;
     }
     shape stripped = record {
       low = omega arith;
-      high = λ e. omega (arith, stripped_high x cut front voiced bare);
+      fits = (omega arith, omega (arith, stripped_high x cut front voiced bare), smallest_fits (count_of x) x.samples.0 good.samples_good.0);
       kept = smallest_fits (count_of x) x.samples.0 good.samples_good.0;
       long = refl;
       written = written_stripped x cut front voiced bare ∙ ap (λ (l : List ℕ). fields_by (form_by stripped x) ++ l) (samples_cut (smallest_head x.samples.0));
     }
 
-    pub instrument_lies : {to : ModuleKind} {form : Form} → Told (λ i. FormIs to place piece.next (instrument_view i) form) (read_instrument kind place from)
+    instrument_lies : {to : ModuleKind} {form : Form} → Told (λ i. FormIs to place piece.next (instrument_view i) form) (read_instrument kind place from)
         → InstrumentLies to form
     instrument_lies {to} {form} told =
         let f : FormIs to place piece.next x form = rw r.is at told in
@@ -348,7 +352,7 @@ module _ (file : List ℕ) (place : ℕ) (piece : InstrumentPart) where
           headed = omega (arith, lies.ends);
           inside = part_inside file kind place r b;
           low = w.low;
-          high = w.high;
+          fits = w.fits;
           kept = w.kept;
           heads_long = heads_long;
           long = w.long ∙ ap length (sym reads);
@@ -357,3 +361,9 @@ module _ (file : List ℕ) (place : ℕ) (piece : InstrumentPart) where
               ∙ omega (arith, fields_size form.size form.head_size cut w.low, length-append (heads_by form) bytes, heads_long, lies.ends);
           written = reads ∙ w.written ∙ ap (λ (l : List ℕ). fields_by form ++ (heads_by form ++ l)) data_own;
         }
+
+-- Of the bytes of a slice
+pub written_lies : {file : List ℕ} {place : ℕ} {piece : InstrumentPart} {to : ModuleKind} {form : Form} → InstrumentIs file place piece
+    → ((i : ℕ) → Fits w8 (get_or file i 0)) → Told (λ i. FormIs to place piece.next (instrument_view i) form) (read_instrument (kind_at file) place (drop place file))
+    → InstrumentLies file place piece to form
+written_lies {file} {place} {piece} is fits told = instrument_lies file place piece is (record { below = λ i. omega (arith, fits i) }) told

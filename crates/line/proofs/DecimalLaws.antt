@@ -7,6 +7,7 @@ use native.Mathlib.Omega.{arith}
 use borrow.Author.Tests.{ltb-true, ltb-false, lt-ltb, le-ltb}
 use lib.Dec.{ltb}
 use lib.ListN.{length, get_or, length-append}
+use Rattle.std.proofs.lemmas.List.{get_or_append_left}
 use Rattle.line.specs.Decimal.{last_digit, decimal_within, decimal, value_from, DecimalTells}
 
 -- A larger bound changes nothing
@@ -53,10 +54,6 @@ value_behind : (so : ℕ) (digits : List ℕ) (last : ℕ) → value_from so (di
 value_behind so [] last = refl
 value_behind so (digit ∷ digits) last = value_behind (so * 10 + (digit - 48)) digits last
 
-first_kept : (xs ys : List ℕ) → 1 ≤ length xs → get_or (xs ++ ys) 0 0 ≡ get_or xs 0 0
-first_kept [] ys h = absurd (omega arith)
-first_kept (x ∷ xs) ys h = refl
-
 some_digit : (n : ℕ) → 1 ≤ length (decimal n)
 some_digit n = go (ltb n 10) refl
   where
@@ -78,7 +75,7 @@ tells_long n h t =
     record {
       value = ap (value_from 0) d ∙ value_behind 0 (decimal (n / 10)) (last_digit n) ∙ omega (arith, t.value);
       front = λ z.
-          let kept = first_kept (decimal (n / 10)) (last_digit n ∷ []) (some_digit (n / 10)) in
+          let kept = get_or_append_left (decimal (n / 10)) (last_digit n ∷ []) 0 0 (some_digit (n / 10)) in
           let e = t.front (sym kept ∙ sym (ap (λ (s : List ℕ). get_or s 0 0) d) ∙ z) in
           absurd (omega (arith, e));
     }

@@ -22,8 +22,11 @@ abbrev pub numbered : List ℕ → List ℕ
 numbered [] = newline ∷ []
 numbered (n ∷ ns) = space ∷ (decimal n ++ numbered ns)
 
+abbrev pub results_of : CheckReport → List ℕ
+results_of c = map (λ result. result c) check_results
+
 abbrev pub line_of : Answer CheckReport → List ℕ
-line_of (gives c) = ok_word ++ numbered (map (λ result. result c) check_results)
+line_of (gives c) = ok_word ++ numbered (results_of c)
 line_of (refuses r) = refused_word ++ numbered (r.number ∷ r.place ∷ [])
 
 -- "65,536 or more input bytes give `refused 2 0`."

@@ -14,7 +14,10 @@ use Rattle.xm.specs.PatternInFile.{PatternFound}
 use Rattle.xm.proofs.Got.{no_true}
 use Rattle.xm.proofs.Format.{cons_path}
 use Rattle.measure.specs.Measure.{same_bytes}
-use Rattle.mark.specs.Mark.{again, copied, nothing, mark_by, Marked, two_at, with_two, bits_of, pattern_mark, Put, Marks}
+use Rattle.std.specs.Prelude.{Ok}
+use Rattle.mark.specs.declared.Mark.{Mark}
+use Rattle.mark.specs.declared.Mark.TheVariants.{Again, Copied, Nothing}
+use Rattle.mark.specs.Mark.{number_of, mark_from, mark_by, mark_in, Marked, two_at, with_two, bits_of, pattern_mark, Put, Marks}
 use Rattle.mark.proofs.EightLaws.{two_put, two_lower, two_higher}
 
 same_equal : (xs ys : List ℕ) → same_bytes xs ys ≡ true → xs ≡ ys
@@ -25,48 +28,57 @@ same_equal (x ∷ xs) [] e = absurd (no_true e)
 same_equal (x ∷ xs) (y ∷ ys) e =
     let b = (and-eq-true_iff (eqb x y) (same_bytes xs ys)).0 e in cons_path (eqb-true x y b.0) (same_equal xs ys b.1)
 
--- What a mark tells: whether nothing is written, and that the bytes are the shortest form
-mark-nothing : (shortest : ℕ) (same : Bool) → eqb (mark_by shortest same) nothing ≡ eqb shortest 0
-mark-nothing shortest same = go (eqb shortest 0) same
+-- What a mark tells: that nothing is written, or something, and that the bytes are the shortest form
+mark-nothing : (shortest : ℕ) (same : Bool) → mark_by shortest same ≡ Nothing → shortest ≡ 0
+mark-nothing shortest same = go (eqb shortest 0) same refl
   where
-    go : (none same : Bool) → eqb (cond none nothing (cond same copied again)) nothing ≡ none
-    go true same = refl
-    go false true = refl
-    go false false = refl
+    go : (none same : Bool) → eqb shortest 0 ≡ none → cond none Nothing (cond same Copied Again) ≡ Nothing → shortest ≡ 0
+    go true same q e = eqb-true shortest 0 q
+    go false true q e = absurd (cc)
+    go false false q e = absurd (cc)
 
-mark-copied : (shortest : ℕ) (same : Bool) → eqb (mark_by shortest same) copied ≡ true → same ≡ true
+mark-copied : (shortest : ℕ) (same : Bool) → mark_by shortest same ≡ Copied → same ≡ true
 mark-copied shortest same = go (eqb shortest 0) same
   where
-    go : (none same : Bool) → eqb (cond none nothing (cond same copied again)) copied ≡ true → same ≡ true
-    go true same e = absurd (no_true e)
+    go : (none same : Bool) → cond none Nothing (cond same Copied Again) ≡ Copied → same ≡ true
+    go true same e = absurd (cc)
     go false true e = refl
-    go false false e = absurd (no_true e)
+    go false false e = absurd (cc)
 
-module _ {file : List ℕ} {i : PatternFound} {mark : ℕ} (m : Marked file i mark) where
+module _ {file : List ℕ} {i : PatternFound} {mark : Mark} (m : Marked file i mark) where
   abbrev bytes : List ℕ
   bytes = part i.data_place i.data_size file
 
   abbrev shortest : List ℕ
   shortest = write_stored i.content
 
-  pub marked-nothing : eqb mark nothing ≡ eqb (length shortest) 0
-  marked-nothing = ap (λ (n : ℕ). eqb n nothing) m.is ∙ mark-nothing (length shortest) (same_bytes bytes shortest)
+  pub marked-nothing : mark ≡ Nothing → length shortest ≡ 0
+  marked-nothing e = mark-nothing (length shortest) (same_bytes bytes shortest) (sym m.is ∙ e)
 
-  pub marked-copied : eqb mark copied ≡ true → bytes ≡ shortest
-  marked-copied e =
-      same_equal bytes shortest (mark-copied (length shortest) (same_bytes bytes shortest) (ap (λ (n : ℕ). eqb n copied) (sym m.is) ∙ e))
+  pub marked_some : (mark ≡ Nothing → ⊥) → length shortest ≡ 0 → ⊥
+  marked_some some z = some (m.is ∙ ap (λ (n : ℕ). mark_by n (same_bytes bytes shortest)) z)
 
--- Two bits do for it
-pub mark-small : (shortest : ℕ) (same : Bool) → mark_by shortest same < 4
-mark-small shortest same = go (eqb shortest 0) same
-  where
-    go : (none same : Bool) → cond none nothing (cond same copied again) < 4
-    go true same = omega arith
-    go false true = omega arith
-    go false false = omega arith
+  pub marked-copied : mark ≡ Copied → bytes ≡ shortest
+  marked-copied e = same_equal bytes shortest (mark-copied (length shortest) (same_bytes bytes shortest) (sym m.is ∙ e))
+
+-- A mark's number takes two bits, and tells the mark
+pub mark-small : (mark : Mark) → number_of mark < 4
+mark-small Again = omega arith
+mark-small Copied = omega arith
+mark-small Nothing = omega arith
+
+pub mark_back : (mark : Mark) → mark_from (number_of mark) ≡ Ok mark
+mark_back Again = refl
+mark_back Copied = refl
+mark_back Nothing = refl
+
+-- A pattern's mark, found among the others by its number
+pub mark_found : (file marks : List ℕ) (i : PatternFound) (first : ℕ) {number : ℕ} → number ≡ pattern_mark marks first
+    → pattern_mark marks first ≡ number_of (mark_in file i) → mark_from number ≡ Ok (mark_in file i)
+mark_found file marks i first e is = ap mark_from (e ∙ is) ∙ mark_back (mark_in file i)
 
 -- A mark by the step's numbers
-pub mark_told : (file : List ℕ) (i : PatternFound) {shortest mark : ℕ} {same : Bool} → shortest ≡ length (write_stored i.content)
+pub mark_told : (file : List ℕ) (i : PatternFound) {shortest : ℕ} {mark : Mark} {same : Bool} → shortest ≡ length (write_stored i.content)
     → same ≡ same_bytes (part i.data_place i.data_size file) (write_stored i.content) → mark ≡ mark_by shortest same → Marked file i mark
 mark_told file i q r m = record { is = m ∙ ap₂ mark_by q r }
 
@@ -94,9 +106,9 @@ module _ (marks : List ℕ) (number mark : ℕ) (small : mark < 4) (inside : num
   mark_put = record { size = length-set marks (number / 32) eight; put = ap (λ (n : ℕ). two_at n (bits_of number)) there ∙ two_put _ _ _ small; kept = kept }
 
 -- One more mark, behind those of the patterns that were read
-pub marks_more : (file : List ℕ) (first : ℕ) (done : List PatternFound) {marks after : List ℕ} {i : PatternFound} {number mark : ℕ}
-    → number ≡ first + length done → Put marks number mark after
+pub marks_more : (file : List ℕ) (first : ℕ) (done : List PatternFound) {marks after : List ℕ} {i : PatternFound} {number : ℕ} {mark : Mark}
+    → number ≡ first + length done → Put marks number (number_of mark) after
     → Marks file first done marks → Marked file i mark → Marks file first (done ++ (i ∷ [])) after
-marks_more file first [] {after = after} e p m t = (record { is = ap (pattern_mark after) (omega arith) ∙ p.put ∙ t.is }, tt)
+marks_more file first [] {after = after} e p m t = (ap (pattern_mark after) (omega arith) ∙ p.put ∙ ap number_of t.is, tt)
 marks_more file first (d ∷ done) e p m t =
-    (record { is = p.kept first (λ q. omega arith) ∙ m.0.is }, marks_more file (suc first) done (omega arith) p m.1 t)
+    (p.kept first (λ q. omega arith) ∙ m.0, marks_more file (suc first) done (omega arith) p m.1 t)

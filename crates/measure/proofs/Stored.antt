@@ -15,19 +15,19 @@ use Rattle.xm.proofs.Got.{no_true}
 use Rattle.xm.proofs.Stored.{Fives, rows_none, write_none, stored_none}
 use Rattle.xm.proofs.Run.{run_read, in_length, in_fives, stored_nothing, stored_cells, size_by_lem}
 use Rattle.refusal.specs.declared.Refusal.{Refusal}
+use Rattle.refusal.specs.declared.Step.{Step}
+use Rattle.refusal.specs.declared.Step.TheVariants.{Given, Refused}
 use Rattle.cell.proofs.ReadRuns.{stored_refused, stored_left, stored_whole}
 use Rattle.measure.specs.declared.StoredSize.{StoredSize}
-use Rattle.measure.specs.declared.StoredStep.{StoredStep}
-use Rattle.measure.specs.declared.StoredStep.TheVariants.{Read, Refused}
-use Rattle.measure.specs.Measure.{same_bytes, measured_on, stored_of}
+use Rattle.measure.specs.Measure.{same_bytes, no_cells, measured_on, stored_of}
 
 -- No data: empty cells, which are written as no bytes
 pub measured_none : (channels rows : ℕ) (d : List ℕ) → length d ≡ 0
-    → Read (record { used = 0; shortest = 0; same = true }) ≡ stored_of d (read_stored channels rows 0 d)
+    → Given (record { used = 0; shortest = 0; same = true }) ≡ stored_of d (read_stored channels rows 0 d)
 unfolding same_bytes
 measured_none channels rows [] h =
     sym (ap (stored_of []) (stored_none channels rows 0 [] refl)
-    ∙ ap (λ (w : List ℕ). Read (record { used = 0; shortest = length w; same = same_bytes [] w }))
+    ∙ ap (λ (w : List ℕ). Given (record { used = 0; shortest = length w; same = same_bytes [] w }))
     (write_none (empty_rows channels rows) (rows_none channels rows)))
 measured_none channels rows (x ∷ d) h = absurd (omega arith)
 
@@ -37,21 +37,21 @@ same_nothing [] h = absurd (omega arith)
 same_nothing (x ∷ d) h = refl
 
 -- Some data
-module _ (channels rows : ℕ) (d : List ℕ) (some : 1 ≤ length d) {step : StoredStep} (e : step ≡ measured_on 0 0 true d (read_run (rows * channels) 0 d)) where
+module _ (channels rows : ℕ) (d : List ℕ) (some : 1 ≤ length d) {step : Step StoredSize} (e : step ≡ measured_on no_cells d (read_run (rows * channels) 0 d)) where
   pub measured_refused : {f : Refusal} → step ≡ Refused f → step ≡ stored_of d (read_stored channels rows 0 d)
   measured_refused {f} told = go (read_run (rows * channels) 0 d) refl (sym told ∙ e)
     where
-      go : (g : Got (List (List ℕ))) → read_run (rows * channels) 0 d ≡ g → Refused f ≡ measured_on 0 0 true d g
+      go : (g : Got (List (List ℕ))) → read_run (rows * channels) 0 d ≡ g → Refused f ≡ measured_on no_cells d g
           → step ≡ stored_of d (read_stored channels rows 0 d)
       go (got cells used) q t = absurd (no_true (cc))
       go (refused r) q t = told ∙ t ∙ sym (ap (stored_of d) (stored_refused channels rows d some q))
 
-  module _ {size : StoredSize} (told : step ≡ Read size) where
+  module _ {size : StoredSize} (told : step ≡ Given size) where
     found : {R : Type 0} → ((cells : List (List ℕ)) → read_run (rows * channels) 0 d ≡ got cells size.used → size.shortest ≡ length (joined write_cell cells)
         → size.same ≡ same_bytes (take size.used d) (joined write_cell cells) → R) → R
     found {R} k = go (read_run (rows * channels) 0 d) refl (sym told ∙ e)
       where
-        go : (g : Got (List (List ℕ))) → read_run (rows * channels) 0 d ≡ g → Read size ≡ measured_on 0 0 true d g → R
+        go : (g : Got (List (List ℕ))) → read_run (rows * channels) 0 d ≡ g → Given size ≡ measured_on no_cells d g → R
         go (got cells n) q t =
             let z : 0 + n ≡ size.used = cc in
             let u : n ≡ size.used = omega arith in
@@ -76,15 +76,15 @@ module _ (channels rows : ℕ) (d : List ℕ) (some : 1 ≤ length d) {step : St
           k p (stored_whole channels rows d some reads all) (long ∙ ap₂ size_by count l ∙ size_by_lem p fives) l
           (b ∙ ap (λ (x : List ℕ). same_bytes x (joined write_cell cells)) (take_all size.used d all))
 
-      pub measured_nothing : shortest ≡ 0 → Read (record { used = size.used; shortest = 0; same = false }) ≡ stored_of d (read_stored channels rows 0 d)
+      pub measured_nothing : shortest ≡ 0 → Given (record { used = size.used; shortest = 0; same = false }) ≡ stored_of d (read_stored channels rows 0 d)
       unfolding same_bytes
       measured_nothing z = whole λ p reads w l b.
-          ap (λ (x : Bool). Read (record { used = size.used; shortest = 0; same = x })) (same_nothing d some)
+          ap (λ (x : Bool). Given (record { used = size.used; shortest = 0; same = x })) (same_nothing d some)
           ∙ sym (ap (stored_of d) reads
-          ∙ ap (λ (x : List ℕ). Read (record { used = size.used; shortest = length x; same = same_bytes d x })) (stored_nothing p (sym w ∙ z)))
+          ∙ ap (λ (x : List ℕ). Given (record { used = size.used; shortest = length x; same = same_bytes d x })) (stored_nothing p (sym w ∙ z)))
 
-      pub measured_whole : (shortest ≡ 0 → ⊥) → Read size ≡ stored_of d (read_stored channels rows 0 d)
+      pub measured_whole : (shortest ≡ 0 → ⊥) → Given size ≡ stored_of d (read_stored channels rows 0 d)
       measured_whole z = whole λ p reads w l b.
-          ap₂ (λ (n : ℕ) (x : Bool). Read (record { used = size.used; shortest = n; same = x })) l b
+          ap₂ (λ (n : ℕ) (x : Bool). Given (record { used = size.used; shortest = n; same = x })) l b
           ∙ sym (ap (stored_of d) reads
-          ∙ ap (λ (x : List ℕ). Read (record { used = size.used; shortest = length x; same = same_bytes d x })) (stored_cells p (omega (arith, w))))
+          ∙ ap (λ (x : List ℕ). Given (record { used = size.used; shortest = length x; same = same_bytes d x })) (stored_cells p (omega (arith, w))))

@@ -6,26 +6,28 @@ use mathlib.Core.Path.{◌≡◌, refl, sym, ap, ap₂, ◌∙◌}
 use native.Mathlib.Omega.{arith}
 use borrow.Author.Tests.{eq-eqb, eqb-true, eqb-false}
 use lib.Dec.{eqb}
-use lib.ListN.{length, get_or, drop}
-use lib.Seq.{get_or-drop}
+use lib.ListN.{length, get_or, take, drop}
+use lib.Seq.{get_or-drop, length-take-le}
+use Rattle.std.proofs.lemmas.List.{get_or-take}
 use Rattle.xm.specs.Cell.{length_by, needed, cell_at, write_cell}
 use Rattle.xm.specs.Short.{is_short}
 use Rattle.xm.specs.Stored.{read_run}
 use Rattle.xm.proofs.Cell.{write_short}
 use Rattle.xm.proofs.Lay.{head_at_lem}
+use Rattle.refusal.specs.declared.Step.{Step}
 use Rattle.cell.proofs.ReadLaws.{read_got_at, empty_length}
 use Rattle.ahead.specs.declared.Ahead.{Ahead}
-use Rattle.ahead.specs.Ahead.{AheadOf, Follows, lengths_from}
+use Rattle.ahead.specs.Ahead.{AheadOf, block_size, Follows, lengths_from}
 use Rattle.ahead.proofs.Lengths.{length_six}
 use Rattle.ahead.proofs.AheadLaws.{run_over}
 use Rattle.ahead.proofs.Walk.{walked_some, walked_over}
-use Rattle.measure.specs.declared.StoredStep.{StoredStep}
+use Rattle.measure.specs.declared.StoredSize.{StoredSize}
+use Rattle.measure.specs.declared.Sums.{Sums}
 use Rattle.measure.specs.declared.Weigh.{Weigh}
-use Rattle.measure.specs.declared.Skip.{Skip}
-use Rattle.measure.specs.Measure.{measured_on}
-use Rattle.measure.specs.Weight.{some_of, weight_of, weights_from, Sums, added, weighed, weigh_of, long_lead, Skipped}
+use Rattle.measure.specs.Measure.{no_cells, measured_on}
+use Rattle.measure.specs.Weight.{some_of, weight_of, weights_from, added, weighed, weigh_of, long_lead, Skipped}
 use Rattle.measure.proofs.WeightLaws.{some_add, some_most, some_all, weighs, weight_one}
-use Rattle.measure.proofs.MeasureLaws.{bool_same, Measuring, measuring_more}
+use Rattle.measure.proofs.MeasureLaws.{bool_same, sized, Measuring, measuring_more}
 
 -- An empty cell's lead byte
 empty_lead : (lead note : ℕ) → lead ≡ 128 → long_lead lead note ≡ false
@@ -66,16 +68,20 @@ module _ (odd more shortest least used long : ℕ) (h : shortest ≤ used) (k : 
       (both_and (eq-eqb more 0 (omega arith)) (eq-eqb least long (omega arith))))
 
 -- Of `count` cells `left` are still to come, from `used` on, and the loop's answer is to be `answer`
-pub record Weighing (s : List ℕ) (answer : StoredStep) (count used left extra odd : ℕ) : Type 0 where
+pub record Weighing (s : List ℕ) (answer : Step StoredSize) (count used left : ℕ) (sums : Sums) : Type 0 where
   pub shortest : ℕ
   pub same : Bool
-  pub measuring : Measuring s answer used shortest same left
+  pub measuring : Measuring s answer (sized used shortest same) left
   pub fewer : left ≤ count
-  pub sum : some_of used s + extra ≡ shortest + (count - left)
-  pub even : same ≡ (eqb odd 0 && eqb shortest used)
-  pub small : (extra ≤ 15 * (count - left)) × (odd ≤ 15 * (count - left))
+  pub sum : some_of used s + sums.extra ≡ shortest + (count - left)
+  pub even : same ≡ (eqb sums.odd 0 && eqb shortest used)
+  pub small : (sums.extra ≤ 15 * (count - left)) × (sums.odd ≤ 15 * (count - left))
 
-pub weighing_start : (s : List ℕ) (count : ℕ) → Weighing s (measured_on 0 0 true s (read_run count 0 s)) count 0 count (count - count) 0
+-- One for each cell, as of cells in their shortest form, and none of bytes that are 0
+abbrev pub ones_of : (cells : ℕ) → Sums
+ones_of cells = record { extra = cells; odd = 0 }
+
+pub weighing_start : (s : List ℕ) (count : ℕ) → Weighing s (measured_on no_cells s (read_run count 0 s)) count 0 count (ones_of (count - count))
 unfolding some_of
 weighing_start s count = record {
   shortest = 0;
@@ -87,15 +93,16 @@ weighing_start s count = record {
   small = (omega arith, omega arith);
 }
 
-module _ {s : List ℕ} {answer : StoredStep} {count : ℕ} (bytes : (i : ℕ) → get_or s i 0 ≤ 255) where
-  move : {used used' left left' extra extra' odd odd' : ℕ} → Weighing s answer count used left extra odd → used' ≡ used → left' ≡ left → extra' ≡ extra
-      → odd' ≡ odd
-      → Weighing s answer count used' left' extra' odd'
+module _ {s : List ℕ} {answer : Step StoredSize} {count : ℕ} (bytes : (i : ℕ) → get_or s i 0 ≤ 255) where
+  move : {used used' left left' : ℕ} {sums sums' : Sums} → Weighing s answer count used left sums → used' ≡ used → left' ≡ left → sums'.extra ≡ sums.extra
+      → sums'.odd ≡ sums.odd
+      → Weighing s answer count used' left' sums'
   move v p q r t = rw (p, q, r, t) v
 
-  weighing_more : {used left extra odd : ℕ} → Weighing s answer count used left extra odd → 0 < left → used + length_by (get_or s used 0) ≤ length s
-      → Weighing s answer count (used + length_by (get_or s used 0)) (left - 1) (extra + weight_of (drop used s) % 16) (odd + weight_of (drop used s) / 16)
-  weighing_more {used} {left} {extra} {odd} v some fits =
+  weighing_more : {used left : ℕ} {sums : Sums} → Weighing s answer count used left sums → 0 < left → used + length_by (get_or s used 0) ≤ length s
+      → Weighing s answer count (used + length_by (get_or s used 0)) (left - 1)
+      (record { extra = sums.extra + weight_of (drop used s) % 16; odd = sums.odd + weight_of (drop used s) / 16 })
+  weighing_more {used} {left} {sums} v some fits =
       let d = drop used s in
       let least = length (write_cell (cell_at d)) in
       let long : needed d ≡ length_by (get_or s used 0) = ap length_by (head_at_lem used s 0) in
@@ -106,32 +113,34 @@ module _ {s : List ℕ} {answer : StoredStep} {count : ℕ} (bytes : (i : ℕ) �
       record {
         shortest = v.shortest + least;
         same = v.same && is_short d;
-        measuring = measuring_more v.measuring some (read_got_at used s fits) refl refl refl;
+        measuring = measuring_more v.measuring some (read_got_at used s fits) refl;
         fewer = omega arith;
         sum = omega (arith, some_add used (length_by (get_or s used 0)) s, v.sum, w.extra, ap (λ (n : ℕ). some_of n d) long);
-        even = rw (v.even, w.short, long) (even_more odd (weight_of d / 16) v.shortest least used (length_by (get_or s used 0)) m (omega arith));
+        even = rw (v.even, w.short, long) (even_more sums.odd (weight_of d / 16) v.shortest least used (length_by (get_or s used 0)) m (omega arith));
         small = (omega (arith, v.small), omega (arith, v.small, w.most));
       }
 
   -- The cells of a block, as far as they stand inside what there is
-  pub weighing_block : (place size : ℕ) (lengths weights : List ℕ) → Follows (lengths_from s place) size lengths → Follows (weights_from s place) size weights
-      → place + size ≤ length s
-      → {left extra odd : ℕ} {walk : Weigh} → Weighing s answer count place left extra odd → walk ≡ weigh_of (weighed lengths weights size left 0 extra odd)
-      → place + walk.at ≤ length s → Weighing s answer count (place + walk.at) walk.left walk.extra walk.odd
-  weighing_block place size lengths weights long heavy inside {left} {extra} {odd} {walk} v e h =
-      rw e (walked_over (added weights) lengths size (λ (at left : ℕ) (sums : Sums). Weighing s answer count (place + at) left sums.extra sums.odd)
+  pub weighing_block : (place size : ℕ) {lengths weights : List ℕ} → Follows (lengths_from s place) size lengths → Follows (weights_from s place) size weights
+      → size ≤ block_size → place + size ≤ length s → {left : ℕ} {sums : Sums} {walk : Weigh} → Weighing s answer count place left sums
+      → walk ≡ weigh_of (weighed (take size lengths) (take size weights) (length (take size lengths)) left 0 sums)
+      → place + walk.at ≤ length s → Weighing s answer count (place + walk.at) walk.left walk.sums
+  weighing_block place size {lengths} {weights} long heavy most inside {left} {sums} {walk} v e h =
+      let all : length (take size lengths) ≡ size = length-take-le size lengths (omega (arith, long.long)) in
+      rw e (walked_over (added (take size weights)) (take size lengths) (length (take size lengths))
+      (λ (at left : ℕ) (sums : Sums). Weighing s answer count (place + at) left sums)
       (length s - place)
       (λ at left sums below far w.
-      let l = long.right at below in
-      let g = heavy.right at below in
-      move (weighing_more w (omega arith) (omega arith)) (omega arith) (omega arith) (omega arith) (omega arith)) left 0 (record { extra = extra; odd = odd })
+      let l = get_or-take size lengths at 0 (omega arith) ∙ long.right at (omega arith) in
+      let g = get_or-take size weights at 0 (omega arith) ∙ heavy.right at (omega arith) in
+      move (weighing_more w (omega arith) (omega arith)) (omega arith) (omega arith) (omega arith) (omega arith)) left 0 sums
       (move v (omega arith) refl refl refl)
       (omega (arith, ap Weigh.at e)))
 
   -- Cells in their shortest form, of bytes none of which is 0: each has the weight 1
   module _ (none : some_of (length s) s ≡ length s) where
-    weighing_one : {used left : ℕ} → Weighing s answer count used left (count - left) 0 → 0 < left → used + 6 ≤ length s
-        → long_lead (get_or s used 0) (get_or s (used + 1) 0) ≡ false → Weighing s answer count (used + length_by (get_or s used 0)) (left - 1) (count - (left - 1)) 0
+    weighing_one : {used left : ℕ} → Weighing s answer count used left (ones_of (count - left)) → 0 < left → used + 6 ≤ length s
+        → long_lead (get_or s used 0) (get_or s (used + 1) 0) ≡ false → Weighing s answer count (used + length_by (get_or s used 0)) (left - 1) (ones_of (count - (left - 1)))
     weighing_one {used} {left} v some wide e =
         let d = drop used s in
         let few = v.fewer in
@@ -140,19 +149,19 @@ module _ {s : List ℕ} {answer : StoredStep} {count : ℕ} (bytes : (i : ℕ) �
         move (weighing_more v some (omega (arith, length_six (get_or s used 0)))) refl refl (omega (arith, one)) (omega (arith, one))
 
     -- A turn: empty cells, or one, and a last one
-    pub weighing_turn : {used left : ℕ} {r : Ahead} → Weighing s answer count used left (count - left) 0 → 9 ≤ left → used + 21 ≤ length s → AheadOf s used r
+    pub weighing_turn : {used left : ℕ} {r : Ahead} → Weighing s answer count used left (ones_of (count - left)) → 9 ≤ left → used + 21 ≤ length s → AheadOf s used r
         → long_lead (get_or s used 0) (get_or s (used + 1) 0) ≡ false → long_lead (get_or s r.last 0) (get_or s (r.last + 1) 0) ≡ false
-        → Weighing s answer count r.next (left - (r.cells + 1)) (count - (left - (r.cells + 1))) 0
+        → Weighing s answer count r.next (left - (r.cells + 1)) (ones_of (count - (left - (r.cells + 1))))
     weighing_turn {used} {left} {r} v many wide a first last =
         let near = a.near in
         let few = a.few in
         move (weighing_one (front (eqb (get_or s used 0) 128) refl) (omega arith) (omega arith) last) a.next (omega arith) (omega arith) refl
       where
-        front : (t : Bool) → eqb (get_or s used 0) 128 ≡ t → Weighing s answer count r.last (left - r.cells) (count - (left - r.cells)) 0
+        front : (t : Bool) → eqb (get_or s used 0) 128 ≡ t → Weighing s answer count r.last (left - r.cells) (ones_of (count - (left - r.cells)))
         front true p =
             let e = a.empties (eqb-true (get_or s used 0) 128 p) in
             let few = a.few in
-            move (run_over (λ i. Weighing s answer count (used + i) (left - i) (count - (left - i)) 0) s used r.cells e.0.all
+            move (run_over (λ i. Weighing s answer count (used + i) (left - i) (ones_of (count - (left - i)))) s used r.cells e.0.all
             (move v (omega arith) (omega arith) (omega arith) refl)
             (λ i h empty w.
             move (weighing_one w (omega arith) (omega arith) (empty_lead (get_or s (used + i) 0) (get_or s (used + i + 1) 0) empty))
@@ -162,28 +171,13 @@ module _ {s : List ℕ} {answer : StoredStep} {count : ℕ} (bytes : (i : ℕ) �
             move (weighing_one v (omega arith) (omega arith) first) e.1 (omega (arith, e.0)) (omega (arith, e.0)) refl
 
 -- A block with some bytes has one cell or more
-pub weighed_less : (lengths weights : List ℕ) (size left extra odd : ℕ) {walk : Weigh} → 0 < size → 0 < left
-    → walk ≡ weigh_of (weighed lengths weights size left 0 extra odd) → walk.left < left
-weighed_less lengths weights size left extra odd h k e = rw e (walked_some (added weights) lengths size left (record { extra = extra; odd = odd }) h k)
+pub weighed_less : (lengths weights : List ℕ) (left : ℕ) (sums : Sums) {walk : Weigh} → 0 < length lengths → 0 < left
+    → walk ≡ weigh_of (weighed lengths weights (length lengths) left 0 sums) → walk.left < left
+weighed_less lengths weights left sums h k e = rw e (walked_some (added weights) lengths (length lengths) left sums h k)
 
--- What was skipped, as a weighing, and the other way round
-pub skip_start : (s : List ℕ) (count : ℕ) (r : Skip) → Skipped s count r
-    → Weighing s (measured_on 0 0 true s (read_run count 0 s)) count r.used r.left (count - r.left) 0
-skip_start s count r k =
-    let i = k.inside in
-    let f = k.fewer in
-    record {
-      shortest = r.used;
-      same = true;
-      measuring = record { inside = i; small = omega arith; rest = k.rest };
-      fewer = f;
-      sum = omega (arith, k.some);
-      even = sym (eq-eqb r.used r.used refl);
-      small = (omega arith, omega arith);
-    }
-
+-- What was skipped, by a weighing, or nothing
 pub skip_end : (s : List ℕ) (count used left : ℕ) → some_of (length s) s ≡ length s
-    → Weighing s (measured_on 0 0 true s (read_run count 0 s)) count used left (count - left) 0
+    → Weighing s (measured_on no_cells s (read_run count 0 s)) count used left (ones_of (count - left))
     → Skipped s count (record { used = used; left = left })
 skip_end s count used left none v =
     let i = v.measuring.inside in
@@ -197,7 +191,7 @@ skip_end s count used left none v =
       inside = i;
       fewer = f;
       some = all;
-      rest = v.measuring.rest ∙ ap₂ (λ (n : ℕ) (b : Bool). measured_on used n b (drop used s) (read_run left used (drop used s))) short same;
+      rest = v.measuring.rest ∙ ap₂ (λ (n : ℕ) (b : Bool). measured_on (sized used n b) (drop used s) (read_run left used (drop used s))) short same;
     }
 
 pub skip_none : (s : List ℕ) (count : ℕ) → Skipped s count (record { used = 0; left = count })

@@ -1,20 +1,24 @@
 -- Laws of bytes that aren't 0, and of a cell's weight: how long its shortest form is, and whether it stands in it. Assumes nothing.
-use Prim.Native.Nat.{ℕ, zero, suc, ◌+◌, ◌/◌, ◌%◌, ◌≤◌, ◌<◌}
-use mathlib.Core.Bool.{Bool, true, false, cond, ◌&&◌, and-false}
+use Prim.Native.Nat.{ℕ, zero, suc, ◌+◌, ◌-◌, ◌*◌, ◌/◌, ◌%◌, ◌≤◌, ◌<◌}
+use mir.Val.{bool_byte}
+use mathlib.Core.Bool.{Bool, true, false, not, cond, ◌&&◌, and-false}
 use mathlib.Core.List.{List, [], ◌∷◌, ◌++◌}
 use mathlib.Core.Path.{◌≡◌, refl, sym, ap, ◌∙◌}
+use native.Mathlib.Nat.{suc-mul, add_comm}
 use native.Mathlib.Omega.{arith}
 use borrow.Author.Tests.{lt-ltb, ltb-true, ltb-false, eq-eqb, ne_eqb, eqb-true, eqb-false}
 use lib.Count.{ones_in}
 use lib.Dec.{ltb, eqb}
-use lib.ListN.{length, get_or, drop, length-append}
-use lib.Seq.{drop-drop, get_or-drop}
+use lib.ListN.{length, get_or, take, drop, length-append, length-drop}
+use lib.Seq.{drop-drop, get_or-drop, length-take-le}
 use Rattle.xm.specs.Cell.{fields_by, needed, cell_at, bit, kept, kepts, write_cell}
 use Rattle.xm.specs.Short.{shortest_by, is_short}
 use Rattle.xm.proofs.Cell.{bit_most, bit_none, bit_some, kept-length, kepts_most, kepts_sum, ones-five, length_plain, length_marked, cell_plain, cell_marked}
 use Rattle.xm.proofs.Cell.{cell_length, many_plain, few_marked, marked_high}
 use Rattle.xm.proofs.Lay.{head_at_lem}
 use Rattle.xm.proofs.Short.{shortest_by_lem}
+use Rattle.std.specs.Simd.{first_chunks}
+use Rattle.cell.proofs.ReadLaws.{one_if}
 use Rattle.cell.proofs.Bits.{ones_all, all_ones}
 use Rattle.ahead.proofs.Lengths.{length_six}
 use Rattle.measure.specs.Weight.{some_of, plain_weight, marked_weight, weight_of, long_lead}
@@ -28,6 +32,10 @@ some_add (suc a) b s =
     let one : 1 + a ≡ suc a = omega arith in
     rw more (rw (some_add a b (drop 1 s), drop-drop, one) (omega arith))
 
+pub some_none : (s : List ℕ) → some_of 0 s ≡ 0
+unfolding some_of
+some_none s = refl
+
 pub some_most : (n : ℕ) (s : List ℕ) → some_of n s ≤ n
 unfolding some_of
 some_most zero s = omega arith
@@ -37,8 +45,39 @@ pub some_after : (i : ℕ) (s : List ℕ) → some_of (i + 1) s ≡ some_of i s 
 unfolding some_of
 some_after i s = some_add i 1 s ∙ rw (head_at_lem i s 0) (omega arith)
 
-pub some_next : (i place : ℕ) (s : List ℕ) → some_of (i + 1) (drop place s) ≡ some_of i (drop place s) + bit (get_or s (place + i) 0)
-some_next i place s = some_after i (drop place s) ∙ rw (get_or-drop place s i 0)
+-- of the bytes in front
+some_take : (n m : ℕ) (s : List ℕ) → n ≤ m → some_of n (take m s) ≡ some_of n s
+unfolding some_of
+some_take zero m s h = refl
+some_take (suc n) zero s h = absurd (omega arith)
+some_take (suc n) (suc m) [] h = refl
+some_take (suc n) (suc m) (x ∷ s) h = ap (λ (k : ℕ). bit x + k) (some_take n m s (omega arith))
+
+pub some_front : (n : ℕ) (s : List ℕ) → n ≤ length s → some_of (length (take n s)) (take n s) ≡ some_of n s
+some_front n s h = ap (λ (k : ℕ). some_of k (take n s)) (length-take-le n s h) ∙ some_take n n s (omega arith)
+
+-- One byte more, and a block of those that they come in
+pub some_one : (i : ℕ) (s : List ℕ) {one : ℕ} → one ≡ bool_byte (not (eqb (get_or s i 0) 0)) → some_of (i + 1) s ≡ some_of i s + one
+some_one i s e = some_after i s ∙ ap (λ (n : ℕ). some_of i s + n) (sym (one_if (get_or s i 0) e))
+
+chunk_at : (n k i : ℕ) (s : List ℕ) → i < k → get_or (first_chunks n k s) i [] ≡ take n (drop (i * n) s)
+chunk_at n zero i s h = absurd (omega arith)
+chunk_at n (suc k) zero s h = let z : zero * n ≡ 0 = omega arith in rw z refl
+chunk_at n (suc k) (suc i) s h =
+    chunk_at n k i (drop n s) (omega arith) ∙ ap (take n) (drop-drop (i * n) n s ∙ ap (λ (m : ℕ). drop m s) (sym (suc-mul i n ∙ add_comm (i * n) n)))
+
+pub some_block : (k i : ℕ) (s : List ℕ) {blocks : List (List ℕ)} → blocks ≡ first_chunks 64 k s → i < k
+    → some_of ((i + 1) * 64) s ≡ some_of (i * 64) s + some_of 64 (get_or blocks i [])
+some_block k i s e h =
+    let more : (i + 1) * 64 ≡ i * 64 + 64 = omega arith in
+    rw (e, more, chunk_at 64 k i s h) (some_add (i * 64) 64 s ∙ ap (λ (n : ℕ). some_of (i * 64) s + n) (sym (some_take 64 64 (drop (i * 64) s) (omega arith))))
+
+pub some_rest : (s : List ℕ) {rest : List ℕ} → rest ≡ drop (length s / 64 * 64) s
+    → some_of (length s) s ≡ some_of (length s / 64 * 64) s + some_of (length rest) rest
+some_rest s e =
+    let all : length s / 64 * 64 + (length s - length s / 64 * 64) ≡ length s = omega arith in
+    sym (ap (λ (n : ℕ). some_of n s) all) ∙ some_add (length s / 64 * 64) (length s - length s / 64 * 64) s
+    ∙ rw e (ap (λ (n : ℕ). some_of (length s / 64 * 64) s + some_of n (drop (length s / 64 * 64) s)) (sym (length-drop (length s / 64 * 64) s)))
 
 some_five : (s : List ℕ) → some_of 5 s ≡ bit (get_or s 0 0) + (bit (get_or s 1 0) + (bit (get_or s 2 0) + (bit (get_or s 3 0) + bit (get_or s 4 0))))
 unfolding some_of
@@ -236,10 +275,6 @@ weight_by s place ea eb ec ed ee ep em ew =
       get_or-drop place s 4 0,
       get_or-drop place s 5 0,
     )
-
-pub cond_most : (t : Bool) {a b n : ℕ} → a ≤ n → b ≤ n → cond t a b ≤ n
-cond_most true h k = h
-cond_most false h k = k
 
 -- Where all are some, none is 0
 pub some_all : (n : ℕ) (s : List ℕ) → some_of n s ≡ n → (i : ℕ) → i < n → get_or s i 0 ≡ 0 → ⊥

@@ -3,9 +3,10 @@ use Rattle.std.specs.Prelude.{ℕ, zero, suc, ◌+◌, ◌*◌, ◌/◌, ◌%◌
 use Rattle.xm.specs.Cell.{cell_size, marked_from, bit}
 use Rattle.xm.specs.Stored.{rows_most, channels_most, read_run}
 use Rattle.ahead.specs.Ahead.{Walked, walked}
+use Rattle.measure.specs.declared.Sums.{Sums}
 use Rattle.measure.specs.declared.Weigh.{Weigh}
 use Rattle.measure.specs.declared.Skip.{Skip}
-use Rattle.measure.specs.Measure.{measured_on}
+use Rattle.measure.specs.Measure.{no_cells, measured_on}
 
 -- The cells of the largest pattern.
 abbrev pub cells_most : ℕ
@@ -36,18 +37,14 @@ abbrev pub weights_from : List ℕ → (place : ℕ) → ℕ → ℕ
 weights_from s place i = weight_of (drop (place + i) s)
 
 -- What the weights of cells come to, from one cell to the next in a block.
-pub record Sums : Type 0 where
-  pub extra : ℕ
-  pub odd : ℕ
-
 abbrev pub added : (weights : List ℕ) (at : ℕ) → Sums → Sums
 added weights at sums = record { extra = sums.extra + get_or weights at 0 % 16; odd = sums.odd + get_or weights at 0 / 16 }
 
-abbrev pub weighed : (lengths weights : List ℕ) (size left at extra odd : ℕ) → Walked Sums
-weighed lengths weights size left at extra odd = walked (added weights) lengths size left at (record { extra = extra; odd = odd })
+abbrev pub weighed : (lengths weights : List ℕ) (size left at : ℕ) → Sums → Walked Sums
+weighed lengths weights size left at before = walked (added weights) lengths size left at before
 
 abbrev pub weigh_of : Walked Sums → Weigh
-weigh_of w = record { at = w.at; left = w.left; extra = w.state.extra; odd = w.state.odd }
+weigh_of w = record { at = w.at; left = w.left; sums = w.state }
 
 -- A lead byte that is not in the shortest form of a cell none of whose fields is 0: of all five fields it stands in front of a note that can
 -- stand plain.
@@ -59,5 +56,5 @@ pub record Skipped (s : List ℕ) (count : ℕ) (r : Skip) : Type 0 where
   pub inside : r.used ≤ length s
   pub fewer : r.left ≤ count
   pub some : some_of r.used s ≡ r.used
-  pub rest : measured_on 0 0 true s (read_run count 0 s)
-      ≡ measured_on r.used r.used true (drop r.used s) (read_run r.left r.used (drop r.used s))
+  pub rest : measured_on no_cells s (read_run count 0 s)
+      ≡ measured_on (record { used = r.used; shortest = r.used; same = true }) (drop r.used s) (read_run r.left r.used (drop r.used s))

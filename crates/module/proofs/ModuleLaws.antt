@@ -8,7 +8,7 @@ use native.Mathlib.Omega.{arith}
 use lib.ListN.{length, take, drop, replicate, length-append, length-drop}
 use lib.Seq.{drop-drop, length-take-le}
 use Rattle.xm.specs.Number.{word_at, part}
-use Rattle.xm.specs.ModuleKind.{ModuleKind, kind_by}
+use Rattle.xm.specs.ModuleKind.{ModuleKind, normal, stripped, kind_by}
 use Rattle.xm.specs.Got.{got, AllHold, list_in, Told}
 use Rattle.xm.specs.Format.{each}
 use Rattle.xm.specs.Header.{Header, HeaderFound, size_from, orders_most, least_header, header_end, song_length_at, channels_at, patterns_at, instruments_at, is_stripped}
@@ -29,8 +29,20 @@ use Rattle.writers.specs.Header.{tracker_by, header_with}
 use Rattle.writers.proofs.HeaderLaws.{table_size_lem, tracker_size, header_size}
 use Rattle.module.specs.Module.{patterns_reached, instruments_read, instruments_as, header_kept, content_kept, written_file}
 
-three_long : (a b c : List ℕ) → length (a ++ (b ++ c)) ≡ length a + (length b + length c)
-three_long a b c = simp length-append
+-- The file's own kind
+pub normal_own : (file : List ℕ) → normal ≡ kind_at file → is_stripped file ≡ false
+normal_own file e = go (is_stripped file) (e ∙ kind_stripped file)
+  where
+    go : (is : Bool) → normal ≡ kind_by is → is ≡ false
+    go true e = absurd (cc)
+    go false e = refl
+
+pub stripped_own : (file : List ℕ) → stripped ≡ kind_at file → is_stripped file ≡ true
+stripped_own file e = go (is_stripped file) (e ∙ kind_stripped file)
+  where
+    go : (is : Bool) → stripped ≡ kind_by is → is ≡ true
+    go true e = refl
+    go false e = absurd (cc)
 
 module _ (file marks : List ℕ) where
   abbrev kind : ModuleKind
@@ -215,6 +227,6 @@ module _ (file marks : List ℕ) where
             told_first = got_told (λ is. Marks file 0 is marks) first_read w.marked;
             told_last = got_told (λ is. Unit {0}) last_read tt;
             header_long = long-header;
-            long = ap length is_written ∙ three_long header rows (instruments_as to file last head.instruments) ∙ omega (arith, long-header);
+            long = ap length is_written ∙ rw (length-append, length-append) (omega (arith, long-header));
             written = is_written;
           }

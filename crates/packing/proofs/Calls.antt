@@ -1,4 +1,4 @@
--- What holds of every answer and memory that meet `pack`'s contract, by the numbers of its enum. Assumes nothing.
+-- What holds of every answer and memory that meet `pack`'s contract, by its numbers. Assumes nothing.
 use Prim.Native.Nat.{ℕ, ◌≤◌, ◌<◌}
 use mathlib.Core.List.{List, [], ◌∷◌}
 use mathlib.Core.Logic.{◌↔◌}
@@ -14,17 +14,20 @@ use Rattle.xm.specs.Packing.{packing, pack_numbers, stored_length, rows_read, pa
 use Rattle.xm.specs.Demands.{Accepts, StoredFormOf, WellFormed, UnpacksToCells}
 use Rattle.xm.proofs.Answer.{refused-exactly, refused_unchanged}
 use Rattle.xm.proofs.Demands.{demand₂, demand₃}
-use Rattle.packing.specs.declared.Packed.{Packed}
-use Rattle.packing.specs.Packed.{packed_of, packed_numbers}
+use Rattle.std.specs.Prelude.{Result}
+use Rattle.refusal.specs.Refusal.{outcome}
+use Rattle.refusal.specs.declared.Refusal.{Refusal}
+use Rattle.packing.specs.declared.Form.{Form}
+use Rattle.packing.specs.Packed.{form_of, packed_numbers}
 use Rattle.packing.specs.Promise.{PackWritten}
 use Rattle.packing.proofs.Exits.{Packs}
 
 -- The numbers are the paper's
-packed_numbers_lem : (answer : Answer Pattern) → packed_numbers (packed_of answer) ≡ numbers (stored_length ∷ rows_read ∷ []) answer
+packed_numbers_lem : (answer : Answer Pattern) → packed_numbers (outcome form_of answer) ≡ numbers (stored_length ∷ rows_read ∷ []) answer
 packed_numbers_lem (gives p) = refl
 packed_numbers_lem (refuses r) = refl
 
-module _ (rows channels : ℕ) (cells lent : List ℕ) {answer : Packed} {out : List ℕ} (met : Packs rows channels cells lent answer out) where
+module _ (rows channels : ℕ) (cells lent : List ℕ) {answer : Result Form Refusal} {out : List ℕ} (met : Packs rows channels cells lent answer out) where
   abbrev asked : Answer Pattern
   asked = packing rows channels cells (length lent)
 

@@ -8,6 +8,7 @@ use native.Mathlib.Omega.{arith}
 use borrow.Author.Tests.{ne_eqb}
 use lib.Dec.{eqb}
 use lib.ListN.{length}
+use Rattle.std.specs.Prelude.{Result, Ok}
 use Rattle.xm.specs.Got.{Refusal, ◌at◌}
 use Rattle.xm.specs.Format.{joined}
 use Rattle.xm.specs.Answer.{refuses, in_front}
@@ -19,12 +20,13 @@ use Rattle.xm.specs.Packing.{pattern_of, packing, pack_after}
 use Rattle.xm.proofs.Stored.{cells_length, cells_fives}
 use Rattle.xm.proofs.Run.{stored_nothing, stored_cells, size_by_lem}
 use Rattle.xm.proofs.Packing.{PackRange, pack_argument, pack_size, pack_room, pack_gives}
-use Rattle.packing.specs.declared.Packed.{Packed}
-use Rattle.packing.specs.declared.Packed.TheVariants.{Stored}
-use Rattle.packing.specs.Packed.{packed_of}
+use Rattle.refusal.specs.Refusal.{outcome}
+use Rattle.refusal.specs.declared.Refusal as code
+use Rattle.packing.specs.declared.Form.{Form}
+use Rattle.packing.specs.Packed.{form_of}
 
 pub form_path : {size size' rows rows' : ℕ} → size ≡ size' → rows ≡ rows'
-    → Stored (record { length = size; rows = rows }) ≡ Stored (record { length = size'; rows = rows' })
+    → ◌≡◌ {A = Result Form code.Refusal} (Ok (record { length = size; rows = rows })) (Ok (record { length = size'; rows = rows' }))
 form_path p q = cc
 
 -- The tests for 16 and for 15 hold, and the length is known
@@ -66,39 +68,39 @@ large rows channels cells range h =
 
 module _ (rows channels : ℕ) (cells lent : List ℕ) where
   -- What `pack` says of its answer and of the lent output afterwards
-  abbrev pub Packs : (answer : Packed) (out : List ℕ) → Type 0
-  Packs answer out = (answer ≡ packed_of (packing rows channels cells (length lent))) × (out ≡ pack_after rows channels cells lent)
+  abbrev pub Packs : (answer : Result Form code.Refusal) (out : List ℕ) → Type 0
+  Packs answer out = (answer ≡ outcome form_of (packing rows channels cells (length lent))) × (out ≡ pack_after rows channels cells lent)
 
-  packs_refused : {r : Refusal} {answer : Packed} → packing rows channels cells (length lent) ≡ refuses r → answer ≡ packed_of (refuses r) → Packs answer lent
+  packs_refused : {r : Refusal} {answer : Result Form code.Refusal} → packing rows channels cells (length lent) ≡ refuses r → answer ≡ outcome form_of (refuses r) → Packs answer lent
   packs_refused e a = rw e (a, refl)
 
-  pub packs_argument : {answer : Packed} → answer ≡ packed_of (refuses (16 at 0)) → (PackRange rows channels cells → ⊥) → Packs answer lent
+  pub packs_argument : {answer : Result Form code.Refusal} → answer ≡ outcome form_of (refuses (16 at 0)) → (PackRange rows channels cells → ⊥) → Packs answer lent
   packs_argument a h = packs_refused (pack_argument rows channels cells (length lent) h) a
 
-  pub packs_large : {answer : Packed} → PackRange rows channels cells → answer ≡ packed_of (refuses (15 at 0))
+  pub packs_large : {answer : Result Form code.Refusal} → PackRange rows channels cells → answer ≡ outcome form_of (refuses (15 at 0))
       → data_most < length (joined write_cell (cells_of (rows * channels) cells)) → Packs answer lent
   packs_large range a h = packs_refused (pack_size rows channels cells (length lent) range (large rows channels cells range h)) a
 
   module _ {size : ℕ} (s : CellsSized rows channels cells size) where
-    pub packs_narrow : {answer : Packed} → answer ≡ packed_of (refuses (14 at 0)) → length lent < size → Packs answer lent
+    pub packs_narrow : {answer : Result Form code.Refusal} → answer ≡ outcome form_of (refuses (14 at 0)) → length lent < size → Packs answer lent
     packs_narrow a h = packs_refused (pack_room rows channels cells (length lent) s.range (omega (arith, s.small, s.long)) (omega (arith, s.long))) a
 
-    packs_stored : size ≤ length lent → {answer : Packed} (out : List ℕ) → answer ≡ Stored (record { length = size; rows = rows })
+    packs_stored : size ≤ length lent → {answer : Result Form code.Refusal} (out : List ℕ) → answer ≡ Ok (record { length = size; rows = rows })
         → out ≡ in_front (write_stored (pattern_of rows channels cells)) lent
         → Packs answer out
     packs_stored h out a o =
         rw (pack_gives rows channels cells (length lent) s.range (omega (arith, s.small, s.long)) (omega (arith, s.long)))
-        (a ∙ ap (λ (n : ℕ). Stored (record { length = n; rows = rows })) s.long, o)
+        (a ∙ ap (λ (n : ℕ). Ok (record { length = n; rows = rows })) s.long, o)
 
-    pub packs-nothing : {answer : Packed} → answer ≡ Stored (record { length = size; rows = rows }) → size ≡ 0 → Packs answer lent
+    pub packs-nothing : {answer : Result Form code.Refusal} → answer ≡ Ok (record { length = size; rows = rows }) → size ≡ 0 → Packs answer lent
     packs-nothing a z =
         packs_stored (omega arith) lent a (sym (ap (λ (w : List ℕ). in_front w lent) (stored_nothing (pattern_of rows channels cells) (omega (arith, s.long)))))
 
-    pub packs_cells : {answer : Packed} → answer ≡ Stored (record { length = size; rows = rows }) → 0 < size → size ≤ length lent → (out : List ℕ)
+    pub packs_cells : {answer : Result Form code.Refusal} → answer ≡ Ok (record { length = size; rows = rows }) → 0 < size → size ≤ length lent → (out : List ℕ)
         → out ≡ in_front (joined write_cell (cells_of (rows * channels) cells)) lent → Packs answer out
     packs_cells a h room out o =
         packs_stored room out a (o ∙ sym (ap (λ (w : List ℕ). in_front w lent) (stored_cells (pattern_of rows channels cells) (omega (arith, s.long)))))
 
   -- Whatever meets the contract is the same
-  pub pack_once : {a b : Packed} {x y : List ℕ} → Packs a x → Packs b y → (a ≡ b) × (x ≡ y)
+  pub pack_once : {a b : Result Form code.Refusal} {x y : List ℕ} → Packs a x → Packs b y → (a ≡ b) × (x ≡ y)
   pack_once g h = (g.0 ∙ sym h.0, g.1 ∙ sym h.1)

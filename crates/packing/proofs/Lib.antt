@@ -1,4 +1,3 @@
 pub mod Lent
-pub mod Measure
 pub mod Exits
 pub mod Calls

@@ -6,6 +6,9 @@ use mathlib.Core.Path.{◌≡◌, refl, sym, ap, ◌∙◌, subst}
 use native.Mathlib.Omega.{arith}
 use lib.IntN.{ℤ, nat_abs}
 use lib.Pow.{pow_mono}
+use Rattle.std.specs.Prelude.{Result}
+use Rattle.refusal.specs.Refusal.{outcome}
+use Rattle.refusal.specs.declared.Refusal as code
 use Rattle.xm.specs.Got.{Refusal, ◌at◌, got, ◌>>◌, checked, ensure}
 use Rattle.xm.specs.Answer.{Answer, gives, refuses, numbers}
 use Rattle.xm.specs.Demands.{LoaderTells}
@@ -13,21 +16,21 @@ use Rattle.xm.proofs.Got.{refused_tests, got_never}
 use Rattle.xm.proofs.Answer.{gives_passed, gives_same, refuses-refused, loader_tells}
 use Rattle.periods.specs.Period.{period_tab, doubled, sum_at, entry_e, remaining, position, Period, period_at, tuning_tests, tuning, period_numbers}
 use Rattle.periods.specs.Period.{both_numbers, period_loader}
-use Rattle.periods.specs.Tuned.{tuned_of, tuned_numbers}
+use Rattle.periods.specs.Tuned.{quotient_of, tuned_numbers}
 use Rattle.periods.specs.Promise.{WorkedPeriods, PeriodTells}
-use Rattle.periods.specs.declared.Tuned.{Tuned}
+use Rattle.periods.specs.declared.Quotient.{Quotient}
 use Rattle.periods.proofs.Entries.{entry_most}
 use Rattle.periods.proofs.Round.{minus_one, remaining_below}
 use Rattle.periods.proofs.Tuning.{position_most}
 
 module _ (note : ℕ) (finetune : ℤ) where
-  pub period_once : {answer other : Tuned} → answer ≡ tuned_of (tuning note finetune) → other ≡ tuned_of (tuning note finetune) → answer ≡ other
+  pub period_once : {answer other : Result Quotient code.Refusal} → answer ≡ outcome quotient_of (tuning note finetune) → other ≡ outcome quotient_of (tuning note finetune) → answer ≡ other
   period_once met e = met ∙ sym e
 
-  pub period_numbers_lem : {answer : Tuned} → answer ≡ tuned_of (tuning note finetune) → tuned_numbers answer ≡ period_numbers note finetune
+  pub period_numbers_lem : {answer : Result Quotient code.Refusal} → answer ≡ outcome quotient_of (tuning note finetune) → tuned_numbers answer ≡ period_numbers note finetune
   period_numbers_lem met = ap tuned_numbers met ∙ cases (tuning note finetune)
     where
-      cases : (answer : Answer Period) → tuned_numbers (tuned_of answer) ≡ numbers (Period.dividend ∷ Period.divisor ∷ []) answer
+      cases : (answer : Answer Period) → tuned_numbers (outcome quotient_of answer) ≡ numbers (Period.dividend ∷ Period.divisor ∷ []) answer
       cases (gives period) = refl
       cases (refuses refusal) = refl
 

@@ -2,5 +2,4 @@ pub mod Tabulate
 pub mod Entries
 pub mod Round
 pub mod Tuning
-pub mod Exits
 pub mod Calls

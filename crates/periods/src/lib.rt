@@ -1,63 +1,45 @@
-// The period of a note and its finetune, by document 001's table: two whole numbers.
+// The period of a note and its finetune, by the table of the format's description: two whole numbers.
 #![tactic(auto)]
 
 mod table;
 
 ghost use Rattle.std.specs.Prelude.{◌≡◌, ◌≤◌, ◌<◌};
-ghost use Rattle.xm.specs.Got.{◌at◌};
-ghost use Rattle.refusal.specs.Refusal.{code_refusal};
+ghost use Rattle.xm.specs.Delta.{fits};
+ghost use Rattle.refusal.specs.Refusal.{outcome};
 ghost use Rattle.periods.specs.Period.{note_most, rounded_down, remaining, position, period_at, tuning};
-ghost use Rattle.periods.specs.Tuned.{quotient_of, tuned_of};
+ghost use Rattle.periods.specs.Tuned.{quotient_of};
 
-use refusal::Refusal;
+use refusal::{Cause, Refusal};
 
 // The period is `dividend / divisor`: E, and 2^(octave + 1).
-#[derive(Clone, Copy)]
+#[derive(Clone, Copy, Debug, PartialEq, Eq)]
 pub struct Quotient {
     pub dividend: u32,
     pub divisor: u32,
 }
 
-#[derive(Clone, Copy)]
-pub enum Tuned {
-    Period(Quotient),
-    Refused(Refusal),
-}
-
 const NOTE_MOST: u64 = 118;
 
-// The refusal of a note or finetune outside its range.
-fn out_of_range() -> Refusal
-    ensures { result ≡ code_refusal (16 at 0) }
+// Whether a finetune is a signed byte.
+fn finetune_fits(finetune: i64) -> bool
+    ensures { result ≡ fits 8 finetune }
 {
-    Refusal {
-        number: 16,
-        place: 0,
-    }
+    i8::try_from(finetune).is_ok()
 }
 
-// A division rounds towards 0: where something below 0 is left over, it rounded up.
+// It rounds down, where `/` rounds towards 0.
 fn rounded_down(finetune: i64) -> i64
     ensures { result ≡ rounded_down finetune 16 }
 {
-    let towards_zero = finetune / 16;
-    if finetune % 16 < 0 {
-        towards_zero - 1
-    } else {
-        towards_zero
-    }
+    finetune.div_euclid(16)
 }
 
 // f: what remains of a finetune divided by 16.
 fn what_remains(finetune: i64) -> usize
-    ensures { result ≡ remaining finetune 16 }
+    ensures value { result ≡ remaining finetune 16 }
+    ensures small { result < 16 }
 {
-    let left_over = finetune % 16;
-    if left_over < 0 {
-        (left_over + 16) as usize
-    } else {
-        left_over as usize
-    }
+    finetune.rem_euclid(16) as usize
 }
 
 // q, which counts eighths of a halftone.
@@ -70,33 +52,27 @@ fn position(note: u64, finetune: i64) -> i64
 
 // The period of a note and finetune that are in range, by q and f.
 fn period_at(q: usize, f: usize) -> Quotient
-    requires { (q < 960) × (f < 16) }
+    requires q_small { q < 960 }
+    requires f_small { f < 16 }
     ensures { result ≡ quotient_of (period_at q f) }
 {
     let octave = q / 96;
-    let dividend = table::entry(16 * (q % 96) + f);
     Quotient {
-        dividend: dividend as u32,
+        dividend: u32::from(table::entry(16 * (q % 96) + f)),
         divisor: 1 << (octave + 1),
     }
 }
 
 // The period of a real note and its finetune.
-pub fn period(note: u64, finetune: i64) -> Tuned
-    ensures { result ≡ tuned_of (tuning note finetune) }
+pub fn period(note: u64, finetune: i64) -> Result<Quotient, Refusal>
+    ensures { result ≡ outcome quotient_of (tuning note finetune) }
 {
-    if note > NOTE_MOST {
-        return Tuned::Refused(out_of_range());
-    }
-    if finetune < -128 {
-        return Tuned::Refused(out_of_range());
-    }
-    if finetune > 127 {
-        return Tuned::Refused(out_of_range());
+    if note > NOTE_MOST || !finetune_fits(finetune) {
+        return Err(Cause::Argument.at(0));
     }
     let q = position(note, finetune);
     if q < 0 {
-        return Tuned::Refused(out_of_range());
+        return Err(Cause::Argument.at(0));
     }
-    Tuned::Period(period_at(q as usize, what_remains(finetune)))
+    Ok(period_at(q as usize, what_remains(finetune)))
 }

@@ -1,47 +1,32 @@
 // Calls on a file alone: the check, the structures in order, their counts, the listing's line, the press and the conversions.
-use crate::lent::least;
-use crate::write::{Answer, accepted, put, put_answer, put_lent, refused, say};
-use press::Pressed;
-use reader::count::Counted;
+use crate::lent::{front, memory};
+use crate::write::{put, put_answer, put_lent, say};
+use reader::count::count_structures;
+use refusal::Refusal;
 use std::io;
-use structures::{Standing, hand, start};
-use walk::Verdict;
+use structures::{Structure, StructureKind, hand, start};
+use walk::Module;
 
 // The check's numbers.
-pub fn put_verdict(rt: &impl Print, verdict: Verdict) -> io::Result<()> {
-    match verdict {
-        Verdict::Accepted(module) => {
-            put_answer(rt, accepted(module.end, module.channels))?;
-            put(rt, module.patterns)?;
-            put(rt, module.instruments)?;
-            put(rt, module.samples)
-        }
-        Verdict::Refused(refusal) => put_answer(rt, refused(refusal)),
-    }
+pub fn put_verdict(rt: &impl Print, verdict: Result<Module, Refusal>) -> io::Result<()> {
+    put_answer(rt, verdict)?;
+    let Ok(module) = verdict else {
+        return Ok(());
+    };
+    put(rt, module.patterns)?;
+    put(rt, module.instruments)?;
+    put(rt, module.samples)
 }
 
-// A structure's kind and place; true, for it is not the end.
-fn put_structure(rt: &impl Print, kind: &[u8], place: usize) -> io::Result<bool> {
+// A structure's kind and place.
+fn put_structure(rt: &impl Print, structure: Structure) -> io::Result<()> {
+    let kind: &[u8] = match structure.kind {
+        StructureKind::Pattern => b" pattern",
+        StructureKind::Instrument => b" instrument",
+        StructureKind::SampleHeader => b" sample",
+    };
     say(rt, kind)?;
-    put(rt, place)?;
-    Ok(true)
-}
-
-// Answers whether a structure was handed over.
-fn put_standing(rt: &impl Print, standing: Standing) -> io::Result<bool> {
-    match standing {
-        Standing::Pattern(place) => put_structure(rt, b" pattern", place),
-        Standing::Instrument(place) => put_structure(rt, b" instrument", place),
-        Standing::SampleHeader(place) => put_structure(rt, b" sample", place),
-        Standing::End => {
-            say(rt, b" end")?;
-            Ok(false)
-        }
-        Standing::Refused(refusal) => {
-            put_answer(rt, refused(refusal))?;
-            Ok(false)
-        }
-    }
+    put(rt, structure.place)
 }
 
 // More structures than any file of the script has.
@@ -50,28 +35,23 @@ const STRUCTURES_MOST: usize = 1000;
 // All structures in order, and the end.
 pub fn put_structures(rt: &impl Print, file: &[u8]) -> io::Result<()> {
     let mut reached = start(file);
-    let mut on = true;
-    let mut left = STRUCTURES_MOST;
-    while 0 < left && on {
+    for _ in 0..STRUCTURES_MOST {
         let handed = hand(file, reached);
-        let standing = handed.standing;
-        let further = handed.reached;
-        on = put_standing(rt, standing)?;
-        reached = further;
-        left -= 1;
+        match handed.standing {
+            Ok(Some(structure)) => put_structure(rt, structure)?,
+            Ok(None) => return say(rt, b" end"),
+            Err(refusal) => return put_answer::<usize>(rt, Err(refusal)),
+        }
+        reached = handed.reached;
     }
     Ok(())
 }
 
 // What the small reader counted.
-pub fn put_counted(rt: &impl Print, counted: Counted) -> io::Result<()> {
-    match counted {
-        Counted::Accepted(counts) => {
-            put_answer(rt, accepted(counts.patterns, counts.instruments))?;
-            put(rt, counts.samples)
-        }
-        Counted::Refused(refusal) => put_answer(rt, refused(refusal)),
-    }
+pub fn put_counted(rt: &impl Print, file: &[u8]) -> io::Result<()> {
+    let counted = count_structures(file);
+    put_answer(rt, counted)?;
+    counted.map_or(Ok(()), |counts| put(rt, counts.samples))
 }
 
 // The listing's line, with its own end.
@@ -82,40 +62,23 @@ pub fn put_line(rt: &impl Print, file: &[u8]) -> io::Result<()> {
     say(rt, &text[..length])
 }
 
-// The numbers of a press.
-fn of_pressed(pressed: Pressed) -> Answer {
-    match pressed {
-        Pressed::Length(length) => accepted(length, 0),
-        Pressed::Refused(refusal) => refused(refusal),
-    }
-}
-
 // Numbers: the room.
-pub fn put_press(rt: &impl Print, file: &[u8], wanted: usize, lent: &mut [u8]) -> io::Result<()> {
-    let room = least(wanted, lent.len());
-    let pressed = press::press(file, &mut lent[0..room]);
-    put_answer(rt, of_pressed(pressed))?;
-    put_lent(rt, lent, room)
+pub fn put_press(rt: &impl Print, file: &[u8], numbers: [usize; 5]) -> io::Result<()> {
+    let [room, ..] = numbers;
+    let mut lent = memory();
+    put_answer(rt, press::press(file, front(&mut lent, room)))?;
+    put_lent(rt, &lent, room)
 }
 
-// To a stripped module if `kind` is 1, and else to a normal one.
-fn converted(file: &[u8], kind: usize, out: &mut [u8]) -> Pressed {
-    if kind == 1 {
-        return press::to_stripped(file, out);
-    }
-    press::to_normal(file, out)
-}
-
-// Numbers: the kind, the room.
-pub fn put_converted(
-    rt: &impl Print,
-    file: &[u8],
-    kind: usize,
-    wanted: usize,
-    lent: &mut [u8],
-) -> io::Result<()> {
-    let room = least(wanted, lent.len());
-    let answer = converted(file, kind, &mut lent[0..room]);
-    put_answer(rt, of_pressed(answer))?;
-    put_lent(rt, lent, room)
+// Numbers: the kind, 1 for a stripped module and else a normal one; the room.
+pub fn put_converted(rt: &impl Print, file: &[u8], numbers: [usize; 5]) -> io::Result<()> {
+    let [kind, room, ..] = numbers;
+    let mut lent = memory();
+    let out = front(&mut lent, room);
+    let answer = match kind {
+        1 => press::to_stripped(file, out),
+        _ => press::to_normal(file, out),
+    };
+    put_answer(rt, answer)?;
+    put_lent(rt, &lent, room)
 }

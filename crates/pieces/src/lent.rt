@@ -1,24 +1,18 @@
 // Memory to lend. Every byte of it is 5A hex, in the tables too, and as a place that is in no file.
-ghost use Rattle.std.specs.Prelude.{◌≡◌, ◌≤◌, length};
 
 // Room for the cells of 256 rows of 64 channels, for a file, and for the script.
-pub fn memory() -> [u8; 81936]
-    ensures { 81936 ≡ length result }
-{
+pub fn memory() -> [u8; 81936] {
     [90; 81936]
 }
 
-// The lesser of two numbers.
-pub fn least(a: usize, b: usize) -> usize
-    ensures upper_bound { result ≤ a }
-    ensures upper_bound_2 { result ≤ b }
-{
-    if a < b { a } else { b }
+// A stretch of what is lent, or what of it is there.
+pub fn part<T>(items: &[T], place: usize, size: usize) -> &[T] {
+    let rest = &items[place.min(items.len())..];
+    &rest[..size.min(rest.len())]
 }
 
-// A stretch of bytes, or what of it is there.
-pub fn part<'a>(bytes: &'a [u8], place: usize, size: usize) -> &'a [u8] {
-    let from = least(place, bytes.len());
-    let to = from + least(size, bytes.len() - from);
-    &bytes[from..to]
+// So much of the memory from its front on, or all of it.
+pub fn front<T>(memory: &mut [T], size: usize) -> &mut [T] {
+    let room = size.min(memory.len());
+    &mut memory[..room]
 }

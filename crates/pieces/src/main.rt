@@ -11,58 +11,32 @@ mod sum;
 mod tabling;
 mod write;
 
-use lent::{memory, part};
-use reader::count::count_structures;
+use lent::memory;
 use reading::read_full;
-use script::{Numbers, numbers_of};
+use script::{Call, Words};
 use std::fs::File;
 use std::io;
 use std::rt::Files;
 use write::say;
 
-// The call of a line, by its first two letters: check, convert, structures, reader, line, press; tables, ask, deltas, values, unpack.
-fn run_call(
-    rt: &impl Print,
-    file: &[u8],
-    numbers: Numbers,
-    first: u8,
-    second: u8,
-) -> io::Result<()> {
-    if first == b'c' && second == b'o' {
-        let mut lent = memory();
-        return files::put_converted(rt, file, numbers.first, numbers.second, &mut lent);
+// The call of a line, on its file.
+fn run_call(rt: &impl Print, file: &[u8], words: Words) -> io::Result<()> {
+    match words.call {
+        Call::Check => files::put_verdict(rt, walk::check(file)),
+        Call::Convert => files::put_converted(rt, file, words.numbers),
+        Call::Structures => files::put_structures(rt, file),
+        Call::Reader => files::put_counted(rt, file),
+        Call::Line => files::put_line(rt, file),
+        Call::Press => files::put_press(rt, file, words.numbers),
+        call => tabling::run_tables(rt, file, words.numbers, call),
     }
-    if first == b'c' {
-        return files::put_verdict(rt, walk::check(file));
-    }
-    if first == b's' {
-        return files::put_structures(rt, file);
-    }
-    if first == b'r' {
-        return files::put_counted(rt, count_structures(file));
-    }
-    if first == b'l' {
-        return files::put_line(rt, file);
-    }
-    if second == b'r' {
-        let mut lent = memory();
-        return files::put_press(rt, file, numbers.first, &mut lent);
-    }
-    tabling::run_tables(rt, file, numbers, first)
 }
 
-// The call of a line, on the file that was opened.
-fn run_opened<R: Files + Print>(
-    rt: &R,
-    mut opened: R::File,
-    line: &[u8],
-    length: usize,
-) -> io::Result<()> {
+// The same, on the file that was opened.
+fn run_opened<R: Files + Print>(rt: &R, mut opened: R::File, words: Words) -> io::Result<()> {
     let mut bytes = memory();
     let size = read_full(&mut opened, &mut bytes);
-    let call = script::letter(line, length, 1);
-    let next = script::letter(line, length, 2);
-    run_call(rt, &bytes[..size], numbers_of(line), call, next)
+    run_call(rt, &bytes[..size], words)
 }
 
 // The file of a name, if it can be opened.
@@ -74,24 +48,20 @@ fn open_named<R: Files>(rt: &R, name: &[u8]) -> Option<R::File> {
 // A line: it is written again, and then the answer.
 fn run_line(rt: &(impl Files + Print), line: &[u8]) -> io::Result<()> {
     say(rt, line)?;
-    let length = script::name_length(line);
-    match open_named(rt, part(line, 0, length)) {
-        None => say(rt, b" is missing\n"),
-        Some(opened) => {
-            say(rt, b":")?;
-            run_opened(rt, opened, line, length)?;
-            say(rt, b"\n")
-        }
-    }
+    let words = Words::of(line);
+    let Some(opened) = open_named(rt, words.name) else {
+        return say(rt, b" is missing\n");
+    };
+    say(rt, b":")?;
+    run_opened(rt, opened, words)?;
+    say(rt, b"\n")
 }
 
-// Every line of the script.
+// Every line of the script; what stands behind the last line's end is none.
 fn run_script(rt: &(impl Files + Print), script: &[u8]) -> io::Result<()> {
-    let mut from: usize = 0;
-    for end in 0..script.len() {
-        if script[end] == b'\n' {
-            run_line(rt, part(script, from, end - from))?;
-            from = end + 1;
+    for line in script.split_inclusive(|byte| *byte == b'\n') {
+        if let Some(line) = line.strip_suffix(b"\n") {
+            run_line(rt, line)?;
         }
     }
     Ok(())

@@ -1,66 +1,70 @@
 // A line of the script: a file's name, a call's, and up to five numbers, with a space between.
-ghost use Rattle.std.specs.Prelude.{◌≤◌, length};
 
-use crate::lent::least;
+// What is called, told by the first two letters of its name.
+#[derive(Clone, Copy, PartialEq, Eq)]
+pub enum Call {
+    Check,
+    Convert,
+    Structures,
+    Reader,
+    Line,
+    Press,
+    Tables,
+    Ask,
+    Deltas,
+    Values,
+    Unpack,
+}
 
-// More words than a line has.
-const WORDS_MOST: usize = 10;
-
-// Where a line's first space stands, or its end.
-pub fn name_length(line: &[u8]) -> usize
-    ensures { result ≤ length line.now }
-{
-    for i in 0..line.len() {
-        if line[i] == b' ' {
-            return i;
+impl From<[u8; 2]> for Call {
+    fn from(letters: [u8; 2]) -> Call {
+        match letters {
+            [b'c', b'o'] => Call::Convert,
+            [b'c', _] => Call::Check,
+            [b's', _] => Call::Structures,
+            [b'r', _] => Call::Reader,
+            [b'l', _] => Call::Line,
+            [_, b'r'] => Call::Press,
+            [b't', _] => Call::Tables,
+            [b'a', _] => Call::Ask,
+            [b'd', _] => Call::Deltas,
+            [b'v', _] => Call::Values,
+            _ => Call::Unpack,
         }
     }
-    line.len()
 }
 
-// A letter so many places behind a line's name; 0 past its end.
-pub fn letter(line: &[u8], length: usize, behind: usize) -> u8 {
-    let at = least(length, line.len()) + least(behind, 2);
-    if at < line.len() { line[at] } else { 0 }
-}
-
-// A number with one decimal digit more.
-fn with_digit(number: usize, digit: u8) -> usize {
-    number % 1000000000 * 10 + (digit % 16) as usize
-}
-
-// The number that a word of a line is; 0 if the line has fewer words.
-fn number(line: &[u8], wanted: usize) -> usize {
-    let mut word: usize = 0;
-    let mut found: usize = 0;
-    for i in 0..line.len() {
-        let byte = line[i];
-        if byte == b' ' {
-            word = least(word, WORDS_MOST) + 1;
-        } else if word == wanted {
-            found = with_digit(found, byte);
-        }
-    }
-    found
-}
-
-// The numbers of a line; 0 for each that it doesn't have.
+// A line's words.
+// It holds a slice: no equality or printing of its own.
 #[derive(Clone, Copy)]
-pub struct Numbers {
-    pub first: usize,
-    pub second: usize,
-    pub third: usize,
-    pub fourth: usize,
-    pub fifth: usize,
+pub struct Words<'a> {
+    pub name: &'a [u8],
+    pub call: Call,
+    pub numbers: [usize; 5],
 }
 
-// The numbers behind the names of a file and a call.
-pub fn numbers_of(line: &[u8]) -> Numbers {
-    Numbers {
-        first: number(line, 2),
-        second: number(line, 3),
-        third: number(line, 4),
-        fourth: number(line, 5),
-        fifth: number(line, 6),
+// The number that a word stands for.
+fn number_of(word: &[u8]) -> usize {
+    word.iter().fold(0, |number, digit| {
+        number % 1000000000 * 10 + usize::from(digit % 16)
+    })
+}
+
+impl<'a> Words<'a> {
+    // 0 for each letter and number that the line doesn't have.
+    pub fn of(line: &'a [u8]) -> Words<'a> {
+        let mut words = line.split(|byte| *byte == b' ');
+        let name = words.next().unwrap_or(line);
+        let letter = |behind: usize| line.get(name.len() + behind).copied().unwrap_or(0);
+        let call = Call::from([letter(1), letter(2)]);
+        let mut numbers = [0; 5];
+        for (number, word) in numbers.iter_mut().zip(words.skip(1)) {
+            *number = number_of(word);
+        }
+        Words {
+            name,
+            call,
+            numbers,
+        }
     }
 }

@@ -6,67 +6,39 @@ const BASE: u64 = 257;
 
 pub const START: u64 = 1;
 
-// A sum with one number more.
-fn with_number(sum: u64, number: u32) -> u64 {
-    (sum % PRIME * BASE + number as u64) % PRIME
+// What is summed, each as an unsigned number.
+pub trait Digit: Copy {
+    fn digit(self) -> u32;
 }
 
-// A sum with one byte more.
-fn with_byte(sum: u64, byte: u8) -> u64 {
-    with_number(sum, byte as u32)
-}
-
-// A tune as a value.
-fn widened(tune: i8) -> i16 {
-    tune as i16
-}
-
-// The number that has a value's bits.
-fn bits(value: i16) -> u16 {
-    if value < 0 {
-        (value - (-32768)) as u16 + 32768
-    } else {
-        value as u16
+impl Digit for u8 {
+    fn digit(self) -> u32 {
+        u32::from(self)
     }
 }
 
-// A sum with one value more, as an unsigned number.
-fn with_value(sum: u64, value: i16) -> u64 {
-    with_number(sum, bits(value) as u32)
+impl Digit for u32 {
+    fn digit(self) -> u32 {
+        self
+    }
 }
 
-// The sum of bytes.
-pub fn of_bytes(bytes: &[u8]) -> u64 {
-    let mut sum = START;
-    for i in 0..bytes.len() {
-        sum = with_byte(sum, bytes[i]);
+impl Digit for i16 {
+    fn digit(self) -> u32 {
+        u32::from(self.cast_unsigned())
     }
-    sum
 }
 
-// Onto the sum of what stands before.
-pub fn of_numbers(before: u64, numbers: &[u32]) -> u64 {
-    let mut sum = before;
-    for i in 0..numbers.len() {
-        sum = with_number(sum, numbers[i]);
+// A tune, as a value.
+impl Digit for i8 {
+    fn digit(self) -> u32 {
+        i16::from(self).digit()
     }
-    sum
 }
 
-// A sum with all tunes.
-pub fn of_tunes(before: u64, tunes: &[i8]) -> u64 {
-    let mut sum = before;
-    for i in 0..tunes.len() {
-        sum = with_value(sum, widened(tunes[i]));
-    }
-    sum
-}
-
-// The sum of values.
-pub fn of_values(values: &[i16]) -> u64 {
-    let mut sum = START;
-    for i in 0..values.len() {
-        sum = with_value(sum, values[i]);
-    }
-    sum
+// The sum of what stands before and of these behind it.
+pub fn sum_onto<T: Digit>(before: u64, numbers: &[T]) -> u64 {
+    numbers.iter().fold(before, |sum, number| {
+        (sum % PRIME * BASE + u64::from(number.digit())) % PRIME
+    })
 }

@@ -20,17 +20,19 @@ use Rattle.xm.proofs.Convert.{kept_else, own_refusals_first}
 use Rattle.xm.proofs.Growth.{converts_within, converts_back}
 use Rattle.xm.proofs.Answer.{refused-exactly, refused_unchanged}
 use Rattle.xm.proofs.Demands.{demand₃, presses_whole, module_bytes}
-use Rattle.press.specs.Pressed.{pressed_of, pressed_numbers}
+use Rattle.std.specs.Prelude.{Result}
+use Rattle.refusal.specs.declared.Refusal as code
+use Rattle.refusal.specs.Refusal.{outcome}
+use Rattle.press.specs.Pressed.{pressed_numbers}
 use Rattle.press.specs.Promise.{Presses, Converts, PressesAgain, Written, WrittenAs}
-use Rattle.press.specs.declared.Pressed.{Pressed}
 
-paper_numbers : (x : Answer (List ℕ)) → pressed_numbers (pressed_of x) ≡ numbers (pressed_length ∷ []) x
+paper_numbers : (x : Answer (List ℕ)) → pressed_numbers (outcome length x) ≡ numbers (pressed_length ∷ []) x
 paper_numbers (gives bytes) = refl
 paper_numbers (refuses r) = refl
 
 -- Of any answer that a call's contract fixes, with its memory
-module _ (fixed : Answer (List ℕ)) (lent : List ℕ) {answer : Pressed} {held : List ℕ}
-    (p : (answer ≡ pressed_of fixed) × (held ≡ after (λ (bytes : List ℕ). bytes) fixed lent)) where
+module _ (fixed : Answer (List ℕ)) (lent : List ℕ) {answer : Result ℕ code.Refusal} {held : List ℕ}
+    (p : (answer ≡ outcome length fixed) × (held ≡ after (λ (bytes : List ℕ). bytes) fixed lent)) where
   -- the numbers are the paper's
   fixed_numbers : pressed_numbers answer ≡ numbers (pressed_length ∷ []) fixed
   fixed_numbers = ap pressed_numbers p.0 ∙ paper_numbers fixed
@@ -52,30 +54,30 @@ module _ (fixed : Answer (List ℕ)) (lent : List ℕ) {answer : Pressed} {held 
       subst₂ P (sym (fixed_numbers ∙ ap (numbers (pressed_length ∷ [])) e)) (sym (p.1 ∙ ap (λ (x : Answer (List ℕ)). after (λ (b : List ℕ). b) x lent) e))
 
 -- One answer, one memory
-pub press_once : (file lent : List ℕ) {answer other : Pressed} {held kept : List ℕ} → Presses file lent answer held → Presses file lent other kept
+pub press_once : (file lent : List ℕ) {answer other : Result ℕ code.Refusal} {held kept : List ℕ} → Presses file lent answer held → Presses file lent other kept
     → (answer ≡ other) × (held ≡ kept)
 press_once file lent p q = (p.0 ∙ sym q.0, p.1 ∙ sym q.1)
 
-pub convert_once : (to : ModuleKind) (file lent : List ℕ) {answer other : Pressed} {held kept : List ℕ}
+pub convert_once : (to : ModuleKind) (file lent : List ℕ) {answer other : Result ℕ code.Refusal} {held kept : List ℕ}
     → Converts to file lent answer held → Converts to file lent other kept
     → (answer ≡ other) × (held ≡ kept)
 convert_once to file lent p q = (p.0 ∙ sym q.0, p.1 ∙ sym q.1)
 
 -- The numbers are the paper's
-pub press_numbers_lem : (file lent : List ℕ) {answer : Pressed} {held : List ℕ} → Presses file lent answer held
+pub press_numbers_lem : (file lent : List ℕ) {answer : Result ℕ code.Refusal} {held : List ℕ} → Presses file lent answer held
     → pressed_numbers answer ≡ press_numbers file (length lent)
 press_numbers_lem file lent p = fixed_numbers (pressing file (length lent)) lent p
 
-pub convert_numbers_lem : (to : ModuleKind) (file lent : List ℕ) {answer : Pressed} {held : List ℕ}
+pub convert_numbers_lem : (to : ModuleKind) (file lent : List ℕ) {answer : Result ℕ code.Refusal} {held : List ℕ}
     → Converts to file lent answer held → pressed_numbers answer ≡ convert_numbers to file (length lent)
 convert_numbers_lem to file lent p = fixed_numbers (converting to file (length lent)) lent p
 
 -- A refusal leaves the memory as it was
-pub press_unchanged : (file lent : List ℕ) {answer : Pressed} {held : List ℕ} → Presses file lent answer held → (Accepts (pressed_numbers answer) → ⊥)
+pub press_unchanged : (file lent : List ℕ) {answer : Result ℕ code.Refusal} {held : List ℕ} → Presses file lent answer held → (Accepts (pressed_numbers answer) → ⊥)
     → held ≡ lent
 press_unchanged file lent p = fixed_unchanged (pressing file (length lent)) lent p
 
-pub convert_unchanged : (to : ModuleKind) (file lent : List ℕ) {answer : Pressed} {held : List ℕ}
+pub convert_unchanged : (to : ModuleKind) (file lent : List ℕ) {answer : Result ℕ code.Refusal} {held : List ℕ}
     → Converts to file lent answer held → (Accepts (pressed_numbers answer) → ⊥) → held ≡ lent
 convert_unchanged to file lent p = fixed_unchanged (converting to file (length lent)) lent p
 
@@ -116,7 +118,7 @@ module _ (kind : ModuleKind) (content : Content) (file : List ℕ) (f : FileOf (
         again = again_so kind content lent d.written;
       }
 
-  module _ {answer : Pressed} {held : List ℕ} (p : Presses file lent answer held) where
+  module _ {answer : Result ℕ code.Refusal} {held : List ℕ} (p : Presses file lent answer held) where
     -- 14 exactly when no acceptable file of the same kind and content fits the room
     pub press_no_room : (pressed_numbers answer ≡ 14 ∷ 0 ∷ 0 ∷ []) ↔ ((other : List ℕ) → FileOf (module_format kind) content other → length lent < length other)
     press_no_room =
@@ -132,7 +134,7 @@ module _ (kind : ModuleKind) (content : Content) (file : List ℕ) (f : FileOf (
         fixed_given (pressing file (length lent)) lent p (Written kind content file lent) bytes given written_so
 
   -- Converted, to either kind
-  module _ (to : ModuleKind) {answer : Pressed} {held : List ℕ} (p : Converts to file lent answer held) where
+  module _ (to : ModuleKind) {answer : Result ℕ code.Refusal} {held : List ℕ} (p : Converts to file lent answer held) where
     abbrev fixed : Answer (List ℕ)
     fixed = converting to file (length lent)
 
@@ -158,7 +160,7 @@ module _ (kind : ModuleKind) (content : Content) (file : List ℕ) (f : FileOf (
     convert_small within e = converts_within.never_over kind to content file (length lent) f within (large.0 e)
 
     -- What was written, converted back, is the file pressed, but for the tracker name
-    pub convert_back : Accepts (pressed_numbers answer) → (lent' : List ℕ) {answer' : Pressed} {held' : List ℕ}
+    pub convert_back : Accepts (pressed_numbers answer) → (lent' : List ℕ) {answer' : Result ℕ code.Refusal} {held' : List ℕ}
         → Converts kind (take (result_in (pressed_numbers answer) 0) held) lent' answer' held' → length (pressed kind (converted content)) ≤ length lent'
         → Accepts (pressed_numbers answer') × (take (result_in (pressed_numbers answer') 0) held' ≡ pressed kind (converted content))
     convert_back a lent' p' l =
@@ -200,11 +202,11 @@ module _ (kind : ModuleKind) (content : Content) (file : List ℕ) (f : FileOf (
           })
 
 -- A file that is refused gets its own refusal, from the press and from a conversion
-pub press_refuses : (file lent : List ℕ) {answer : Pressed} {held : List ℕ} → Presses file lent answer held → (r : Refusal) → 0 < r.number
+pub press_refuses : (file lent : List ℕ) {answer : Result ℕ code.Refusal} {held : List ℕ} → Presses file lent answer held → (r : Refusal) → 0 < r.number
     → read_file file ≡ refused r → pressed_numbers answer ≡ r.number ∷ r.place ∷ 0 ∷ []
 press_refuses file lent p r some e = (fixed_refused (pressing file (length lent)) lent p r some).1 ((own_refusals_first file r).press (length lent) e)
 
-pub convert_refuses : (to : ModuleKind) (file lent : List ℕ) {answer : Pressed} {held : List ℕ}
+pub convert_refuses : (to : ModuleKind) (file lent : List ℕ) {answer : Result ℕ code.Refusal} {held : List ℕ}
     → Converts to file lent answer held → (r : Refusal) → 0 < r.number → read_file file ≡ refused r
     → pressed_numbers answer ≡ r.number ∷ r.place ∷ 0 ∷ []
 convert_refuses to file lent p r some e =
@@ -212,7 +214,7 @@ convert_refuses to file lent p r some e =
 
 -- What stands in the output, by the length reported, is what the definition says
 pressed_left : (kind : ModuleKind) (content : Content) (file : List ℕ) → FileOf (module_format kind) content file
-    → (lent : List ℕ) {answer : Pressed} {held : List ℕ} → Presses file lent answer held
+    → (lent : List ℕ) {answer : Result ℕ code.Refusal} {held : List ℕ} → Presses file lent answer held
     → (take (result_in (pressed_numbers answer) 0) held ≡ pressed_into (module_format kind) file lent)
 pressed_left kind content file f lent p =
     let is = ((kinds_told file).by_kind kind content f).is in
@@ -220,7 +222,7 @@ pressed_left kind content file f lent p =
     ∙ ap (λ (k : ModuleKind). pressed_into (module_format k) file lent) is
 
 -- Two files of one kind are one song exactly if they press to the same bytes, each in a room that does
-pub press_same : (kind : ModuleKind) (content content' : Content) (file file' lent lent' : List ℕ) {answer answer' : Pressed} {held held' : List ℕ}
+pub press_same : (kind : ModuleKind) (content content' : Content) (file file' lent lent' : List ℕ) {answer answer' : Result ℕ code.Refusal} {held held' : List ℕ}
     → FileOf (module_format kind) content file
     → FileOf (module_format kind) content' file' → Presses file lent answer held → Presses file' lent' answer' held' → Accepts (pressed_numbers answer)
     → Accepts (pressed_numbers answer')

@@ -1,24 +1,25 @@
 -- What a caller may build on: of an answer and the memory afterwards that meet the call's contract.
-use Rattle.std.specs.Prelude.{ℕ, ◌+◌, ◌≤◌, List, ◌≡◌, length, take, drop}
+use Rattle.std.specs.Prelude.{ℕ, ◌+◌, ◌≤◌, List, ◌≡◌, length, take, drop, Result}
 use Rattle.xm.specs.ModuleKind.{ModuleKind}
 use Rattle.xm.specs.Module.{Content, module_format}
 use Rattle.xm.specs.Press.{pressing, press_after}
 use Rattle.xm.specs.Convert.{converted, converting, convert_after}
 use Rattle.xm.specs.Demands.{FileOf, KeptElse, added_most, Accepts, result_in}
-use Rattle.press.specs.Pressed.{pressed_of, pressed_numbers}
-use Rattle.press.specs.declared.Pressed.{Pressed}
+use Rattle.refusal.specs.declared.Refusal.{Refusal}
+use Rattle.refusal.specs.Refusal.{outcome}
+use Rattle.press.specs.Pressed.{pressed_numbers}
 
-abbrev pub Presses : (file lent : List ℕ) (answer : Pressed) (held : List ℕ) → Type 0
-Presses file lent answer held = (answer ≡ pressed_of (pressing file (length lent))) × (held ≡ press_after file lent)
+abbrev pub Presses : (file lent : List ℕ) (answer : Result ℕ Refusal) (held : List ℕ) → Type 0
+Presses file lent answer held = (answer ≡ outcome length (pressing file (length lent))) × (held ≡ press_after file lent)
 
-abbrev pub Converts : (to : ModuleKind) (file lent : List ℕ) (answer : Pressed) (held : List ℕ) → Type 0
-Converts to file lent answer held = (answer ≡ pressed_of (converting to file (length lent))) × (held ≡ convert_after to file lent)
+abbrev pub Converts : (to : ModuleKind) (file lent : List ℕ) (answer : Result ℕ Refusal) (held : List ℕ) → Type 0
+Converts to file lent answer held = (answer ≡ outcome length (converting to file (length lent))) × (held ≡ convert_after to file lent)
 
 -- Pressing what was written, by the length reported, gives the same numbers and the same bytes.
 abbrev pub PressesAgain : (reported held : List ℕ) → Type 0
 PressesAgain reported held =
     let bytes = take (result_in reported 0) held in
-    (room : List ℕ) (answer : Pressed) (after : List ℕ) → result_in reported 0 ≤ length room → Presses bytes room answer after
+    (room : List ℕ) (answer : Result ℕ Refusal) (after : List ℕ) → result_in reported 0 ≤ length room → Presses bytes room answer after
     → (pressed_numbers answer ≡ reported) × (take (result_in reported 0) after ≡ bytes)
 
 -- Of a file of a kind that was pressed, by the numbers reported: what was written is an acceptable file of that kind and of the content, none

@@ -1,14 +1,15 @@
 -- What holds of every answer and reader that meet the contracts of `from_start`, `next` and `count_structures`. Assumes nothing.
 use Prim.Native.Nat.{ℕ, zero, suc, ◌*◌, ◌≤◌, ◌<◌}
-use mathlib.Core.Bool.{false}
 use mathlib.Core.List.{List, [], ◌∷◌}
 use mathlib.Core.Path.{◌≡◌, refl, sym, ap, ap₂, ◌∙◌}
 use native.Mathlib.Omega.{arith}
 use lib.ListN.{length, length-map}
 use denote.Ref.{Bor}
+use Rattle.std.specs.Prelude.{Option, Some, None, Result, Ok, Err}
 use Rattle.xm.specs.Number.{Bytes}
 use Rattle.xm.specs.ModuleKind.{ModuleKind}
-use Rattle.xm.specs.Got.{Got, got, refused, Refusal}
+use Rattle.xm.specs.Got.{Got, got, refused}
+use Rattle.xm.specs.Got as paper
 use Rattle.xm.specs.Format.{Kind, Region, pattern_header, instrument, sample_header, sample_data, joined}
 use Rattle.xm.specs.Answer.{Answer, numbers, answered}
 use Rattle.xm.specs.PatternInFile.{pattern_format}
@@ -23,26 +24,24 @@ use Rattle.xm.specs.Demands.{result_in, ReaderHandsOver}
 use Rattle.xm.proofs.Format.{cons_path}
 use Rattle.xm.proofs.Structure.{readers_tell}
 use Rattle.xm.proofs.Accepted.{accepted_files}
-use Rattle.structures.specs.Handing.{standing_of, standing_numbers, reading_numbers, reached_of, reached_in}
-use Rattle.structures.specs.declared.Reached.{Reached}
-use Rattle.structures.specs.declared.Standing.{Standing}
-use Rattle.structures.specs.declared.Standing.TheVariants.{Pattern, Instrument, SampleHeader, End, Refused}
+use Rattle.refusal.specs.Refusal.{outcome}
+use Rattle.refusal.specs.declared.Refusal.{Refusal}
+use Rattle.structures.specs.Handing.{standing_in, kind_in, standing_numbers, reading_numbers, ahead_of, ahead_in, reached_in}
+use Rattle.structures.specs.declared.StructureKind.{StructureKind}
+use Rattle.structures.specs.declared.StructureKind.TheVariants.{Pattern, Instrument, SampleHeader}
+use Rattle.structures.specs.declared.Ahead as code
+use Rattle.structures.specs.declared.Structure.{Structure}
 use Rattle.structures.proofs.Calls.{reached_back, call_numbers}
+use Rattle.structures.proofs.HandingLaws.{hand_none}
 use Rattle.tables.proofs.IntoLaws.{rows_counted}
 use Rattle.reader.specs.declared.Reader.{Reader}
-use Rattle.reader.specs.declared.count.Counted as answer
-use Rattle.reader.specs.Count.{structure_counts, hands_over, counting, counted_of, counted_numbers, count_results}
-use Rattle.reader.proofs.CountLaws.{kind_count, hand_none}
+use Rattle.reader.specs.declared.count.Counts.{Counts}
+use Rattle.reader.specs.Count.{structure_counts, counting, counted_numbers, count_results}
+use Rattle.reader.proofs.CountLaws.{Called, kind_count}
 
--- What `next` promises of a reader, of its answer and of the reader after it
-abbrev pub Called : Reader → Standing → Reader → Type 0
-Called r answer r' =
-    (answer ≡ standing_of (called r.file.now (reached_in r.place))) × (r'.file ≡ r.file)
-    × (r'.place ≡ reached_of (read_on r.file.now (reached_in r.place)))
-
--- and `from_start`
+-- What `from_start` promises; and what `next` does is `Called`
 abbrev pub Started : Bor (List ℕ) → Reader → Type 0
-Started file r = (r.file ≡ file) × (r.place ≡ reached_of (started file.now))
+Started file r = (r.file ≡ file) × (r.place ≡ outcome ahead_of (started file.now))
 
 same_reader : {a b : Reader} → a.file ≡ b.file → a.place ≡ b.place → a ≡ b
 same_reader e p = λ i. record { file = e i; place = p i }
@@ -51,38 +50,47 @@ same_reader e p = λ i. record { file = e i; place = p i }
 pub from_start_once : (file : Bor (List ℕ)) (r other : Reader) → Started file r → Started file other → r ≡ other
 from_start_once file r other c d = same_reader (c.0 ∙ sym d.0) (c.1 ∙ sym d.1)
 
-pub next_once : (r r' r'' : Reader) (answer other : Standing) → Called r answer r' → Called r other r'' → (answer ≡ other) × (r' ≡ r'')
+pub next_once : (r r' r'' : Reader) (answer other : Result (Option Structure) Refusal) → Called r answer r' → Called r other r'' → (answer ≡ other) × (r' ≡ r'')
 next_once r r' r'' answer other c d = (c.0 ∙ sym d.0, same_reader (c.1 ∙ sym d.1) (c.2 ∙ sym d.2))
 
-pub counted_once : (file : List ℕ) {answer other : answer.Counted} → answer ≡ counted_of (counting file) → other ≡ counted_of (counting file) → answer ≡ other
+pub counted_once : (file : List ℕ) {answer other : Result Counts Refusal} → answer ≡ outcome (λ (c : Counts). c) (counting file)
+    → other ≡ outcome (λ (c : Counts). c) (counting file) → answer ≡ other
 counted_once file met e = met ∙ sym e
 
 -- A call that hands over no structure leaves the reader as it was, whatever its place
-no_kind : (answer : Standing) → result_in (standing_numbers answer) 0 ≡ 0 → hands_over answer ≡ false
-no_kind (Pattern place) h = absurd (omega arith)
-no_kind (Instrument place) h = absurd (omega arith)
-no_kind (SampleHeader place) h = absurd (omega arith)
-no_kind End h = refl
-no_kind (Refused refusal) h = refl
+some_kind : (kind : StructureKind) → kind_number (kind_in kind) ≡ 0 → ⊥
+some_kind Pattern h = omega arith
+some_kind Instrument h = omega arith
+some_kind SampleHeader h = omega arith
 
-pub next_stays : (r r' : Reader) (answer : Standing) → Called r answer r' → result_in (standing_numbers answer) 0 ≡ 0 → r' ≡ r
-next_stays r r' answer c h = same_reader c.1 (c.2 ∙ hand_none r.file.now r.place (ap hands_over (sym c.0) ∙ no_kind answer h))
+none_told : (told : Option Structure) → result_in (standing_numbers (Ok told)) 0 ≡ 0 → told ≡ None
+none_told (Some structure) h = absurd (some_kind structure.kind h)
+none_told None h = refl
+
+place_stays : (file : List ℕ) (place : Result code.Ahead Refusal) → result_in (standing_numbers (outcome standing_in (called file (reached_in place)))) 0 ≡ 0
+    → outcome ahead_of (read_on file (reached_in place)) ≡ place
+place_stays file (Ok a) h = ap (λ (b : Ahead). Ok (ahead_of b)) (hand_none file (ahead_in a) (none_told _ h))
+place_stays file (Err refusal) h = refl
+
+pub next_stays : (r r' : Reader) (answer : Result (Option Structure) Refusal) → Called r answer r' → result_in (standing_numbers answer) 0 ≡ 0 → r' ≡ r
+next_stays r r' answer c h =
+    same_reader c.1 (c.2 ∙ place_stays r.file.now r.place (sym (ap (λ (s : Result (Option Structure) Refusal). result_in (standing_numbers s) 0) c.0) ∙ h))
 
 -- A reader from the start, and so many calls of it: the readers before and after them, and the answers
-pub record ReadFor (file : Bor (List ℕ)) (calls : ℕ) (reader : ℕ → Reader) (answer : ℕ → Standing) : Type 0 where
+pub record ReadFor (file : Bor (List ℕ)) (calls : ℕ) (reader : ℕ → Reader) (answer : ℕ → Result (Option Structure) Refusal) : Type 0 where
   pub starts : Started file (reader 0)
   pub called : (n : ℕ) → n < calls → Called (reader n) (answer n) (reader (suc n))
 
-module _ {file : Bor (List ℕ)} {calls : ℕ} {reader : ℕ → Reader} {answer : ℕ → Standing} (w : ReadFor file calls reader answer) where
-  stands : (n : ℕ) → n ≤ calls → ((reader n).file ≡ file) × ((reader n).place ≡ reached_of (read_for file.now n))
+module _ {file : Bor (List ℕ)} {calls : ℕ} {reader : ℕ → Reader} {answer : ℕ → Result (Option Structure) Refusal} (w : ReadFor file calls reader answer) where
+  stands : (n : ℕ) → n ≤ calls → ((reader n).file ≡ file) × ((reader n).place ≡ outcome ahead_of (read_for file.now n))
   stands zero l = w.starts
   stands (suc n) l =
       let c = w.called n (omega arith) in
       let s = stands n (omega arith) in (
         c.1 ∙ s.0,
         c.2
-            ∙ ap₂ (λ (f : Bor (List ℕ)) (place : Reached). reached_of (read_on f.now (reached_in place))) s.0 s.1
-            ∙ ap (λ (x : Answer Ahead). reached_of (read_on file.now x)) (reached_back (read_for file.now n)),
+            ∙ ap₂ (λ (f : Bor (List ℕ)) (place : Result code.Ahead Refusal). outcome ahead_of (read_on f.now (reached_in place))) s.0 s.1
+            ∙ ap (λ (x : Answer Ahead). outcome ahead_of (read_on file.now x)) (reached_back (read_for file.now n)),
       )
 
   -- Each call gives what the definition says of its number
@@ -91,12 +99,12 @@ module _ {file : Bor (List ℕ)} {calls : ℕ} {reader : ℕ → Reader} {answer
       let s = stands n (omega arith) in
       ap standing_numbers
       ((w.called n l).0
-      ∙ ap₂ (λ (f : Bor (List ℕ)) (place : Reached). standing_of (called f.now (reached_in place))) s.0 s.1
-      ∙ ap (λ (x : Answer Ahead). standing_of (called file.now x)) (reached_back (read_for file.now n)))
+      ∙ ap₂ (λ (f : Bor (List ℕ)) (place : Result code.Ahead Refusal). outcome standing_in (called f.now (reached_in place))) s.0 s.1
+      ∙ ap (λ (x : Answer Ahead). outcome standing_in (called file.now x)) (reached_back (read_for file.now n)))
       ∙ call_numbers file.now (read_for file.now n)
 
   -- On a refused file that is the check's refusal
-  pub refuses : (x : Refusal) → read_file file.now ≡ refused x → (n : ℕ) → n < calls → standing_numbers (answer n) ≡ x.number ∷ x.place ∷ 0 ∷ 0 ∷ []
+  pub refuses : (x : paper.Refusal) → read_file file.now ≡ refused x → (n : ℕ) → n < calls → standing_numbers (answer n) ≡ x.number ∷ x.place ∷ 0 ∷ 0 ∷ []
   refuses x e n l = told n l ∙ ap reading_numbers (readers_tell.refuses_so file.now x n e)
 
   -- The calls hand over the first structures of the definition's list, none left out; after the last, the end for ever
@@ -141,13 +149,13 @@ patterns_count found =
       length-map found.1.0 pattern_row,
     )
 
-pub counted_numbers_lem : (file : List ℕ) → Bytes file → {answer : answer.Counted} → answer ≡ counted_of (counting file)
+pub counted_numbers_lem : (file : List ℕ) → Bytes file → {answer : Result Counts Refusal} → answer ≡ outcome (λ (c : Counts). c) (counting file)
     → counted_numbers answer ≡ numbers count_results (checking file)
 unfolding counting checking
 counted_numbers_lem file plain met = ap counted_numbers met ∙ go (read_file file) refl
   where
     go : (g : Got Found) → read_file file ≡ g
-        → counted_numbers (counted_of (answered (λ found end. structure_counts (structures found)) g)) ≡ numbers count_results (answered checked_as g)
+        → counted_numbers (outcome (λ (c : Counts). c) (answered (λ found end. structure_counts (structures found)) g)) ≡ numbers count_results (answered checked_as g)
     go (got found end) e =
         let tell = readers_tell.hands_over file found end plain e in
         let tables = (accepted_files file found end plain e).tables in

@@ -1,2 +1,3 @@
+pub mod AfterLaws
 pub mod CountLaws
 pub mod Calls

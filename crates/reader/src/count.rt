@@ -1,109 +1,59 @@
 // The structures of a file counted by kind, with a reader that is run to the end.
-ghost use Rattle.std.specs.Prelude.{◌≡◌, [], ◌+◌, ◌<◌, ◌^◌};
+ghost use Rattle.std.specs.Prelude.{◌≡◌, ◌+◌, ◌<◌, ◌^◌};
 ghost use Rattle.xm.specs.Structure.{started};
-ghost use Rattle.structures.specs.Handing.{reached_of};
-ghost use Rattle.reader.specs.Count.{structure_counts, hands_over, one_more, ends_as, counting, counted_of};
+ghost use Rattle.refusal.specs.Refusal.{outcome};
+ghost use Rattle.structures.specs.Handing.{ahead_of};
+ghost use Rattle.reader.specs.Count.{counting};
 
-use crate::{Reader, next};
+use crate::Reader;
 use refusal::Refusal;
-use structures::{Reached, Standing, start};
+use structures::{Ahead, StructureKind, start};
 
 // How many structures there are of each kind.
-#[derive(Clone, Copy)]
+#[derive(Clone, Copy, Debug, PartialEq, Eq)]
 pub struct Counts {
     pub patterns: usize,
     pub instruments: usize,
     pub samples: usize,
 }
 
-#[derive(Clone, Copy)]
-pub enum Counted {
-    Accepted(Counts),
-    Refused(Refusal),
-}
+impl Counts {
+    ghost use Rattle.reader.specs.Count.{total, one_more};
 
-// No structure counted yet.
-fn none_counted() -> Counts
-    ensures { result ≡ structure_counts [] }
-{
-    Counts {
-        patterns: 0,
-        instruments: 0,
-        samples: 0,
-    }
-}
-
-// Whether a structure is handed over: neither the end nor a refusal.
-fn is_structure(standing: Standing) -> bool
-    ensures { result ≡ hands_over standing }
-{
-    match standing {
-        Standing::Pattern(place) => true,
-        Standing::Instrument(place) => true,
-        Standing::SampleHeader(place) => true,
-        Standing::End => false,
-        Standing::Refused(refusal) => false,
-    }
-}
-
-// One structure more.
-fn one_more(counts: Counts, standing: Standing) -> Counts
-    requires { counts.patterns + counts.instruments + counts.samples + 1 < 2 ^ 64 }
-    ensures { result ≡ one_more counts standing }
-{
-    match standing {
-        Standing::Pattern(place) => Counts {
-            patterns: counts.patterns + 1,
-            instruments: counts.instruments,
-            samples: counts.samples,
-        },
-        Standing::Instrument(place) => Counts {
-            patterns: counts.patterns,
-            instruments: counts.instruments + 1,
-            samples: counts.samples,
-        },
-        Standing::SampleHeader(place) => Counts {
-            patterns: counts.patterns,
-            instruments: counts.instruments,
-            samples: counts.samples + 1,
-        },
-        Standing::End => counts,
-        Standing::Refused(refusal) => counts,
-    }
-}
-
-// The counts at the end, or the refusal.
-fn ends_as(counts: Counts, standing: Standing) -> Counted
-    ensures { result ≡ ends_as counts standing }
-{
-    match standing {
-        Standing::Pattern(place) => Counted::Accepted(counts),
-        Standing::Instrument(place) => Counted::Accepted(counts),
-        Standing::SampleHeader(place) => Counted::Accepted(counts),
-        Standing::End => Counted::Accepted(counts),
-        Standing::Refused(refusal) => Counted::Refused(refusal),
+    // One structure more of a kind.
+    fn add(&mut self, kind: StructureKind)
+        requires { total self.old + 1 < 2 ^ 64 }
+        ensures { self.new ≡ one_more self.old kind }
+    {
+        match kind {
+            StructureKind::Pattern => self.patterns += 1,
+            StructureKind::Instrument => self.instruments += 1,
+            StructureKind::SampleHeader => self.samples += 1,
+        }
     }
 }
 
 // The numbers of patterns, instruments and sample headers: a reader that has read nothing yet is run to the end, and what it hands over is
 // counted. On a refused file the check's refusal.
-pub fn count_from(file: &[u8], place: Reached) -> Counted
-    requires { place ≡ reached_of (started file.now) }
-    ensures { result ≡ counted_of (counting file.now) }
+pub fn count_from(file: &[u8], place: Result<Ahead, Refusal>) -> Result<Counts, Refusal>
+    requires { place ≡ outcome ahead_of (started file.now) }
+    ensures { result ≡ outcome (λ counts. counts) (counting file.now) }
 {
-    let mut r = Reader { file, place };
-    let mut counts = none_counted();
-    let mut standing = next(&mut r);
-    while is_structure(standing) {
-        counts = one_more(counts, standing);
-        standing = next(&mut r);
+    let mut reader = Reader { file, place };
+    let mut counts = Counts {
+        patterns: 0,
+        instruments: 0,
+        samples: 0,
+    };
+    while let Some(structure) = reader.next()? {
+        counts.add(structure.kind);
     }
-    ends_as(counts, standing)
+    Ok(counts)
 }
 
 // The same, and the file is checked here, once.
-pub fn count_structures(file: &[u8]) -> Counted
-    ensures { result ≡ counted_of (counting file.now) }
+pub fn count_structures(file: &[u8]) -> Result<Counts, Refusal>
+    ensures { result ≡ outcome (λ counts. counts) (counting file.now) }
 {
     let place = start(file);
     count_from(file, place)

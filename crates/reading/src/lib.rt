@@ -15,9 +15,8 @@ pub fn read_full<R: Read>(input: &mut R, memory: &mut [u8]) -> usize
     let mut done: usize = 0;
     while done < memory.len() {
         match input.read(&mut memory[done..]) {
-            Ok(0) => break,
+            Ok(0) | Err(_) => break,
             Ok(count) => done += count,
-            Err(_) => break,
         }
     }
     done

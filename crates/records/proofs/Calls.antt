@@ -7,10 +7,13 @@ use lib.Dec.{leb}
 use lib.IntN.{ℤ}
 use lib.ListN.{length, get_or, take, drop, length-map, get_or-append, get_or-map}
 use lib.Seq.{take-append_seam}
+use Rattle.std.specs.Prelude.{Result, Ok, Err}
 use native.Mathlib.Omega.{arith}
+use Rattle.std.specs.List.{drop-map}
 use Rattle.xm.specs.Number.{Bytes, byte_at}
 use Rattle.xm.specs.ModuleKind.{normal}
-use Rattle.xm.specs.Got.{Refusal, ◌at◌, ◌>>◌, ensure, checked}
+use Rattle.xm.specs.Got.{◌at◌, ◌>>◌, ensure, checked}
+use Rattle.xm.specs.Got as reading
 use Rattle.xm.specs.Format.{joined}
 use Rattle.xm.specs.Answer.{Answer, gives, refuses, number_of, in_front}
 use Rattle.xm.specs.Sample.{least_head, head_bytes, length_of, kind_of}
@@ -21,45 +24,44 @@ use Rattle.xm.specs.Asking.{Stretch, asking, stretch_of, asking_rows, no_row}
 use Rattle.xm.specs.Demands.{LoopReads, AcceptedFile, stretch_at}
 use Rattle.xm.proofs.Accepted.{accepted_files, loop_at, decodes_at, normal-byte}
 use Rattle.xm.proofs.Table.{joined-map}
-use Rattle.refusal.specs.Refusal.{code_refusal}
-use Rattle.walk.specs.File.{verdict_of, verdict_numbers}
-use Rattle.walk.specs.declared.Verdict.{Verdict}
+use Rattle.refusal.specs.Refusal.{code_refusal, outcome}
+use Rattle.refusal.specs.declared.Refusal.{Refusal}
+use Rattle.walk.specs.File.{code_module, verdict_numbers}
+use Rattle.walk.specs.declared.Module.{Module}
 use Rattle.tables.specs.Into.{lent, checked_into, room_beside, patterns_after, instruments_after}
 use Rattle.rows.specs.Place.{code_row, code_row_numbers, tunes_of}
 use Rattle.rows.specs.declared.sample.SampleRow.{SampleRow}
 use Rattle.tables.proofs.Calls.{into_numbers, head_at, row_head_size, values_at}
 use Rattle.tables.proofs.IntoLaws.{into_accepted}
-use Rattle.records.specs.Records.{row_of, rows_of, records_of, no_record, checked_records, records_after, row_asking, row_asking_in, row_asked_of, rows_given}
+use Rattle.records.specs.Records.{row_of, rows_of, records_of, no_record, checked_records, records_after, row_asking, row_asking_in, rows_given}
 use Rattle.records.specs.Records.{row_asked_numbers, row_asked_tunes, row_numbers, row_tunes}
-use Rattle.records.specs.declared.row.RowAsked.{RowAsked}
-use Rattle.records.specs.declared.row.RowAsked.TheVariants as asked
 use Rattle.records.proofs.RecordsLaws.{RecordsTold, row_lent, row_beyond}
 
 -- The numbers are the paper's
-pub records_numbers : (file patterns instruments : List ℕ) (records : List SampleRow) {answer : Verdict}
-    → answer ≡ verdict_of (checked_records file patterns instruments records)
+pub records_numbers : (file patterns instruments : List ℕ) (records : List SampleRow) {answer : Result Module Refusal}
+    → answer ≡ outcome code_module (checked_records file patterns instruments records)
     → verdict_numbers answer ≡ check_into_numbers (room_with patterns instruments (rows_of records)) file
 records_numbers file patterns instruments records met = into_numbers (room_with patterns instruments (rows_of records)) file met
 
-numbers_same : (answer : Answer paper.SampleRow) → row_asked_numbers (row_asked_of answer) ≡ row_numbers answer
+numbers_same : (answer : Answer paper.SampleRow) → row_asked_numbers (outcome code_row answer) ≡ row_numbers answer
 numbers_same (gives row) = refl
 numbers_same (refuses r) = refl
 
-tunes_same : (answer : Answer paper.SampleRow) → row_asked_tunes (row_asked_of answer) ≡ row_tunes answer
+tunes_same : (answer : Answer paper.SampleRow) → row_asked_tunes (outcome code_row answer) ≡ row_tunes answer
 tunes_same (gives row) = refl
 tunes_same (refuses r) = refl
 
 -- The data of the row that is given back: the same question as by its number
 asks_given : (file : List ℕ) (rows : List paper.SampleRow) (number : ℕ)
-    → asking_rows file (rows_given (row_asked_of (row_asking_in rows number))) 0 ≡ asking_rows file rows number
+    → asking_rows file (rows_given (outcome code_row (row_asking_in rows number))) 0 ≡ asking_rows file rows number
 unfolding asking row_asking checked ensure ◌>>◌
 asks_given file rows number = go (leb (number + 1) (length rows)) refl
   where
-    go : (b : Bool) → leb (number + 1) (length rows) ≡ b → asking_rows file (rows_given (row_asked_of (row_asking_in rows number))) 0 ≡ asking_rows file rows number
+    go : (b : Bool) → leb (number + 1) (length rows) ≡ b → asking_rows file (rows_given (outcome code_row (row_asking_in rows number))) 0 ≡ asking_rows file rows number
     go true q = rw q
     go false q = rw q
 
-module _ (records : List SampleRow) (number : ℕ) {answer : RowAsked} (met : answer ≡ row_asked_of (row_asking_in (rows_of records) number)) where
+module _ (records : List SampleRow) (number : ℕ) {answer : Result SampleRow Refusal} (met : answer ≡ outcome code_row (row_asking_in (rows_of records) number)) where
   pub row_numbers_lem : row_asked_numbers answer ≡ row_numbers (row_asking_in (rows_of records) number)
   row_numbers_lem = ap row_asked_numbers met ∙ numbers_same (row_asking_in (rows_of records) number)
 
@@ -67,15 +69,15 @@ module _ (records : List SampleRow) (number : ℕ) {answer : RowAsked} (met : an
   row_tunes_lem = ap row_asked_tunes met ∙ tunes_same (row_asking_in (rows_of records) number)
 
   -- A row lent is given as it stands, and 16 else
-  pub row_given : number < length records → answer ≡ asked.Row (get_or records number no_record)
+  pub row_given : number < length records → answer ≡ Ok (get_or records number no_record)
   row_given low = met ∙ sym (row_lent records number low)
 
-  pub row_refused : length records ≤ number → answer ≡ asked.Refused (code_refusal (16 at 0))
+  pub row_refused : length records ≤ number → answer ≡ Err (code_refusal (16 at 0))
   row_refused high = met ∙ sym (row_beyond records number high)
 
   -- What is asked with the row that was given back is asked by its number: of its stretch, and of the number that tells 0 from 16
   asked_by_number : (file : List ℕ) → asking_rows file (rows_given answer) 0 ≡ asking_rows file (rows_of records) number
-  asked_by_number file = ap (λ (row : RowAsked). asking_rows file (rows_given row) 0) met ∙ asks_given file (rows_of records) number
+  asked_by_number file = ap (λ (row : Result SampleRow Refusal). asking_rows file (rows_given row) 0) met ∙ asks_given file (rows_of records) number
 
   pub stretch_by_number : (file : List ℕ) {stretch : List ℕ} → stretch ≡ stretch_of file (asking_rows file (rows_given answer) 0)
       → stretch ≡ stretch_of file (asking_rows file (rows_of records) number)
@@ -86,12 +88,12 @@ module _ (records : List SampleRow) (number : ℕ) {answer : RowAsked} (met : an
   refusal_by_number file told = told ∙ ap (λ (a : Answer Stretch). number_of a) (asked_by_number file)
 
   -- No second answer fits
-  pub row_once : (other : RowAsked) → other ≡ row_asked_of (row_asking_in (rows_of records) number) → answer ≡ other
+  pub row_once : (other : Result SampleRow Refusal) → other ≡ outcome code_row (row_asking_in (rows_of records) number) → answer ≡ other
   row_once other e = met ∙ sym e
 
 -- nor another answer of the check, nor other tables or records
 pub records_once : (file patterns instruments : List ℕ)
-    (records : List SampleRow) {answer other : Verdict} {patterns₁ patterns₂ instruments₁ instruments₂ : List ℕ} {records₁ records₂ : List SampleRow}
+    (records : List SampleRow) {answer other : Result Module Refusal} {patterns₁ patterns₂ instruments₁ instruments₂ : List ℕ} {records₁ records₂ : List SampleRow}
     → RecordsTold file patterns instruments records answer patterns₁ instruments₁ records₁
     → RecordsTold file patterns instruments records other patterns₂ instruments₂ records₂
     → (answer ≡ other) × (patterns₁ ≡ patterns₂) × (instruments₁ ≡ instruments₂) × (records₁ ≡ records₂)
@@ -104,7 +106,7 @@ records_once file patterns instruments records t u = (
 
 -- A refused check changes nothing
 pub records_unchanged : (file patterns instruments : List ℕ)
-    (records : List SampleRow) {answer : Verdict} {patterns₁ instruments₁ : List ℕ} {records₁ : List SampleRow} {r : Refusal}
+    (records : List SampleRow) {answer : Result Module Refusal} {patterns₁ instruments₁ : List ℕ} {records₁ : List SampleRow} {r : reading.Refusal}
     → RecordsTold file patterns instruments records answer patterns₁ instruments₁ records₁ → checked_records file patterns instruments records ≡ refuses r
     → (patterns₁ ≡ patterns) × (instruments₁ ≡ instruments) × (records₁ ≡ records)
 records_unchanged file patterns instruments records t e = (
@@ -121,11 +123,6 @@ same_answer file patterns instruments samples tunes records e =
     ap (λ (rows : ℕ). checking_into (room_beside (length patterns) (length instruments) rows) file) (e ∙ sym (length-map records row_of))
 
 -- The records afterwards are the paper's rows afterwards
-map-drop : {A B : Type 0} (f : A → B) (n : ℕ) (xs : List A) → map f (drop n xs) ≡ drop n (map f xs)
-map-drop f zero xs = refl
-map-drop f (suc n) [] = refl
-map-drop f (suc n) (x ∷ xs) = map-drop f n xs
-
 rows_records : (rows : List paper.SampleRow) → rows_of (records_of rows) ≡ rows
 rows_records [] = refl
 rows_records (r ∷ rows) = ap (λ (more : List paper.SampleRow). r ∷ more) (rows_records rows)
@@ -134,7 +131,7 @@ pub rows_in_front : (rows : List paper.SampleRow) (records : List SampleRow) →
 rows_in_front rows records =
     map-append row_of (records_of rows) (drop (length (records_of rows)) records)
     ∙ ap₂ (λ (front beyond : List paper.SampleRow). front ++ beyond) (rows_records rows)
-    (map-drop row_of (length (records_of rows)) records ∙ ap (λ (n : ℕ). drop n (rows_of records)) (length-map rows code_row))
+    (sym (drop-map row_of (length (records_of rows)) records) ∙ ap (λ (n : ℕ). drop n (rows_of records)) (length-map rows code_row))
 
 pub rows_after_lem : (answer : Answer CheckReport) (records : List SampleRow) → rows_of (records_after answer records) ≡ rows_after answer (rows_of records)
 rows_after_lem (gives c) records = rows_in_front (sample_rows c.found) records

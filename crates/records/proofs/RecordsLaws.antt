@@ -1,29 +1,40 @@
 -- The laws that storing the records, and asking with a row read back, rest on. Assumes nothing.
 use Prim.Native.Nat.{ℕ, zero, suc, ◌+◌, ◌≤◌, ◌<◌}
+use mathlib.Core.Bool.{Bool, true, false}
 use mathlib.Core.List.{List, [], ◌∷◌}
 use mathlib.Core.Path.{◌≡◌, refl, sym, ap, ap₂, ◌∙◌}
 use native.Mathlib.Numerals.{add-one}
 use native.Mathlib.Omega.{arith}
 use lib.ListN.{length, get_or, set, take, drop, length-map, length-append, length-take, length-drop, get_or-map}
 use lib.Seq.{take_all}
+use lib.Dec.{ltb}
+use borrow.Author.Tests.{ltb-true, ltb-false}
+use Rattle.std.specs.Prelude.{Option, Some, None, Result, Ok, Err}
+use Rattle.std.specs.Option.{ok_or, option_copied}
+use Rattle.std.specs.Slice.{IsItemAt}
+use denote.Ref.{Bor}
+use Rattle.std.specs.List.{slice_get}
+use Rattle.std.proofs.lemmas.Option.{slice_get-get_or, slice_get_past, slice_get_read}
 use Rattle.xm.specs.Got.{Got, ◌at◌, list_in}
 use Rattle.xm.specs.Answer.{Answer, gives, refuses, in_front}
 use Rattle.xm.specs.Module.{Found, read_file}
 use Rattle.xm.specs.Table.{CheckReport, sample_rows, checking_into}
 use Rattle.xm.specs.Table as paper
-use Rattle.xm.specs.Asking.{no_row}
+use Rattle.xm.specs.Asking.{no_row, asking_rows}
 use Rattle.xm.proofs.Got.{pass}
 use Rattle.xm.proofs.Answer.{answer_gives, answer_refuses, tests_fail}
-use Rattle.refusal.specs.Refusal.{code_refusal}
-use Rattle.walk.specs.File.{verdict_of}
-use Rattle.walk.specs.declared.Verdict.{Verdict}
+use Rattle.refusal.specs.Refusal.{code_refusal, outcome}
+use Rattle.refusal.specs.declared.Refusal.{Refusal}
+use Rattle.walk.specs.File.{code_module}
+use Rattle.walk.specs.declared.Module.{Module}
 use Rattle.tables.specs.Into.{room_beside, patterns_after, instruments_after}
 use Rattle.rows.specs.Place.{code_row}
 use Rattle.rows.specs.declared.sample.SampleRow.{SampleRow}
+use Rattle.asking.specs.Ask.{code_stretch}
+use Rattle.asking.proofs.AskLaws.{ask_unlent}
+use Rattle.tables.proofs.VerdictLaws.{never, same_module}
 use Rattle.tables.proofs.IntoLaws.{into_accepted}
-use Rattle.records.specs.Records.{row_of, rows_of, records_of, no_record, records_in, checked_records, records_after, samples_of, row_asking, row_asking_in}
-use Rattle.records.specs.Records.{row_asked_of}
-use Rattle.records.specs.declared.row.RowAsked.TheVariants as asked
+use Rattle.records.specs.Records.{row_of, rows_of, records_of, no_record, records_in, checked_records, records_after, row_asking, row_asking_in, rows_given}
 
 -- One more record is stored
 module _ {A : Type 0} where
@@ -65,55 +76,78 @@ module _ (file patterns instruments : List ℕ) (lent : List SampleRow) where
   room_same : beside ≡ checked_records file patterns instruments lent
   room_same = ap (λ (rows : ℕ). checking_into (room_beside (length patterns) (length instruments) rows) file) (sym (length-map lent row_of))
 
-  pub count_fits : (samples_of (verdict_of beside) ≤ length (records_in file)) × (samples_of (verdict_of beside) ≤ length lent)
-  count_fits = go beside refl
-    where
-      go : (a : Answer CheckReport) → beside ≡ a → (samples_of (verdict_of a) ≤ length (records_in file)) × (samples_of (verdict_of a) ≤ length lent)
-      go (gives c) q =
-          into_accepted _ file c q λ found room. (omega (arith, records_length file, ap (λ (g : Got Found). length (list_in sample_rows g)) found), room.2)
-      go (refuses r) q = (omega arith, omega arith)
-
-  stored_all : in_front (take (samples_of (verdict_of beside)) (records_in file)) lent ≡ records_after beside lent
-  stored_all = go beside refl
-    where
-      go : (a : Answer CheckReport) → beside ≡ a → in_front (take (samples_of (verdict_of a)) (records_in file)) lent ≡ records_after a lent
-      go (gives c) q = into_accepted _ file c q λ found room.
-          let all : take (length (sample_rows c.found)) (records_of (sample_rows c.found)) ≡ records_of (sample_rows c.found) =
-          take_all (length (sample_rows c.found)) (records_of (sample_rows c.found)) (omega (arith, length-map (sample_rows c.found) code_row)) in
-          ap (λ (g : Got Found). in_front (take (length (sample_rows c.found)) (records_of (list_in sample_rows g))) lent) found
-          ∙ ap (λ (rows : List SampleRow). in_front rows lent) all
-      go (refuses r) q = refl
-
   -- What the call answers and leaves
-  pub record RecordsTold (v : Verdict) (patterns' instruments' : List ℕ) (lent' : List SampleRow) : Type 0 where
-    pub answers : v ≡ verdict_of (checked_records file patterns instruments lent)
+  pub record RecordsTold (v : Result Module Refusal) (patterns' instruments' : List ℕ) (lent' : List SampleRow) : Type 0 where
+    pub answers : v ≡ outcome code_module (checked_records file patterns instruments lent)
     pub leaves_patterns : patterns' ≡ patterns_after (checked_records file patterns instruments lent) patterns
     pub leaves_instruments : instruments' ≡ instruments_after (checked_records file patterns instruments lent) instruments
     pub leaves_records : lent' ≡ records_after (checked_records file patterns instruments lent) lent
 
-  pub told : {v : Verdict} {patterns' instruments' : List ℕ} {count : ℕ} {lent' : List SampleRow}
-      → v ≡ verdict_of beside → patterns' ≡ patterns_after beside patterns → instruments' ≡ instruments_after beside instruments
-      → count ≡ samples_of v → lent' ≡ in_front (take count (records_in file)) lent → RecordsTold v patterns' instruments' lent'
-  told e p i n s = record {
-    answers = e ∙ ap verdict_of room_same;
+  told : {v : Result Module Refusal} {patterns' instruments' : List ℕ} {lent' : List SampleRow}
+      → v ≡ outcome code_module beside → patterns' ≡ patterns_after beside patterns → instruments' ≡ instruments_after beside instruments
+      → lent' ≡ records_after beside lent → RecordsTold v patterns' instruments' lent'
+  told e p i s = record {
+    answers = e ∙ ap (outcome code_module) room_same;
     leaves_patterns = p ∙ ap (λ (a : Answer CheckReport). patterns_after a patterns) room_same;
     leaves_instruments = i ∙ ap (λ (a : Answer CheckReport). instruments_after a instruments) room_same;
-    leaves_records =
-        s
-        ∙ ap (λ (count : ℕ). in_front (take count (records_in file)) lent) (n ∙ ap samples_of e)
-        ∙ stored_all
-        ∙ ap (λ (a : Answer CheckReport). records_after a lent) room_same;
+    leaves_records = s ∙ ap (λ (a : Answer CheckReport). records_after a lent) room_same;
   }
+
+  -- accepted, as many as were counted
+  module _ {x : Module} (e : Ok x ≡ outcome code_module beside) where
+    pub count_fits : (x.samples ≤ length (records_in file)) × (x.samples ≤ length lent)
+    count_fits = go beside refl e
+      where
+        go : (a : Answer CheckReport) → beside ≡ a → Ok x ≡ outcome code_module a → (x.samples ≤ length (records_in file)) × (x.samples ≤ length lent)
+        go (gives c) q v =
+            into_accepted _ file c q λ found room.
+            let many = ap Module.samples (same_module v) in (
+              omega (arith, many, records_length file, ap (λ (g : Got Found). length (list_in sample_rows g)) found),
+              omega (arith, many, room.2),
+            )
+        go (refuses r) q v = never v
+
+    pub told_stored : {patterns' instruments' : List ℕ} {lent' : List SampleRow}
+        → patterns' ≡ patterns_after beside patterns → instruments' ≡ instruments_after beside instruments
+        → lent' ≡ in_front (take x.samples (records_in file)) lent → RecordsTold (Ok x) patterns' instruments' lent'
+    told_stored p i s = told e p i (s ∙ go beside refl e)
+      where
+        go : (a : Answer CheckReport) → beside ≡ a → Ok x ≡ outcome code_module a → in_front (take x.samples (records_in file)) lent ≡ records_after a lent
+        go (gives c) q v = into_accepted _ file c q λ found room.
+            let all : take (length (sample_rows c.found)) (records_of (sample_rows c.found)) ≡ records_of (sample_rows c.found) =
+            take_all (length (sample_rows c.found)) (records_of (sample_rows c.found)) (omega (arith, length-map (sample_rows c.found) code_row)) in
+            ap₂ (λ (n : ℕ) (g : Got Found). in_front (take n (records_of (list_in sample_rows g))) lent) (ap Module.samples (same_module v)) found
+            ∙ ap (λ (rows : List SampleRow). in_front rows lent) all
+        go (refuses r) q v = never v
 
 -- A row asked for, by the test that is made
 module _ (records : List SampleRow) (number : ℕ) where
-  pub row_lent : number < length records → asked.Row (get_or records number no_record) ≡ row_asked_of (row_asking_in (rows_of records) number)
+  pub row_lent : number < length records → Ok (get_or records number no_record) ≡ outcome code_row (row_asking_in (rows_of records) number)
   unfolding row_asking
   row_lent h =
       sym (
-      ap row_asked_of (answer_gives _ (pass _ (omega (arith, length-map records row_of), tt) refl))
-      ∙ ap (λ (row : paper.SampleRow). asked.Row (code_row row)) (get_or-map row_of records number no_record))
+      ap (outcome code_row) (answer_gives _ (pass _ (omega (arith, length-map records row_of), tt) refl))
+      ∙ ap (λ (row : paper.SampleRow). Ok (code_row row)) (get_or-map row_of records number no_record))
 
-  pub row_beyond : length records ≤ number → asked.Refused (code_refusal (16 at 0)) ≡ row_asked_of (row_asking_in (rows_of records) number)
+  pub row_beyond : length records ≤ number → Err (code_refusal (16 at 0)) ≡ outcome code_row (row_asking_in (rows_of records) number)
   unfolding row_asking
-  row_beyond h = sym (ap row_asked_of (answer_refuses _ (tests_fail _ _ (refl, tt) (λ all. omega (arith, all.0, length-map records row_of)))))
+  row_beyond h = sym (ap (outcome code_row) (answer_refuses _ (tests_fail _ _ (refl, tt) (λ all. omega (arith, all.0, length-map records row_of)))))
+
+-- as a look-up, by what `get` gives
+looked_up : {X : Type 0} (xs : List X) (i : ℕ) (o : Option (Bor X)) → IsItemAt xs i o → option_copied o ≡ slice_get xs i
+looked_up xs i None h = sym (slice_get_past xs i h.3)
+looked_up xs i (Some x) h = sym (slice_get_read xs (length xs) i x.now refl h.3.0 h.1)
+
+pub row_asked : (records : List SampleRow) (number : ℕ) (o : Option (Bor SampleRow)) → IsItemAt records number o
+    → ok_or (option_copied o) (code_refusal (16 at 0)) ≡ outcome code_row (row_asking_in (rows_of records) number)
+row_asked records number o h = ap (λ (row : Option SampleRow). ok_or row (code_refusal (16 at 0))) (looked_up records number o h) ∙ go (ltb number (length records)) refl
+  where
+    go : (b : Bool) → ltb number (length records) ≡ b
+        → ok_or (slice_get records number) (code_refusal (16 at 0)) ≡ outcome code_row (row_asking_in (rows_of records) number)
+    go true e = rw (slice_get-get_or records number no_record (ltb-true _ _ e)) (row_lent records number (ltb-true _ _ e))
+    go false e = rw (slice_get_past records number (ltb-false _ _ e)) (row_beyond records number (ltb-false _ _ e))
+
+-- None was given back, so none is asked for
+pub none_given : (file : List ℕ) {asked : Result SampleRow Refusal} {refusal : Refusal} → asked ≡ Err refusal
+    → Err (code_refusal (16 at 0)) ≡ outcome code_stretch (asking_rows file (rows_given asked) 0)
+none_given file e = rw e (sym (ask_unlent file 0 0 (record { place = no_row.data_place; length = no_row.size }) (omega arith)))

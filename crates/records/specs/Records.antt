@@ -1,18 +1,14 @@
 -- "The sample table is a lent row of records, one to a sample": the paper's rows, as the code has them.
-use Rattle.std.specs.Prelude.{ℕ, ◌+◌, List, [], ◌∷◌, map, ℤ, pos, length, get_or, replicate}
+use Rattle.std.specs.Prelude.{ℕ, ◌+◌, List, [], ◌∷◌, map, ℤ, pos, length, get_or, replicate, Result, Ok, Err}
 use Rattle.xm.specs.Got.{got, ◌>>◌, checked, present, ◌at◌, list_in}
 use Rattle.xm.specs.Answer.{Answer, gives, refuses, answered, numbers, after}
 use Rattle.xm.specs.Module.{read_file}
 use Rattle.xm.specs.Table.{CheckReport, sample_rows, sample_stride, sample_tunes, room_with, checking_into}
 use Rattle.xm.specs.Table as paper
 use Rattle.xm.specs.Asking.{no_row}
-use Rattle.refusal.specs.Refusal.{code_refusal}
-use Rattle.walk.specs.declared.Verdict.{Verdict}
-use Rattle.walk.specs.declared.Verdict.TheVariants as verdict
+use Rattle.refusal.specs.declared.Refusal.{Refusal}
 use Rattle.rows.specs.Place.{code_row, code_row_numbers, tunes_of}
 use Rattle.rows.specs.declared.sample.SampleRow.{SampleRow}
-use Rattle.records.specs.declared.row.RowAsked.{RowAsked}
-use Rattle.records.specs.declared.row.RowAsked.TheVariants as asked
 
 -- A record as the paper's row, and rows; `sample_row` goes the other way.
 abbrev pub row_of : SampleRow → paper.SampleRow
@@ -49,11 +45,6 @@ checked_records file patterns instruments records = checking_into (room_with pat
 abbrev pub records_after : Answer CheckReport → (lent : List SampleRow) → List SampleRow
 records_after = after (λ (c : CheckReport). records_of (sample_rows c.found))
 
--- How many rows an answer gives.
-abbrev pub samples_of : Verdict → ℕ
-samples_of (verdict.Accepted found) = found.samples
-samples_of (verdict.Refused refusal) = 0
-
 -- A row asked for by number: "a number at or above the rows lent" is out of its range.
 unfoldable pub row_asking : (rows number : ℕ) (row : paper.SampleRow) → Answer paper.SampleRow
 row_asking rows number row = answered (λ row used. row) (do
@@ -63,24 +54,20 @@ row_asking rows number row = answered (λ row used. row) (do
 abbrev pub row_asking_in : (rows : List paper.SampleRow) (number : ℕ) → Answer paper.SampleRow
 row_asking_in rows number = row_asking (length rows) number (get_or rows number no_row)
 
-abbrev pub row_asked_of : Answer paper.SampleRow → RowAsked
-row_asked_of (gives row) = asked.Row (code_row row)
-row_asked_of (refuses r) = asked.Refused (code_refusal r)
-
 -- What was given back, as a table of its own: of this one row, or of none.
-abbrev pub rows_given : RowAsked → List paper.SampleRow
-rows_given (asked.Row row) = row_of row ∷ []
-rows_given (asked.Refused refusal) = []
+abbrev pub rows_given : Result SampleRow Refusal → List paper.SampleRow
+rows_given (Ok row) = row_of row ∷ []
+rows_given (Err refusal) = []
 
 -- The paper's numbers for each case: number and place of the refusal, header place, data place, length, width, loop kind, loop start, loop
 -- length; and the two tunes.
-abbrev pub row_asked_numbers : RowAsked → List ℕ
-row_asked_numbers (asked.Row row) = 0 ∷ 0 ∷ code_row_numbers row
-row_asked_numbers (asked.Refused refusal) = refusal.number ∷ refusal.place ∷ replicate sample_stride 0
+abbrev pub row_asked_numbers : Result SampleRow Refusal → List ℕ
+row_asked_numbers (Ok row) = 0 ∷ 0 ∷ code_row_numbers row
+row_asked_numbers (Err refusal) = refusal.number ∷ refusal.place ∷ replicate sample_stride 0
 
-abbrev pub row_asked_tunes : RowAsked → List ℤ
-row_asked_tunes (asked.Row row) = tunes_of row
-row_asked_tunes (asked.Refused refusal) = pos 0 ∷ pos 0 ∷ []
+abbrev pub row_asked_tunes : Result SampleRow Refusal → List ℤ
+row_asked_tunes (Ok row) = tunes_of row
+row_asked_tunes (Err refusal) = pos 0 ∷ pos 0 ∷ []
 
 -- and the same of the definition's answer.
 abbrev pub row_numbers : Answer paper.SampleRow → List ℕ

@@ -1,16 +1,17 @@
 -- What code that goes through tests in order needs of them. Assumes nothing.
 use Prim.Native.Nat.{ℕ, zero, suc, ◌≤◌}
 use mathlib.Core.Bool.{Bool, true, false, not, cond}
-use mathlib.Core.List.{List, [], ◌∷◌}
-use mathlib.Core.Path.{◌≡◌, refl, sym, ap₂, ◌∙◌}
+use mathlib.Core.List.{List, [], ◌∷◌, ◌++◌}
+use mathlib.Core.Path.{◌≡◌, refl, sym, ap, ap₂, ◌∙◌}
 use native.Mathlib.Omega.{arith}
-use lib.ListN.{take, drop}
-use lib.Seq.{take-nil}
-use borrow.Author.Tests.{not-true, not-false}
+use Rattle.std.specs.Prelude.{Ok, Err}
+use borrow.Author.Tests.{not-true, not-false, eqb-true, eqb-false}
+use lib.Dec.{eqb}
 use Rattle.xm.specs.Got.{Got, refused, ◌>>◌, Test, passes, all_pass, refusal_of, Holds, AllHold, checked, ◌at◌}
 use Rattle.xm.specs.Format.{All}
 use Rattle.xm.proofs.Got.{no_true, holds-passes, passes-holds, all_pass_lem, all_hold, test_holds, test_fails}
-use Rattle.refusal.specs.Test.{first_refusal}
+use Rattle.refusal.specs.Test.{number_of, cause_of, tested}
+use Rattle.refusal.specs.declared.Cause.{Cause}
 
 -- A test that fails does not pass
 never_true : (b : Bool) → (b ≡ true → ⊥) → b ≡ false
@@ -34,50 +35,65 @@ not_all_pass ts f = never_true (all_pass ts) (λ e. f (all_hold ts e))
 pub not_all_hold : (ts : List Test) → all_pass ts ≡ false → AllHold ts → ⊥
 not_all_hold ts e h = no_true (sym e ∙ all_pass_lem ts h)
 
--- The first n tests hold, and of the k that follow, which all have one number, one fails
-pub refusal_among : (n k : ℕ) (ts : List Test) {number : ℕ} → AllHold (take n ts) → All (λ (t : Test). (refusal_of t).number ≡ number) (take k (drop n ts))
-    → (AllHold (take k (drop n ts)) → ⊥) → first_refusal ts ≡ number
-unfolding first_refusal
-refusal_among zero zero ts h a f = absurd (f tt)
-refusal_among zero (suc k) [] h a f = absurd (f tt)
-refusal_among zero (suc k) (t ∷ ts) {number} h a f = go (refusal_among zero k ts {number = number} tt a.1) (passes t) refl
+-- Tests that are tried in order: all pass
+pub tested_lem : (ts : List Test) → AllHold ts → tested ts ≡ Ok tt
+tested_lem [] h = refl
+tested_lem (t ∷ ts) h = rw (holds-passes t h.0) (tested_lem ts h.1)
+
+pub tested_holds : (ts : List Test) → tested ts ≡ Ok tt → AllHold ts
+tested_holds [] e = tt
+tested_holds (t ∷ ts) e = go (λ e. tested_holds ts e) (passes t) refl e
   where
-    go : ((AllHold (take k ts) → ⊥) → first_refusal ts ≡ number) → (b : Bool) → passes t ≡ b → cond b (first_refusal ts) (refusal_of t).number ≡ number
-    go rest true e = rest (λ hs. f (passes-holds t e, hs))
-    go rest false e = a.0
-refusal_among (suc n) k [] h a f = absurd (f (rw take-nil tt))
-refusal_among (suc n) k (t ∷ ts) h a f = rw (holds-passes t h.0) (refusal_among n k ts h.1 a f)
-
-pub refusal_at : (n : ℕ) (ts : List Test) {number : ℕ} → AllHold (take n ts) → All (λ (t : Test). (refusal_of t).number ≡ number) (take 1 (drop n ts))
-    → (AllHold (take 1 (drop n ts)) → ⊥) → first_refusal ts ≡ number
-refusal_at n ts = refusal_among n 1 ts
-
-pub refusal_none : (ts : List Test) → AllHold ts → first_refusal ts ≡ 0
-unfolding first_refusal
-refusal_none [] h = refl
-refusal_none (t ∷ ts) h = rw (holds-passes t h.0) (refusal_none ts h.1)
-
--- Of tests that all refuse at one place, and by no number 0: the number is 0 if all hold, and else is the refusal's
-abbrev pub RefuseAt : (place : ℕ) → List Test → Type 0
-RefuseAt place ts = All (λ (t : Test). (1 ≤ (refusal_of t).number) × ((refusal_of t).place ≡ place)) ts
-
-pub refusal_holds : (place : ℕ) (ts : List Test) {refusal : ℕ} → RefuseAt place ts → refusal ≡ first_refusal ts → refusal ≡ 0 → AllHold ts
-unfolding first_refusal
-refusal_holds place [] a e z = tt
-refusal_holds place (t ∷ ts) {refusal} a e z = go (λ e. refusal_holds place ts a.1 e z) (passes t) refl e
-  where
-    go : (refusal ≡ first_refusal ts → AllHold ts) → (b : Bool) → passes t ≡ b → refusal ≡ cond b (first_refusal ts) (refusal_of t).number → Holds t × AllHold ts
+    go : (tested ts ≡ Ok tt → AllHold ts) → (b : Bool) → passes t ≡ b → cond b (tested ts) (Err (cause_of (refusal_of t).number)) ≡ Ok tt → Holds t × AllHold ts
     go rest true q e = (passes-holds t q, rest e)
-    go rest false q e = absurd (omega (arith, a.0.0))
+    go rest false q e = absurd (no_true (cc))
 
-pub refusal_refuses : {A : Type 0} (place : ℕ) (ts : List Test) (g : Got A) {refusal : ℕ} → RefuseAt place ts → refusal ≡ first_refusal ts → (refusal ≡ 0 → ⊥)
-    → (checked ts >> g) ≡ refused (refusal at place)
-unfolding first_refusal
-refusal_refuses place [] g a e f = absurd (f e)
-refusal_refuses {A} place (t ∷ ts) g {refusal} a e f = go (λ e. refusal_refuses place ts g a.1 e f) (passes t) refl e
+-- behind some that pass, those that follow decide; and one that does not pass is the answer
+pub tested_behind : (ts us : List Test) → tested ts ≡ Ok tt → tested (ts ++ us) ≡ tested us
+tested_behind [] us e = refl
+tested_behind (t ∷ ts) us e =
+    let h = tested_holds (t ∷ ts) e in
+    rw (holds-passes t h.0) (tested_behind ts us (tested_lem ts h.1))
+
+pub tested_first : (ts us : List Test) {cause : Cause} → tested ts ≡ Err cause → tested (ts ++ us) ≡ Err cause
+tested_first [] us e = absurd (no_true (cc))
+tested_first (t ∷ ts) us {cause} e = go (λ e. tested_first ts us e) (passes t) refl e
   where
-    go : (refusal ≡ first_refusal ts → (checked ts >> g) ≡ refused (refusal at place)) → (b : Bool) → passes t ≡ b
-        → refusal ≡ cond b (first_refusal ts) (refusal_of t).number
-        → (checked (t ∷ ts) >> g) ≡ refused (refusal at place)
+    go : (tested ts ≡ Err cause → tested (ts ++ us) ≡ Err cause) → (b : Bool) → passes t ≡ b
+        → cond b (tested ts) (Err (cause_of (refusal_of t).number)) ≡ Err cause → tested ((t ∷ ts) ++ us) ≡ Err cause
+    go rest true q e = rw q (rest e)
+    go rest false q e = rw q e
+
+-- Of tests that all refuse at one place, and by a number that a cause has: what their cause refuses by
+abbrev pub RefuseAt : (place : ℕ) → List Test → Type 0
+RefuseAt place ts = All (λ (t : Test). (1 ≤ (refusal_of t).number) × ((refusal_of t).number ≤ 16) × ((refusal_of t).place ≡ place)) ts
+
+abbrev UpTo : (P : ℕ → Type 0) (most : ℕ) → Type 0
+UpTo P zero = Unit {0}
+UpTo P (suc k) = P (suc k) × UpTo P k
+
+up_to : (P : ℕ → Type 0) (n most : ℕ) → UpTo P most → 1 ≤ n → n ≤ most → P n
+up_to P n zero all l m = absurd (omega arith)
+up_to P n (suc k) all l m = go (λ m. up_to P n k all.1 l m) (eqb n (suc k)) refl
+  where
+    go : (n ≤ k → P n) → (b : Bool) → eqb n (suc k) ≡ b → P n
+    go rest true e = rw (eqb-true n (suc k) e) all.0
+    go rest false e = rest (omega (arith, eqb-false n (suc k) e))
+
+number_cause : (n : ℕ) → 1 ≤ n → n ≤ 16 → number_of (cause_of n) ≡ n
+number_cause n l m =
+    up_to (λ (n : ℕ). number_of (cause_of n) ≡ n) n 16
+    (refl, (refl, (refl, (refl, (refl, (refl, (refl, (refl, (refl, (refl, (refl, (refl, (refl, (refl, (refl, (refl, tt)))))))))))))))) l m
+
+pub tested_refuses : {A : Type 0} (place : ℕ) (ts : List Test) (g : Got A) {cause : Cause} → RefuseAt place ts → tested ts ≡ Err cause
+    → (checked ts >> g) ≡ refused (number_of cause at place)
+tested_refuses place [] g a e = absurd (no_true (cc))
+tested_refuses {A} place (t ∷ ts) g {cause} a e = go (λ e. tested_refuses place ts g a.1 e) (passes t) refl e
+  where
+    go : (tested ts ≡ Err cause → (checked ts >> g) ≡ refused (number_of cause at place)) → (b : Bool) → passes t ≡ b
+        → cond b (tested ts) (Err (cause_of (refusal_of t).number)) ≡ Err cause
+        → (checked (t ∷ ts) >> g) ≡ refused (number_of cause at place)
     go rest true q e = test_holds t ts g (passes-holds t q) ∙ rest e
-    go rest false q e = test_fails t ts g (λ h. no_true (sym q ∙ holds-passes t h)) ∙ ap₂ {C = Got A} (λ (n p : ℕ). refused (n at p)) (sym e) a.0.1
+    go rest false q e =
+        test_fails t ts g (λ h. no_true (sym q ∙ holds-passes t h))
+        ∙ ap₂ {C = Got A} (λ (n p : ℕ). refused (n at p)) (sym (number_cause (refusal_of t).number a.0.0 a.0.1) ∙ cc) a.0.2

@@ -11,11 +11,11 @@ use Rattle.xm.proofs.Walk.{PartsLeft, left_start, left_on, left_out, left_end}
 use Rattle.refusal.specs.Refusal.{step_refusal, place_step}
 use Rattle.refusal.specs.declared.Refusal.{Refusal}
 use Rattle.refusal.specs.declared.Step.{Step}
-use Rattle.refusal.specs.declared.Step.TheVariants.{Next, Refused}
+use Rattle.refusal.specs.declared.Step.TheVariants.{Given, Refused}
 use Rattle.refusal.proofs.Steps.{place_refused}
 
 -- A step that is refused is the answer, if its reading's refusal is
-pub refused_on : {A B : Type 0} (place from : ℕ) (g : Got A) (whole : Got B) {step : Step} {f : Refusal} → step ≡ place_step place g → step ≡ Refused f
+pub refused_on : {A B : Type 0} (place from : ℕ) (g : Got A) (whole : Got B) {step : Step ℕ} {f : Refusal} → step ≡ place_step place g → step ≡ Refused f
     → ((r : paper.Refusal) → g ≡ refused r → whole ≡ refused r) → step ≡ place_step from whole
 refused_on place from g whole e told k = told ∙ sym (ap (place_step from) (k _ (place_refused place g e told (sym (ap step_refusal told)))))
 
@@ -33,8 +33,8 @@ module _ {H I A : Type 0} (F : Format H I A) (hs : List H) (file : List ℕ) (fr
     pub reached_end : length hs ≤ j → each_read F hs from (drop from file) ≡ got w.done (place - from)
     reached_end h = left_end F hs file from j place w.done h w.left
 
-    pub reached_place : length hs ≤ j → Next place ≡ place_step from (each_read F hs from (drop from file))
-    reached_place h = ap Next (omega (arith, w.left.from)) ∙ sym (ap (place_step from) (reached_end h))
+    pub reached_place : length hs ≤ j → Given place ≡ place_step from (each_read F hs from (drop from file))
+    reached_place h = ap Given (omega (arith, w.left.from)) ∙ sym (ap (place_step from) (reached_end h))
 
     module _ (h : H) (in_range : j < length hs) (same : get_or hs j h ≡ h) where
       pub reached_on : (More : List I → Type 0) {i : I} {n next : ℕ} → F.read h place (drop place file) ≡ got i n → next ≡ place + n

@@ -9,7 +9,7 @@ ghost use Rattle.xm.specs.Cell.{cell_size, five, length_by, field_by, cell_at, b
 ghost use Rattle.cell.specs.Over.{over_most, Over};
 ghost use Rattle.rewrite.specs.Rewrite.{Moved};
 
-use cell::read::{Field, field_at, field_over, first_field, kept_in, next_field, plain_by};
+use cell::read::{Field, field_at, field_over, fields_of, kept_in, plain_by};
 use cell::write::{first_place, put, put_over, write_cell};
 
 // The lead byte of a marked cell, by the place of the first field and those behind each: a place moved on by a field's bit.
@@ -33,6 +33,7 @@ fn put_field(stored: &[u8], field: Field, place: usize, out: &mut [u8]) -> usize
 }
 
 // The same where the next one goes over it if it is 0.
+// Beside `put_field`, since a choice of whether to store would be a jump.
 fn put_field_over(stored: &[u8], field: Field, place: usize, out: &mut [u8]) -> usize
     requires place_in_bounds { field.place < length stored.now }
     requires place_in_bounds_2 { place < length out.old }
@@ -44,6 +45,16 @@ fn put_field_over(stored: &[u8], field: Field, place: usize, out: &mut [u8]) -> 
     put_over(field_over(stored, field.place, field.bits), place, out)
 }
 
+// The five bytes from a place on, as they stand.
+// Five bytes in a stored form of no fixed length.
+fn five_at(stored: &[u8], place: usize) -> &[u8; 5]
+    requires { place + cell_size ≤ length stored.now }
+    ensures { result.now ≡ five (drop place stored.now) }
+{
+    let (cells, _) = stored[place..place + 5].as_chunks::<5>();
+    &cells[0]
+}
+
 // The stored cell at a place, which stands there whole, in its shortest form at the front of out; its length. If all five fields are stored
 // they stand as those of a lent cell do; if not it is marked.
 pub fn rewrite_cell(stored: &[u8], place: usize, out: &mut [u8]) -> usize
@@ -52,60 +63,46 @@ pub fn rewrite_cell(stored: &[u8], place: usize, out: &mut [u8]) -> usize
     ensures value { result ≡ length (write_cell (cell_at (drop place stored.now))) }
     ensures out_after { out.new ≡ in_front (write_cell (cell_at (drop place stored.now))) out.old }
 {
-    let first = first_field(stored[place], place);
-    let from = first.place;
-    if first.bits % 32 == 31 {
-        return write_cell(stored, from, out);
+    let fields = fields_of(stored[place], place);
+    if fields.note.bits % 32 == 31 {
+        return write_cell(five_at(stored, fields.note.place), out);
     }
-    let p1 = put_field(stored, first, 1, out);
-    let second = next_field(first);
-    let p2 = put_field(stored, second, p1, out);
-    let third = next_field(second);
-    let p3 = put_field(stored, third, p2, out);
-    let fourth = next_field(third);
-    let p4 = put_field(stored, fourth, p3, out);
-    let fifth = next_field(fourth);
-    let p5 = put_field(stored, fifth, p4, out);
+    let p1 = put_field(stored, fields.note, 1, out);
+    let p2 = put_field(stored, fields.instrument, p1, out);
+    let p3 = put_field(stored, fields.volume, p2, out);
+    let p4 = put_field(stored, fields.effect, p3, out);
+    let p5 = put_field(stored, fields.parameter, p4, out);
     out[0] = lead_by(1, p1, p2, p3, p4, p5);
     p5
 }
 
-// Both of two tests, which were both made: it takes no jump.
-fn both(a: bool, b: bool) -> bool
-    ensures { result ≡ (a && b) }
-{
-    a && b
-}
-
-// Whether a stored cell goes plain: all five fields are stored, and go so.
+// Whether a stored cell goes plain: all five fields are stored, and go so. Both tests are made, with no jump between them.
+// Five bytes in a stored form of no fixed length.
 fn stored_plain(stored: &[u8], first: Field) -> bool
     requires { first.place + cell_size ≤ length stored.now }
     ensures { result ≡ (eqb (first.bits % 32) 31 && plain_by (get_or stored.now first.place 0) (length (kepts (five (drop first.place stored.now))))) }
 {
     let from = first.place;
-    let plain = plain_by(stored[from], kept_in(stored, from));
-    both(first.bits % 32 == 31, plain)
+    let plain = plain_by(stored[from], kept_in(five_at(stored, from)));
+    (first.bits % 32 == 31) & plain
 }
 
 // As `rewrite_cell` where six bytes stand at the place, with no branch: it may change the bytes behind the cell too, which the caller still
 // has to write. The lead byte of a plain one goes there.
+// Its place is one clause: in a struct every other clause would read through it.
 pub fn rewrite_over(stored: &[u8], place: usize, out: &mut [u8]) -> usize
     requires place_in_bounds { place + 6 ≤ length stored.now }
     requires over_most_in_bounds { over_most ≤ length out.old }
     ensures value { result ≡ length (write_cell (cell_at (drop place stored.now))) }
     ensures over { Over (write_cell (cell_at (drop place stored.now))) out.old out.new }
 {
-    let first = first_field(stored[place], place);
-    let p0 = first_place(stored_plain(stored, first));
-    let p1 = put_field_over(stored, first, p0, out);
-    let second = next_field(first);
-    let p2 = put_field_over(stored, second, p1, out);
-    let third = next_field(second);
-    let p3 = put_field_over(stored, third, p2, out);
-    let fourth = next_field(third);
-    let p4 = put_field_over(stored, fourth, p3, out);
-    let fifth = next_field(fourth);
-    let p5 = put_field_over(stored, fifth, p4, out);
+    let fields = fields_of(stored[place], place);
+    let p0 = first_place(stored_plain(stored, fields.note));
+    let p1 = put_field_over(stored, fields.note, p0, out);
+    let p2 = put_field_over(stored, fields.instrument, p1, out);
+    let p3 = put_field_over(stored, fields.volume, p2, out);
+    let p4 = put_field_over(stored, fields.effect, p3, out);
+    let p5 = put_field_over(stored, fields.parameter, p4, out);
     out[5 - 5 * p0] = lead_by(p0, p1, p2, p3, p4, p5);
     p5
 }

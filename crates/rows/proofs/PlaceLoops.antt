@@ -49,6 +49,9 @@ module _ (file : List ℕ) where
         let none = reads_none pattern_format (channels_at file) file (rw z at w.reads) in
         (none.0, rw none.1 w.after)
 
+    pub skipping_left : {other : ℕ} → other ≡ left → Skipping file other place parts
+    skipping_left e = rw e w
+
     module _ (l : 0 < left) where
       pub skipping_room : place + least_pattern ≤ length file
       skipping_room = reads_next pattern_format (channels_at file) file w.reads l λ i n more ei ep rest.
@@ -84,6 +87,9 @@ module _ (file : List ℕ) (size end : ℕ) {left head place : ℕ} (w : Samples
   pub left_end : left ≡ 0 → place ≡ end
   unfolding data_before
   left_end z = let e : place + 0 ≡ end = rw z at w.same in omega arith
+
+  pub left_less : {other : ℕ} → other ≡ left → SamplesLeft file size end other head place
+  left_less e = rw e w
 
   module _ (l : 0 < left) where
     pub left_room : head + size ≤ length file

@@ -1,7 +1,7 @@
 // The row of a sample, found from the file alone.
 ghost use Rattle.std.specs.Prelude.{◌≡◌, ◌+◌, ◌*◌, ◌<◌, ◌≤◌, ◌^◌, cond, length, get_or, drop};
 ghost use Rattle.xm.specs.Got.{list_in};
-ghost use Rattle.xm.specs.Sample.{head_bytes, wide_by, in_samples};
+ghost use Rattle.xm.specs.Sample.{head_bytes, in_samples};
 ghost use Rattle.xm.specs.Module.{file_most, read_file};
 ghost use Rattle.xm.specs.Lay.{lay};
 ghost use Rattle.xm.specs.Table.{sample_row_at, sample_rows, sample_stride, tune_stride};
@@ -9,18 +9,18 @@ ghost use Rattle.xm.specs.Asking.{no_row};
 ghost use Rattle.rows.specs.Place.{code_row, code_row_numbers, tunes_of};
 ghost use Rattle.rows.specs.Sought.{sought_from, Seeks};
 
+use crate::accepted::Accepted;
 use crate::place::first_instrument;
 use asking::SAMPLE_STRIDE;
-use heads::{data_size, loops, sample_head};
+use heads::sample_head;
 use steps::instrument::instrument_head;
-use steps::kind::is_stripped;
 
 // Tunes to a row.
 pub const TUNE_STRIDE: usize = 2;
 
 // Header place, data place, length in bytes, width (8 or 16); loop kind (0 none, 1 forward, 2 both ways), loop start and loop length in
-// samples; finetune, relative note.
-#[derive(Clone, Copy)]
+// samples; finetune, relative note. Width and loop kind are numbers, since any rows may be lent.
+#[derive(Clone, Copy, Debug, PartialEq, Eq)]
 pub struct SampleRow {
     pub header_place: u32,
     pub data_place: u32,
@@ -33,21 +33,22 @@ pub struct SampleRow {
     pub relative_note: i8,
 }
 
-// Bit 4 of the type means 16-bit.
-fn width_of(form: usize) -> u32
-    ensures { result ≡ cond (wide_by form) 16 8 }
+// How many bits a value takes.
+fn width_of(wide: bool) -> u32
+    ensures { result ≡ cond wide 16 8 }
 {
-    if form / 16 % 2 == 1 { 16 } else { 8 }
+    if wide { 16 } else { 8 }
 }
 
 // So many bytes in samples: of 16 bits each takes two.
-fn in_samples(form: usize, bytes: usize) -> usize
-    ensures { result ≡ in_samples (cond (wide_by form) 16 8) bytes }
+fn in_samples(wide: bool, bytes: usize) -> usize
+    ensures { result ≡ in_samples (cond wide 16 8) bytes }
 {
-    if form / 16 % 2 == 1 { bytes / 2 } else { bytes }
+    if wide { bytes / 2 } else { bytes }
 }
 
 // A number of a sample's loop: 0 if it doesn't loop.
+// A plain test, and no kind.
 fn loop_number(looping: bool, number: u32) -> u32
     ensures { result ≡ cond looping number 0 }
 {
@@ -55,6 +56,7 @@ fn loop_number(looping: bool, number: u32) -> u32
 }
 
 // The row of a sample, by its header and where its data begin.
+// The file's length bounds the sums: in a struct every clause would read the file through it.
 fn sample_row(file: &[u8], head: usize, size: usize, data_place: usize) -> SampleRow
     requires file_len_bound { length file.now ≤ file_most }
     requires size_in_bounds { head + size ≤ length file.now }
@@ -62,15 +64,16 @@ fn sample_row(file: &[u8], head: usize, size: usize, data_place: usize) -> Sampl
     ensures { result ≡ code_row (sample_row_at head data_place (head_bytes size (drop head file.now))) }
 {
     let sample = sample_head(file, head, size);
-    let looping = loops(sample.form, sample.loop_length);
+    let wide = sample.is_wide();
+    let looping = sample.loops();
     SampleRow {
         header_place: head as u32,
         data_place: data_place as u32,
-        length: data_size(sample.kind, sample.length) as u32,
-        width: width_of(sample.form),
-        loop_kind: loop_number(looping, (sample.form % 4) as u32),
-        loop_start: loop_number(looping, in_samples(sample.form, sample.loop_start) as u32),
-        loop_length: loop_number(looping, in_samples(sample.form, sample.loop_length) as u32),
+        length: sample.data_size() as u32,
+        width: width_of(wide),
+        loop_kind: loop_number(looping, sample.loop_bits() as u32),
+        loop_start: loop_number(looping, in_samples(wide, sample.loop_start) as u32),
+        loop_length: loop_number(looping, in_samples(wide, sample.loop_length) as u32),
         finetune: sample.finetune,
         relative_note: sample.relative_note,
     }
@@ -78,7 +81,7 @@ fn sample_row(file: &[u8], head: usize, size: usize, data_place: usize) -> Sampl
 
 // A sample sought: its number, how many samples its instrument has from it on, where its header stands, H, and where its data begin.
 // With none left, the next instrument stands there.
-#[derive(Clone, Copy)]
+#[derive(Clone, Copy, Debug, PartialEq, Eq)]
 pub struct Sought {
     pub number: usize,
     pub left: usize,
@@ -88,7 +91,7 @@ pub struct Sought {
 }
 
 // The row of the sample sought, and from where the next one is sought.
-#[derive(Clone, Copy)]
+#[derive(Clone, Copy, Debug, PartialEq, Eq)]
 pub struct RowStep {
     pub row: SampleRow,
     pub next: Sought,
@@ -115,8 +118,7 @@ pub fn first_sought(file: &[u8], count: usize) -> Sought
     if count == 0 {
         return sought_from(0);
     }
-    let place = first_instrument(file);
-    sought_from(place)
+    sought_from(first_instrument(Accepted { file }))
 }
 
 // The row of a sample of an accepted file: behind an instrument's last one, only the instruments without any are stepped over.
@@ -132,7 +134,7 @@ pub fn row_step(file: &[u8], from: Sought) -> RowStep
     let mut size = from.head_size;
     let mut place = from.data_place;
     while left == 0 {
-        let instrument = instrument_head(file, place, is_stripped(file));
+        let instrument = instrument_head(file, place);
         left = instrument.samples;
         head = instrument.heads;
         size = instrument.head_size;
@@ -146,13 +148,11 @@ pub fn row_step(file: &[u8], from: Sought) -> RowStep
         head_size: size,
         data_place: place + row.length as usize,
     };
-    RowStep {
-        row: row,
-        next: next,
-    }
+    RowStep { row, next }
 }
 
-// Stores the row of a sample: seven numbers to a row, and apart its two tunes.
+// Stores the row of a sample: seven numbers to a row, and apart its two tunes, as C lends them. By index: as_chunks_mut does not say what
+// the tables end as.
 pub fn put_sample(samples: &mut [u32], tunes: &mut [i8], number: usize, row: SampleRow)
     requires sample_stride_in_bounds { sample_stride * number + sample_stride ≤ length samples.old }
     requires tune_stride_in_bounds { tune_stride * number + tune_stride ≤ length tunes.old }
@@ -168,8 +168,6 @@ pub fn put_sample(samples: &mut [u32], tunes: &mut [i8], number: usize, row: Sam
     samples[to + 5] = row.loop_start;
     samples[to + 6] = row.loop_length;
     let at = TUNE_STRIDE * number;
-    let finetune = row.finetune;
-    let relative_note = row.relative_note;
-    tunes[at] = finetune;
-    tunes[at + 1] = relative_note;
+    tunes[at] = row.finetune;
+    tunes[at + 1] = row.relative_note;
 }

@@ -23,7 +23,9 @@ use Rattle.cell.proofs.ReadLaws.{empty_length, empty_cell}
 use Rattle.cell.proofs.ReadRuns.{First, run_first, cells_first}
 use Rattle.cell.proofs.WriteLaws.{empty_written}
 use Rattle.cell.proofs.WriteRuns.{writing_room, writing_part, writing_over, writing_empty}
-use Rattle.shortest.specs.Found.{stored_pressed}
+use Rattle.mark.specs.declared.Mark.{Mark}
+use Rattle.mark.specs.declared.Mark.TheVariants.{Again, Nothing}
+use Rattle.shortest.specs.Found.{stored_pressed, Known}
 
 -- The state of the loop: `left` cells are still to be written again, from `place` on
 pub record Rewriting (stored lent goal out : List ℕ) (place to left : ℕ) : Type 0 where
@@ -31,10 +33,10 @@ pub record Rewriting (stored lent goal out : List ℕ) (place to left : ℕ) : T
   pub fine : accepted (read_run left place (drop place stored)) ≡ true
   pub writing : Laid lent goal out to (joined write_cell (cells_in left (drop place stored)))
 
-pub rewriting_none : (stored lent : List ℕ) (from count : ℕ) → from ≤ length stored → accepted (read_run count from (drop from stored)) ≡ true
+pub rewriting_none : (stored lent : List ℕ) (from count : ℕ) {left : ℕ} → left ≡ count → from ≤ length stored → accepted (read_run count from (drop from stored)) ≡ true
     → length (joined write_cell (cells_in count (drop from stored))) ≤ length lent
-    → Rewriting stored lent (joined write_cell (cells_in count (drop from stored))) lent from 0 count
-rewriting_none stored lent from count h g r = record { inside = h; fine = g; writing = laid_none lent (joined write_cell (cells_in count (drop from stored))) r }
+    → Rewriting stored lent (joined write_cell (cells_in count (drop from stored))) lent from 0 left
+rewriting_none stored lent from count all h g r = rw all (record { inside = h; fine = g; writing = laid_none lent (joined write_cell (cells_in count (drop from stored))) r })
 
 module _ {stored lent goal out : List ℕ} {place to left : ℕ} (f : Rewriting stored lent goal out place to left) where
   pub rewriting_done : left ≡ 0 → (to ≡ length goal) × (out ≡ in_front goal lent)
@@ -74,31 +76,31 @@ module _ {stored lent goal out : List ℕ} {place to left : ℕ} (f : Rewriting 
       pub rewriting_room : to + length (write_cell cell) ≤ length out
       rewriting_room = writing_room f.writing cells
 
-      next : {new : List ℕ} {to' : ℕ} → (place' : ℕ) → place' ≡ place + length_by (get_or stored place 0)
+      next : {new : List ℕ} {to' left' : ℕ} → (place' : ℕ) → place' ≡ place + length_by (get_or stored place 0) → left' ≡ left - 1
           → Laid lent goal new to' (joined write_cell (cells_in (left - 1) (drop (place + length_by (get_or stored place 0)) stored)))
-          → Rewriting stored lent goal new place' to' (left - 1)
-      next place' u w = rw u (record { inside = first.fits; fine = first.rest; writing = w })
+          → Rewriting stored lent goal new place' to' left'
+      next place' u less w = rw (u, less) (record { inside = first.fits; fine = first.rest; writing = w })
 
       module _ (place' : ℕ) (is_place : place' ≡ place + length_by (get_or stored place 0)) (ys : List ℕ) (size : ℕ)
-          (is_size : size ≡ length (write_cell cell)) where
+          (is_size : size ≡ length (write_cell cell)) {left' : ℕ} (less : left' ≡ left - 1) where
         pub rewriting_part : ys ≡ in_front (write_cell cell) (take (length out - to) (drop to out))
-            → Rewriting stored lent goal (put_mid to (length out - to) out ys) place' (to + size) (left - 1)
-        rewriting_part e = next place' is_place (writing_part f.writing cells ys size is_size e)
+            → Rewriting stored lent goal (put_mid to (length out - to) out ys) place' (to + size) left'
+        rewriting_part e = next place' is_place less (writing_part f.writing cells ys size is_size e)
 
         pub rewriting_over : over_most ≤ left → Over (write_cell cell) (take (length out - to) (drop to out)) ys
             → length ys ≡ length (take (length out - to) (drop to out))
-            → Rewriting stored lent goal (put_mid to (length out - to) out ys) place' (to + size) (left - 1)
-        rewriting_over more o l = next place' is_place (writing_over f.writing cells ys size is_size (omega (arith, rewriting_more)) o l)
+            → Rewriting stored lent goal (put_mid to (length out - to) out ys) place' (to + size) left'
+        rewriting_over more o l = next place' is_place less (writing_over f.writing cells ys size is_size (omega (arith, rewriting_more)) o l)
 
     -- the lead byte 128 is an empty cell
     module _ (lead : get_or stored place 0 ≡ 128) where
       pub empty_room : to < length out
       empty_room = omega (arith, rewriting_room (sym (empty_cell place stored lead)), ap length empty_written)
 
-      pub rewriting_empty : Rewriting stored lent goal (set out to 128) (place + 1) (to + 1) (left - 1)
-      rewriting_empty =
+      pub rewriting_empty : {left' : ℕ} → left' ≡ left - 1 → Rewriting stored lent goal (set out to 128) (place + 1) (to + 1) left'
+      rewriting_empty less =
           let empty = sym (empty_cell place stored lead) in
-          next empty (place + 1) (ap (λ (n : ℕ). place + n) (sym (empty_length place stored lead))) (writing_empty f.writing (cells empty) empty_written)
+          next empty (place + 1) (ap (λ (n : ℕ). place + n) (sym (empty_length place stored lead))) less (writing_empty f.writing (cells empty) empty_written)
 
 -- A stored form that takes some bytes in its shortest form: its cells
 pub record CellsOf (rows channels : ℕ) (stored : List ℕ) : Type 0 where
@@ -119,3 +121,14 @@ stored_pressed_lem rows channels (b ∷ d) g h =
           w ∙ stored_cells p (omega (arith, ap length w)) ∙ ap (λ (q : Pattern). joined write_cell q.cells) (sym (got_value e'))
           ∙ ap (joined write_cell) (run_read (rows * channels) 0 (b ∷ d) cells m ec).same;
     }
+
+-- What is known of one that is to be written again
+module _ {rows channels : ℕ} {stored : List ℕ} {mark : Mark} (k : Known rows channels stored mark) (again : mark ≡ Again) where
+  some : 0 < length (stored_pressed rows channels stored)
+  some = k.some (λ e. absurd (let z : ◌≡◌ {A = Mark} Again Nothing = sym again ∙ e in cc))
+
+  pub again_fine : accepted (read_run (rows * channels) 0 stored) ≡ true
+  again_fine = (stored_pressed_lem rows channels stored k.fine some).fine
+
+  pub again_same : stored_pressed rows channels stored ≡ joined write_cell (cells_in (rows * channels) stored)
+  again_same = (stored_pressed_lem rows channels stored k.fine some).same

@@ -1,4 +1,2 @@
-pub mod NumberLaws
 pub mod Sign
 pub mod Stores
-pub mod Zeros

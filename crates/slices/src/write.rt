@@ -1,96 +1,43 @@
 // Bytes at the front of a lent part of the output.
-ghost use Rattle.std.specs.Prelude.{◌≡◌, ◌+◌, ◌≤◌, ◌<◌, length, replicate};
-ghost use Rattle.xm.specs.Number.{part, byte, word, long};
+ghost use Rattle.std.specs.Prelude.{◌≡◌, ◌≤◌, ◌<◌, length, replicate, take};
 ghost use Rattle.xm.specs.Answer.{in_front};
-ghost use Rattle.xm.specs.Lay.{lay};
 
-// All of `from`: a loop of one byte, which the compiler turns into wide moves.
+use super::number::Number;
+
+// All of `from`: a loop of one byte, which the compiler turns into wide moves. `copy_from_slice` of a length that it
+// does not know calls memmove, which the C interface does not ask of who links the library.
 pub fn copy(from: &[u8], out: &mut [u8])
     requires { length from.now ≤ length out.old }
     ensures { out.new ≡ in_front from.now out.old }
 {
-    let mut done: usize = 0;
-    while done < from.len() {
-        out[done] = from[done];
-        done += 1;
+    for (i, byte) in from.iter().enumerate() {
+        out[i] = *byte;
     }
 }
 
-// Eight bytes of `from`, at the same place of out. All are read before one is written, so that the compiler makes one move of them.
-fn copy_eight(from: &[u8], place: usize, out: &mut [u8])
-    requires place_in_bounds { place + 8 ≤ length from.now }
-    requires place_in_bounds_2 { place + 8 ≤ length out.old }
-    ensures { out.new ≡ lay out.old place (part place 8 from.now) }
+// The first N bytes of `from`, whose number the compiler knows.
+pub fn copy_front<const N: usize>(from: &[u8], out: &mut [u8])
+    requires there { N ≤ length from.now }
+    requires room { N ≤ length out.old }
+    ensures { out.new ≡ in_front (take N from.now) out.old }
 {
-    let b0 = from[place];
-    let b1 = from[place + 1];
-    let b2 = from[place + 2];
-    let b3 = from[place + 3];
-    let b4 = from[place + 4];
-    let b5 = from[place + 5];
-    let b6 = from[place + 6];
-    let b7 = from[place + 7];
-    out[place] = b0;
-    out[place + 1] = b1;
-    out[place + 2] = b2;
-    out[place + 3] = b3;
-    out[place + 4] = b4;
-    out[place + 5] = b5;
-    out[place + 6] = b6;
-    out[place + 7] = b7;
-}
-
-// All of `from` as well, eight bytes at a time: for a few bytes whose number the compiler knows.
-pub fn copy_short(from: &[u8], out: &mut [u8])
-    requires { length from.now ≤ length out.old }
-    ensures { out.new ≡ in_front from.now out.old }
-{
-    let mut done: usize = 0;
-    while 8 <= from.len() - done {
-        copy_eight(from, done, out);
-        done += 8;
-    }
-    copy(&from[done..], &mut out[done..]);
+    out[..N].copy_from_slice(&from[..N]);
 }
 
 // Zeros, `count` of them.
+// How much is written is not how long the part is.
 pub fn clear(count: usize, out: &mut [u8])
     requires { count ≤ length out.old }
     ensures { out.new ≡ in_front (replicate count 0) out.old }
 {
-    let mut done: usize = 0;
-    while done < count {
-        out[done] = 0;
-        done += 1;
-    }
+    out[..count].fill(0);
 }
 
-// One byte.
-pub fn put_byte(number: u8, out: &mut [u8])
-    requires { 1 ≤ length out.old }
-    ensures { out.new ≡ in_front (byte number) out.old }
+// A number, the low byte first.
+pub fn put<N: Number>(number: usize, out: &mut [u8])
+    requires number_bound { number < N.values }
+    requires in_bounds { N.bytes ≤ length out.old }
+    ensures { out.new ≡ in_front (N.written number) out.old }
 {
-    out[0] = number;
-}
-
-// A number in two bytes, the low one first.
-pub fn put_word(number: usize, out: &mut [u8])
-    requires number_bound { number < 65536 }
-    requires in_bounds { 2 ≤ length out.old }
-    ensures { out.new ≡ in_front (word number) out.old }
-{
-    out[0] = (number % 256) as u8;
-    out[1] = (number / 256) as u8;
-}
-
-// A number in four bytes, the lowest first.
-pub fn put_long(number: usize, out: &mut [u8])
-    requires number_bound { number < 4294967296 }
-    requires in_bounds { 4 ≤ length out.old }
-    ensures { out.new ≡ in_front (long number) out.old }
-{
-    out[0] = (number % 256) as u8;
-    out[1] = (number / 256 % 256) as u8;
-    out[2] = (number / 65536 % 256) as u8;
-    out[3] = (number / 16777216) as u8;
+    N::store(number, out);
 }

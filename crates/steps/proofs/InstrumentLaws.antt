@@ -4,50 +4,35 @@ use mathlib.Core.List.{List, [], ◌∷◌}
 use mathlib.Core.Path.{◌≡◌, refl, sym, ap, ap₂, ◌∙◌}
 use native.Mathlib.Omega.{arith}
 use lib.ListN.{length, take, drop, replicate, length-drop}
-use lib.Seq.{drop-drop}
+use lib.Seq.{drop-drop, take-take, length-take-le}
 use borrow.Author.Tests.{lt-ltb}
+use Rattle.std.specs.Prelude.{Err}
 use Rattle.xm.specs.Number.{Bytes, byte_at, word_at, long_at, part}
 use Rattle.xm.specs.ModuleKind.{ModuleKind, normal, stripped}
 use Rattle.xm.specs.Got.{Got, got, refused, AllHold, ◌at◌}
 use Rattle.xm.specs.Format.{each}
 use Rattle.xm.specs.Sample.{StretchFound, head_format, data_format, SamplesFound, samples_format, size_of_first}
 use Rattle.xm.specs.Instrument.{samples_most, instrument_size_at, count_at, sample_head_size_at, fields_of, instrument_tests, InstrumentFound, voice_of, read_instrument}
-use Rattle.xm.proofs.Number.{bytes_drop}
+use Rattle.xm.proofs.Number.{bytes_drop, Agree, agree_word, agree_long}
 use Rattle.xm.proofs.Got.{no_true, pass, step, step_refused, passed, bind_got, got_carry, got_used}
 use Rattle.xm.proofs.Cut.{word-padded, long-padded}
 use Rattle.xm.proofs.Stripped.{instrument_keeps}
 use Rattle.slices.specs.Number.{Word, Long}
-use Rattle.refusal.specs.Refusal.{paper_refusal, place_step}
+use Rattle.refusal.specs.Refusal.{paper_refusal, step_by, place_step}
+use Rattle.refusal.specs.Test.{number_of, tested}
+use Rattle.refusal.specs.declared.Cause.{Cause}
 use Rattle.refusal.specs.declared.Refusal.{Refusal}
-use Rattle.refusal.specs.declared.Step.TheVariants.{Next}
+use Rattle.refusal.specs.declared.Step.TheVariants.{Given}
 use Rattle.refusal.proofs.Steps.{next_got}
-use Rattle.refusal.specs.Test.{first_refusal}
-use Rattle.steps.specs.Step.{head_size_of, instrument_head, head_or, head_step, head_number, instrument_step, instrument_refusal}
+use Rattle.refusal.proofs.TestLaws.{RefuseAt, tested_refuses}
+use Rattle.steps.specs.Step.{head_size_of, instrument_head, instrument_given}
 use Rattle.steps.specs.declared.instrument.InstrumentHead.{InstrumentHead}
-use Rattle.steps.specs.declared.instrument.HeadStep.{HeadStep}
-use Rattle.steps.specs.declared.instrument.HeadStep.TheVariants as head
 use Rattle.steps.specs.declared.instrument.InstrumentPart.{InstrumentPart}
-use Rattle.steps.specs.declared.instrument.InstrumentStep.{InstrumentStep}
-use Rattle.steps.specs.declared.instrument.InstrumentStep.TheVariants.{Read, Refused}
-use Rattle.refusal.proofs.TestLaws.{RefuseAt, refusal_holds, refusal_refuses}
 use Rattle.heads.specs.Sample.{heads_from}
 use Rattle.heads.proofs.SampleLaws.{heads_viewed, samples_size}
 
--- What the step's answer says of the reading
-pub instrument-refused : (place : ℕ) (g : Got InstrumentFound) {step : InstrumentStep} {f r : Refusal} → step ≡ instrument_step place g → step ≡ Refused f
-    → r ≡ instrument_refusal step
-    → g ≡ refused (paper_refusal r)
-instrument-refused place (got i n) e told passed = cc
-instrument-refused place (refused q) e told passed = cc
-
-never_read : {A : Type 0} {piece : InstrumentPart} {f : Refusal} → Read piece ≡ Refused f → A
-never_read e = absurd (no_true (cc))
-
-same_part : {a b : InstrumentPart} → Read a ≡ Read b → a ≡ b
+same_part : {a b : InstrumentPart} → Given a ≡ Given b → a ≡ b
 same_part e = cc
-
-same_head : {a b : InstrumentHead} → head.Read a ≡ head.Read b → a ≡ b
-same_head e = cc
 
 -- Without samples no H counts
 times : (n k size H : ℕ) → n ≡ k → (1 ≤ n → size ≡ H) → n * size ≡ k * H
@@ -87,15 +72,6 @@ refuse_at : (kind : ModuleKind) (place : ℕ) (s : List ℕ) → RefuseAt place 
 refuse_at normal place s = omega arith
 refuse_at stripped place s = omega arith
 
--- The number of the first that fails, or the fields where none does
-pub head_refused : (kind : ModuleKind) (place : ℕ) (s : List ℕ) (n : ℕ) → first_refusal (instrument_tests kind place s) ≡ suc n
-    → head.Refused (suc n) ≡ head_step kind place s
-head_refused kind place s n e = sym (ap (λ (k : ℕ). head_or k (instrument_head kind place s)) e)
-
-pub head_passed : (kind : ModuleKind) (place : ℕ) (s : List ℕ) {x : InstrumentHead} → first_refusal (instrument_tests kind place s) ≡ 0
-    → x ≡ instrument_head kind place s → head.Read x ≡ head_step kind place s
-head_passed kind place s e p = ap head.Read p ∙ sym (ap (λ (k : ℕ). head_or k (instrument_head kind place s)) e)
-
 -- What they say, of either kind: I bytes are there, k is small, and all k headers are there
 pub record FieldsPass (kind : ModuleKind) (s : List ℕ) : Type 0 where
   pub some : 4 ≤ length s
@@ -120,6 +96,35 @@ size_cut s e w = w.value ∙ ap (λ (n : ℕ). long_at 29 (take n s)) e ∙ sym 
 pub some_samples : (place : ℕ) (s : List ℕ) → AllHold (instrument_tests normal place s) → 1 ≤ count_at s → 263 ≤ instrument_size_at s
 some_samples place s h some = h.1.1.1.0 (lt-ltb 0 (count_at s) some)
 
+-- so that its I cuts off none of them, and it reads as a stripped one does
+cut_agree : (size : ℕ) (s : List ℕ) → size ≤ length s → Agree size s (take size s)
+cut_agree size s h = record { long = omega (arith, length-take-le size s h); same = sym (take-take size size s (omega arith)) }
+
+module _ (place : ℕ) (s : List ℕ) {size : ℕ} (e : size ≡ instrument_size_at s) where
+  count_read : (kind : ModuleKind) → AllHold (instrument_tests kind place s) → {k : ℕ} → Word 27 (take size s) k → k ≡ count_at (fields_of kind s)
+  count_read normal h w = w.value ∙ sym (agree_word (cut_agree size s (omega (arith, h.1.1.1.1.0))) 27 (omega (arith, h.1.0)))
+  count_read stripped h w = count_cut s e w
+
+  size_read : (kind : ModuleKind) → AllHold (instrument_tests kind place s) → 1 ≤ count_at (fields_of kind s) → {H : ℕ} → Long 29 (take size s) H
+      → H ≡ sample_head_size_at (fields_of kind s)
+  size_read normal h some w =
+      w.value ∙ sym (agree_long (cut_agree size s (omega (arith, h.1.1.1.1.0))) 29 (omega (arith, some_samples place s h some)))
+  size_read stripped h some w = size_cut s e w
+
+  -- Its fields, without samples and with some
+  module _ (kind : ModuleKind) (h : AllHold (instrument_tests kind place s)) {k : ℕ} (w : Word 27 (take size s) k) where
+    abbrev made : (H : ℕ) → InstrumentHead
+    made H = record { samples = k; heads = place + size; head_size = H }
+
+    pub head_bare : k ≡ 0 → made 0 ≡ instrument_head kind place s
+    head_bare none = cc (count_read kind h w, e, none)
+
+    pub head_full : (k ≡ 0 → ⊥) → {H : ℕ} → Long 29 (take size s) H → made H ≡ instrument_head kind place s
+    head_full f l =
+        let counted = count_read kind h w in
+        let some : 1 ≤ count_at (fields_of kind s) = omega arith in
+        cc (counted, e, size_read kind h some l, size_some (count_at (fields_of kind s)) (fields_of kind s) some)
+
 module _ (file : List ℕ) (kind : ModuleKind) (place : ℕ) where
   abbrev from : List ℕ
   from = drop place file
@@ -139,31 +144,9 @@ module _ (file : List ℕ) (kind : ModuleKind) (place : ℕ) where
       }
 
   -- The tests decide
-  module _ {refusal : ℕ} (e : refusal ≡ first_refusal (instrument_tests kind place from)) where
-    pub instrument_fails : (refusal ≡ 0 → ⊥) → read_instrument kind place from ≡ refused (refusal at place)
-    unfolding read_instrument
-    instrument_fails = refusal_refuses place (instrument_tests kind place from) _ (refuse_at kind place from) e
-
-    pub instrument-holds : refusal ≡ 0 → AllHold (instrument_tests kind place from)
-    instrument-holds = refusal_holds place (instrument_tests kind place from) (refuse_at kind place from) e
-
-  -- by the step in front: its number, or its fields
-  module _ {first : HeadStep} (e : first ≡ head_step kind place from) where
-    pub head_fails : {n number : ℕ} → first ≡ head.Refused n → number ≡ head_number first → read_instrument kind place from ≡ refused (number at place)
-    head_fails {n} {number} told is = go (first_refusal (instrument_tests kind place from)) refl (sym e ∙ told) (is ∙ ap head_number e)
-      where
-        go : (k : ℕ) → first_refusal (instrument_tests kind place from) ≡ k → head_or k (instrument_head kind place from) ≡ head.Refused n
-            → number ≡ head_number (head_or k (instrument_head kind place from)) → read_instrument kind place from ≡ refused (number at place)
-        go zero q told is = absurd (no_true (cc))
-        go (suc k) q told is = instrument_fails (is ∙ sym q) (λ z. omega arith)
-
-    pub head_holds : {x : InstrumentHead} → first ≡ head.Read x → AllHold (instrument_tests kind place from) × (x ≡ instrument_head kind place from)
-    head_holds {x} told = go (first_refusal (instrument_tests kind place from)) refl (sym told ∙ e)
-      where
-        go : (k : ℕ) → first_refusal (instrument_tests kind place from) ≡ k → head.Read x ≡ head_or k (instrument_head kind place from)
-            → AllHold (instrument_tests kind place from) × (x ≡ instrument_head kind place from)
-        go zero q is = (instrument-holds refl q, same_head is)
-        go (suc k) q is = absurd (no_true (cc))
+  pub instrument_fails : {cause : Cause} → tested (instrument_tests kind place from) ≡ Err cause → read_instrument kind place from ≡ refused (number_of cause at place)
+  unfolding read_instrument
+  instrument_fails e = tested_refuses place (instrument_tests kind place from) _ (refuse_at kind place from) e
 
   module _ (h : AllHold (instrument_tests kind place from)) {head : InstrumentHead} (eh : head ≡ instrument_head kind place from) where
     -- What its fields tell, one by one
@@ -201,9 +184,9 @@ module _ (file : List ℕ) (kind : ModuleKind) (place : ℕ) where
     unfolding read_instrument
     instrument_in q = pass (instrument_tests kind place from) h (step _ (same_samples ∙ q) refl)
 
-    pub instrument_read : {next size : ℕ} → Next next ≡ place_step (head).heads samples → size ≡ instrument_size_at from
-        → Read (record { size = size; samples = (head).samples; head_size = (head).head_size; next = next })
-        ≡ instrument_step place (read_instrument kind place from)
+    pub instrument_read : {next size : ℕ} → Given next ≡ place_step (head).heads samples → size ≡ instrument_size_at from
+        → Given (record { size = size; samples = (head).samples; head_size = (head).head_size; next = next })
+        ≡ step_by (instrument_given place) (read_instrument kind place from)
     instrument_read {next} e p = next_got (head).heads samples e λ v n q z.
         let s = samples_size (head).samples (head).head_size (head).heads (drop (head).heads file) v n q in
         let many = ap InstrumentHead.samples eh in
@@ -214,13 +197,13 @@ module _ (file : List ℕ) (kind : ModuleKind) (place : ℕ) where
   -- of an instrument that was read, with no step at hand
   pub instrument-part : {head : InstrumentHead} {next size : ℕ} {i : InstrumentFound} {n : ℕ} → head ≡ instrument_head kind place from
       → read_instrument kind place from ≡ got i n → next ≡ place + n → size ≡ instrument_size_at from
-      → Read (record { size = size; samples = (head).samples; head_size = (head).head_size; next = next })
-      ≡ instrument_step place (read_instrument kind place from)
+      → Given (record { size = size; samples = (head).samples; head_size = (head).head_size; next = next })
+      ≡ step_by (instrument_given place) (read_instrument kind place from)
   unfolding read_instrument
   instrument-part {head} {next} eh e l z =
       passed _ _ e λ h e₁. bind_got _ _ e₁ λ v m ev e₂.
       let on : next ≡ (head).heads + m = omega (arith, l, got_used e₂, (fields_of_lem h eh).heads) in
-      instrument_read h eh (ap Next on ∙ sym (ap (place_step (head).heads) (sym (same_samples h eh) ∙ ev))) z
+      instrument_read h eh (ap Given on ∙ sym (ap (place_step (head).heads) (sym (same_samples h eh) ∙ ev))) z
 
   -- An instrument that was read, by the part that its step gave
   pub record AsRead (piece : InstrumentPart) : Type 0 where
@@ -237,11 +220,11 @@ module _ (file : List ℕ) (kind : ModuleKind) (place : ℕ) where
       next = place + (instrument_size_at from + used);
     }
 
-  pub as_read : {piece : InstrumentPart} → Read piece ≡ instrument_step place (read_instrument kind place from) → AsRead piece
+  pub as_read : {piece : InstrumentPart} → Given piece ≡ step_by (instrument_given place) (read_instrument kind place from) → AsRead piece
   unfolding read_instrument
   as_read {piece} e = go (read_instrument kind place from) refl e
     where
-      go : (g : Got InstrumentFound) → read_instrument kind place from ≡ g → Read piece ≡ instrument_step place g → AsRead piece
+      go : (g : Got InstrumentFound) → read_instrument kind place from ≡ g → Given piece ≡ step_by (instrument_given place) g → AsRead piece
       go (got i n) q e =
           passed _ _ q λ h q₁. bind_got _ _ q₁ λ v m ev q₂. record {
             samples = v;
@@ -249,9 +232,9 @@ module _ (file : List ℕ) (kind : ModuleKind) (place : ℕ) where
             tests = h;
             reads = ev;
             is = q ∙ sym q₂;
-            same = same_part (e ∙ ap (instrument_step place) (sym q₂));
+            same = same_part (e ∙ ap (step_by (instrument_given place)) (sym q₂));
           }
-      go (refused r) q e = never_read e
+      go (refused r) q e = absurd (no_true (cc))
 
   module _ {piece : InstrumentPart} (r : AsRead piece) where
     abbrev data_bytes : List ℕ

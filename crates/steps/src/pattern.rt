@@ -1,67 +1,48 @@
 // The pattern step.
-ghost use Rattle.std.specs.Prelude.{◌≡◌, ◌+◌, ◌≤◌, length, drop};
-ghost use Rattle.xm.specs.PatternInFile.{least_pattern, pattern_tests, read_pattern, data_most};
-ghost use Rattle.xm.specs.Module.{file_most};
+ghost use Rattle.std.specs.Prelude.{◌≡◌, ◌+◌, ◌^◌, ◌≤◌, ◌<◌, length, drop};
+ghost use Rattle.xm.specs.PatternInFile.{least_pattern, pattern_tests, read_pattern};
 ghost use Rattle.xm.specs.Stored.{channels_most};
-ghost use Rattle.refusal.specs.Refusal.{place_step};
-ghost use Rattle.refusal.specs.Test.{first_refusal};
-ghost use Rattle.steps.specs.Step.{pattern_head, pattern_step, pattern_refusal, stored_refusal, refusal_from};
+ghost use Rattle.refusal.specs.Refusal.{step_by, place_step};
+ghost use Rattle.steps.specs.Step.{tested_for, pattern_head, pattern_given, refusal_from};
 
-use measure::StoredStep;
-use refusal::{Refusal, Step, no_refusal, refusal_of};
-use slices::read::{long, word};
+use measure::read_stored;
+use refusal::{Cause, Refusal, Step, ensure};
+use scan::scan_stored;
+use slices::read::read;
 
-// The bytes of a pattern's shortest stored form and whether it stands in that form already, and where the next structure starts.
-#[derive(Clone, Copy)]
+// How many channels a module has that passed the header's tests.
+#[derive(Clone, Copy, Debug, PartialEq, Eq)]
+pub struct Channels {
+    pub count: usize,
+    ghost in_range: { (1 ≤ count) × (count ≤ channels_most) },
+}
+
+// The bytes of a pattern's shortest stored form and whether it stands in that form already, as it was measured, and where the next structure
+// starts.
+#[derive(Clone, Copy, Debug, PartialEq, Eq)]
 pub struct PatternPart {
     pub shortest: usize,
     pub same: bool,
     pub next: usize,
 }
 
-#[derive(Clone, Copy)]
-pub enum PatternStep {
-    Read(PatternPart),
-    Refused(Refusal),
-}
-
 // What its header tells: where its data stand, how many bytes, and its rows.
-#[derive(Clone, Copy)]
+#[derive(Clone, Copy, Debug, PartialEq, Eq)]
 pub struct PatternHead {
     pub place: usize,
     pub size: usize,
     pub rows: usize,
 }
 
-// A pattern's refusal, to be passed on.
-pub fn refusal_of_pattern(step: PatternStep) -> Refusal
-    ensures { result ≡ pattern_refusal step }
-{
-    match step {
-        PatternStep::Read(_) => no_refusal(),
-        PatternStep::Refused(refusal) => refusal,
-    }
-}
-
-// A refusal of stored cells that were measured.
-fn refusal_of_stored(step: StoredStep) -> Refusal
-    ensures { result ≡ stored_refusal step }
-{
-    match step {
-        StoredStep::Read(_) => no_refusal(),
-        StoredStep::Refused(refusal) => refusal,
-    }
-}
-
 // In a file the place is counted from its start, and `base` is that of the cells' first byte.
+// A sum, and no shape of a Result: the number stays, the place moves.
 fn refusal_from(base: usize, refusal: Refusal) -> Refusal
-    requires base_le_file_most { base ≤ file_most }
-    requires place_le_data_most { refusal.place ≤ data_most }
+    requires { base + refusal.place < 2 ^ 64 }
     ensures { result ≡ refusal_from base refusal }
 {
     Refusal {
-        number: refusal.number,
         place: base + refusal.place,
+        ..refusal
     }
 }
 
@@ -71,84 +52,62 @@ pub fn pattern_head(file: &[u8], at: usize) -> PatternHead
     ensures { result ≡ pattern_head at (drop at file.now) }
 {
     PatternHead {
-        place: at + long(file, at, 0),
-        size: word(file, at, 7),
-        rows: word(file, at, 5),
+        place: at + read::<u32>(file, at, 0),
+        size: read::<u16>(file, at, 7),
+        rows: read::<u16>(file, at, 5),
     }
 }
 
-// The number of the first refusal of its header, or 0: 9 bytes present (1), 6, its L + S bytes present (1).
-fn pattern_refusal(file: &[u8], at: usize) -> u32
+// The header by its tests in their order: 9 bytes present, 6, its L + S bytes present.
+fn tried_head(file: &[u8], at: usize) -> Result<PatternHead, Cause>
     requires { at ≤ length file.now }
-    ensures { result ≡ first_refusal (pattern_tests at (drop at file.now)) }
+    ensures { result ≡ tested_for (pattern_tests at (drop at file.now)) (pattern_head at (drop at file.now)) }
 {
-    if file.len() - at < 9 {
-        return 1;
-    }
+    ensure(9 <= file.len() - at, Cause::PastEnd)?;
     let head = pattern_head(file, at);
-    if head.place < at + 9 {
-        return 6;
-    }
-    if head.rows < 1 {
-        return 6;
-    }
-    if 256 < head.rows {
-        return 6;
-    }
-    if file.len() < head.place + head.size {
-        return 1;
-    }
-    0
+    ensure(at + 9 <= head.place, Cause::PatternHeader)?;
+    ensure((1..=256).contains(&head.rows), Cause::PatternHeader)?;
+    ensure(head.place + head.size <= file.len(), Cause::PastEnd)?;
+    Ok(head)
 }
 
-// A pattern, tried and measured: its first refusal, or what the press needs of it.
-pub fn read_pattern(file: &[u8], at: usize, channels: usize) -> PatternStep
-    requires at_in_bounds { at ≤ length file.now }
-    requires file_len_bound { length file.now ≤ file_most }
-    requires le_channels { (1 ≤ channels) × (channels ≤ channels_most) }
-    ensures { result ≡ pattern_step file.now at (read_pattern channels at (drop at file.now)) }
+// That its place is in the file is one clause, as of an instrument. A pattern, tried and measured: its first refusal, or what the press needs of it.
+pub fn read_pattern(file: &[u8], at: usize, channels: Channels) -> Step<PatternPart>
+    requires { at ≤ length file.now }
+    ensures { result ≡ step_by (pattern_given file.now at) (read_pattern channels.count at (drop at file.now)) }
 {
-    let refusal = pattern_refusal(file, at);
-    if refusal != 0 {
-        return PatternStep::Refused(Refusal {
-            number: refusal,
-            place: at,
-        });
-    }
-    let head = pattern_head(file, at);
+    let head = match tried_head(file, at) {
+        Ok(head) => head,
+        Err(cause) => return Step::Refused(cause.at(at)),
+    };
     let place = head.place;
     let next = place + head.size;
-    let step = measure::read_stored(&file[place..next], head.rows, channels);
-    let StoredStep::Read(stored) = step else {
-        return PatternStep::Refused(refusal_from(place, refusal_of_stored(step)));
+    let step = read_stored(&file[place..next], head.rows, channels.count);
+    let Step::Given(stored) = step else {
+        return Step::Refused(refusal_from(place, step.refusal()));
     };
-    PatternStep::Read(PatternPart {
+    Step::Given(PatternPart {
         shortest: stored.shortest,
         same: stored.same,
-        next: next,
+        next,
     })
 }
 
-// A pattern that is only tried: where the next structure starts.
-pub fn scan_pattern(file: &[u8], at: usize, channels: usize) -> Step
-    requires at_in_bounds { at ≤ length file.now }
-    requires file_len_bound { length file.now ≤ file_most }
-    requires le_channels { (1 ≤ channels) × (channels ≤ channels_most) }
-    ensures { result ≡ place_step at (read_pattern channels at (drop at file.now)) }
+// A pattern that is only tried: where the next structure starts. What this and `read_pattern` share is `tried_head`; behind it each has a
+// call and an answer of its own.
+pub fn scan_pattern(file: &[u8], at: usize, channels: Channels) -> Step<usize>
+    requires { at ≤ length file.now }
+    ensures { result ≡ place_step at (read_pattern channels.count at (drop at file.now)) }
 {
-    let refusal = pattern_refusal(file, at);
-    if refusal != 0 {
-        return Step::Refused(Refusal {
-            number: refusal,
-            place: at,
-        });
-    }
-    let head = pattern_head(file, at);
+    let head = match tried_head(file, at) {
+        Ok(head) => head,
+        Err(cause) => return Step::Refused(cause.at(at)),
+    };
     let place = head.place;
     let next = place + head.size;
-    let step = scan::scan_stored(&file[place..next], head.rows, channels);
-    let Step::Next(_) = step else {
-        return Step::Refused(refusal_from(place, refusal_of(step)));
+    let step = scan_stored(&file[place..next], head.rows, channels.count);
+    let Step::Given(_) = step else {
+        return Step::Refused(refusal_from(place, step.refusal()));
     };
-    Step::Next(next)
+    Step::Given(next)
 }

@@ -5,6 +5,7 @@ use mathlib.Core.List.{List, [], ◌∷◌}
 use mathlib.Core.Path.{◌≡◌, refl, sym, ◌∙◌}
 use lib.Dec.{leb, ltb}
 use lib.ListN.{length, drop}
+use Rattle.std.specs.Prelude.{Result, Ok}
 use Rattle.xm.specs.Got.{Got, got, refused}
 use Rattle.xm.specs.Format.{Kind, Region, header, pattern_header, pattern_data, instrument, sample_header, sample_data, All}
 use Rattle.xm.specs.Answer.{Answer, gives, refuses}
@@ -15,20 +16,22 @@ use Rattle.xm.specs.Module.{file_most}
 use Rattle.xm.specs.Structure as paper
 use Rattle.xm.specs.Structure.{is_structure, kind_number, structures_of, ends_at, hand_head, hand_pattern, hand_instrument, hand_over, started, called}
 use Rattle.xm.proofs.Got.{no_true}
-use Rattle.structures.specs.declared.Reached.{Reached}
+use Rattle.refusal.specs.Refusal.{outcome}
+use Rattle.refusal.specs.declared.Refusal.{Refusal}
+use Rattle.structures.specs.declared.Ahead.{Ahead}
 use Rattle.structures.specs.declared.Handed.{Handed}
-use Rattle.structures.specs.Handing.{standing_at, standing_of, standing_numbers, reading_numbers, reached_of, reached_in, handing}
+use Rattle.structures.specs.Handing.{standing_at, standing_in, standing_numbers, reading_numbers, ahead_of, reached_in, handing}
 
 -- How far has been read, there and back
-pub reached_back : (x : Answer paper.Ahead) → reached_in (reached_of x) ≡ x
+pub reached_back : (x : Answer paper.Ahead) → reached_in (outcome ahead_of x) ≡ x
 reached_back (gives a) = refl
 reached_back (refuses r) = refl
 
 -- No second answer fits
-pub start_once : (file : List ℕ) {answer other : Reached} → answer ≡ reached_of (started file) → other ≡ reached_of (started file) → answer ≡ other
+pub start_once : (file : List ℕ) {answer other : Result Ahead Refusal} → answer ≡ outcome ahead_of (started file) → other ≡ outcome ahead_of (started file) → answer ≡ other
 start_once file met e = met ∙ sym e
 
-pub hand_once : (file : List ℕ) (x : Reached) {answer other : Handed} → answer ≡ handing file x → other ≡ handing file x → answer ≡ other
+pub hand_once : (file : List ℕ) (x : Result Ahead Refusal) {answer other : Handed} → answer ≡ handing file x → other ≡ handing file x → answer ≡ other
 hand_once file x met e = met ∙ sym e
 
 -- What is handed over is a structure, so that its kind is told
@@ -71,7 +74,7 @@ module _ (file : List ℕ) (a : paper.Ahead) where
       (of_instrument (read_instrument (kind_at file) a.place (drop a.place file))) tt) tt)))
       tt
 
-kind_told : (kind : Kind) (place : ℕ) → IsStructure kind → standing_numbers (standing_at kind place) ≡ 0 ∷ 0 ∷ kind_number kind ∷ place ∷ []
+kind_told : (kind : Kind) (place : ℕ) → IsStructure kind → standing_numbers (Ok (standing_at kind place)) ≡ 0 ∷ 0 ∷ kind_number kind ∷ place ∷ []
 kind_told header place h = absurd (no_true h)
 kind_told pattern_header place h = refl
 kind_told pattern_data place h = absurd (no_true h)
@@ -79,11 +82,11 @@ kind_told instrument place h = refl
 kind_told sample_header place h = refl
 kind_told sample_data place h = absurd (no_true h)
 
-standing_told : (s : paper.Standing) → OfStanding IsStructure s → standing_numbers (standing_of (gives s)) ≡ reading_numbers (gives s)
+standing_told : (s : paper.Standing) → OfStanding IsStructure s → standing_numbers (outcome standing_in (gives s)) ≡ reading_numbers (gives s)
 standing_told (paper.stands kind place) h = kind_told kind place h
 standing_told paper.ended h = refl
 
 -- The numbers are the paper's
-pub call_numbers : (file : List ℕ) (x : Answer paper.Ahead) → standing_numbers (standing_of (called file x)) ≡ reading_numbers (called file x)
+pub call_numbers : (file : List ℕ) (x : Answer paper.Ahead) → standing_numbers (outcome standing_in (called file x)) ≡ reading_numbers (called file x)
 call_numbers file (gives a) = standing_told (hand_over file a).standing (hand_kind file a)
 call_numbers file (refuses r) = refl

@@ -1,182 +1,106 @@
--- What is handed over, by the tests that were made. Assumes nothing.
-use Prim.Native.Nat.{ℕ, ◌+◌, ◌-◌, ◌≤◌, ◌<◌, ◌^◌}
-use mathlib.Core.Bool.{cond, true}
+-- What is handed over, and where the next structure stands then. Assumes nothing.
+use Prim.Native.Nat.{ℕ, ◌+◌, ◌≤◌, ◌<◌, ◌^◌}
+use mathlib.Core.Bool.{true}
 use mathlib.Core.List.{List}
-use mathlib.Core.Path.{◌≡◌, refl, sym, ap, ◌∙◌}
+use mathlib.Core.Path.{◌≡◌, refl, ap, ap₂}
 use native.Mathlib.Omega.{arith}
-use lib.Dec.{leb}
-use borrow.Author.Tests.{le-leb, lt-leb, lt-ltb, le-ltb}
-use lib.ListN.{length, drop}
+use lib.ListN.{length, get_or, drop}
+use Rattle.std.proofs.Common.{Fits, w8}
+use Rattle.std.specs.Prelude.{Option, Some, None, Ok, Err}
+use Rattle.std.specs.Option.{option_map}
 use Rattle.xm.specs.Number.{Bytes}
 use Rattle.xm.specs.Got.{Got, got, refused, accepted}
+use Rattle.xm.specs.Format.{Kind, header, pattern_header, pattern_data, instrument, sample_header, sample_data}
 use Rattle.xm.specs.Header.{kind_at}
 use Rattle.xm.specs.PatternInFile.{least_pattern}
-use Rattle.xm.specs.Instrument.{InstrumentFound, read_instrument}
-use Rattle.xm.specs.Module.{Found, file_most, read_file}
-use Rattle.xm.specs.Table.{checking}
+use Rattle.xm.specs.Module.{Found, read_file}
+use Rattle.xm.specs.Table.{checked_as, checking}
+use Rattle.xm.specs.Answer.{answered}
 use Rattle.xm.specs.Structure as paper
-use Rattle.xm.specs.Structure.{ends_at, hand_head, hand_pattern, hand_instrument, hand_over, ahead_at_first, started}
+use Rattle.xm.specs.Structure.{hand_over, ahead_at_first, started}
 use Rattle.xm.proofs.Number.{bytes_drop, word_small, long-small}
-use Rattle.xm.proofs.Answer.{answer_gives, answer_refuses}
+use Rattle.xm.proofs.Got.{no_true}
+use Rattle.xm.proofs.Structure.{hand_stays}
+use Rattle.refusal.specs.Refusal.{outcome}
 use Rattle.refusal.specs.declared.Refusal.{Refusal}
-use Rattle.steps.specs.Step.{header_part, pattern_head, instrument_step, InstrumentIs}
-use Rattle.steps.specs.declared.instrument.InstrumentPart.{InstrumentPart}
-use Rattle.steps.specs.declared.instrument.InstrumentStep.{InstrumentStep}
-use Rattle.steps.specs.declared.instrument.InstrumentStep.TheVariants as step
-use Rattle.steps.proofs.InstrumentLaws.{as_read, part_lies}
-use Rattle.walk.specs.File.{verdict_of}
-use Rattle.walk.specs.declared.Module.{Module}
-use Rattle.walk.specs.declared.Verdict.TheVariants as verdict
+use Rattle.steps.specs.Step.{header_part, pattern_head, InstrumentIs}
 use Rattle.steps.specs.declared.header.HeaderPart.{HeaderPart}
+use Rattle.steps.specs.declared.instrument.InstrumentPart.{InstrumentPart}
 use Rattle.steps.specs.declared.pattern.PatternHead.{PatternHead}
-use Rattle.tables.proofs.VerdictLaws.{verdict_got, verdict_refused}
-use Rattle.structures.specs.declared.Standing.{Standing}
-use Rattle.structures.specs.declared.Standing.TheVariants as standing
+use Rattle.steps.proofs.InstrumentLaws.{as_read, part_lies}
+use Rattle.walk.specs.File.{code_module}
+use Rattle.walk.specs.declared.Module.{Module}
+use Rattle.structures.specs.declared.Structure.{Structure}
 use Rattle.structures.specs.declared.Ahead.{Ahead}
-use Rattle.structures.specs.declared.Reached.TheVariants as reached
-use Rattle.structures.specs.declared.Handed.{Handed}
-use Rattle.structures.specs.Handing.{ahead_of, ahead_in, handed_with, handed_of, reached_of}
+use Rattle.structures.specs.Handing.{standing_at, standing_in, ahead_of, ahead_in, handed_next, handing}
+use Rattle.structures.proofs.Calls.{OfStanding, IsStructure, hand_kind}
 
--- What has to lie in the file, and does or does not
-module _ (a b : ℕ) (x : paper.Handed) (ahead : Ahead) where
-  pub not_there : b < a → handed_with standing.End ahead ≡ handed_of (cond (leb a b) x (ends_at (ahead_in ahead)))
-  not_there l = rw (lt-leb a b l) refl
+-- A slice's own bytes
+pub plain : {file : List ℕ} → ((i : ℕ) → Fits w8 (get_or file i 0)) → Bytes file
+plain fits = record { below = λ i. omega (arith, fits i) }
 
-  pub is_there : a ≤ b → {h : Handed} → h ≡ handed_of x → h ≡ handed_of (cond (leb a b) x (ends_at (ahead_in ahead)))
-  is_there l e = rw (le-leb a b l) e
-
--- How far has been read, number by number
-pub record Reads (x y : Ahead) : Type 0 where
-  pub patterns : x.patterns ≡ y.patterns
-  pub instruments : x.instruments ≡ y.instruments
-  pub place : x.place ≡ y.place
-  pub heads : x.heads ≡ y.heads
-  pub head : x.head ≡ y.head
-  pub head_size : x.head_size ≡ y.head_size
-
-ahead_path : {p p' i i' l l' k k' h h' n n' : ℕ} → p ≡ p' → i ≡ i' → l ≡ l' → k ≡ k' → h ≡ h' → n ≡ n'
-    → ◌≡◌ {A = Ahead}
-    (record { patterns = p; instruments = i; place = l; heads = k; head = h; head_size = n })
-    (record { patterns = p'; instruments = i'; place = l'; heads = k'; head = h'; head_size = n' })
-ahead_path p i l k h n = cc
-
-handed_by : {s : Standing} {x y : Ahead} {r : Handed} → r ≡ handed_with s x → Reads x y → r ≡ handed_with s y
-handed_by {s} e w = e ∙ ap (handed_with s) (ahead_path w.patterns w.instruments w.place w.heads w.head w.head_size)
-
--- A sample header
-pub head_handed : (ahead : Ahead) {x : Ahead} {r : Handed} → r ≡ handed_with (standing.SampleHeader ahead.head) x
-    → Reads x (ahead_of (hand_head (ahead_in ahead)).ahead) → r ≡ handed_of (hand_head (ahead_in ahead))
-head_handed ahead made reads = handed_by made reads
-
--- A pattern, by what was read at its place
-abbrev pattern_next : Ahead → PatternHead → Ahead
-pattern_next ahead at =
-    record { patterns = ahead.patterns - 1; instruments = ahead.instruments; place = at.place + at.size; heads = 0; head = 0; head_size = 0 }
-
-pub pattern_handed : (s : List ℕ) (ahead : Ahead) {at : PatternHead} {x : Ahead} {r : Handed} → at ≡ pattern_head ahead.place s
-    → r ≡ handed_with (standing.Pattern ahead.place) x → Reads x (pattern_next ahead at)
-    → r ≡ handed_of (hand_pattern s (ahead_in ahead))
-pattern_handed s ahead e made reads = handed_by made reads ∙ ap (λ (at : PatternHead). handed_with (standing.Pattern ahead.place) (pattern_next ahead at)) e
-
-pub pattern_fits : (file : List ℕ) (place : ℕ) → Bytes file → length file ≤ file_most → place + least_pattern ≤ length file → {x : PatternHead}
+-- What stands behind a pattern's header, and behind an instrument's fields
+pub pattern_fits : (file : List ℕ) (place : ℕ) → Bytes file → length file < 2 ^ 63 → place + least_pattern ≤ length file → {x : PatternHead}
     → x ≡ pattern_head place (drop place file) → x.place + x.size < 2 ^ 64
 pattern_fits file place bytes small there e =
     omega (arith, ap PatternHead.place e, ap PatternHead.size e, long-small 0 (bytes_drop place bytes), word_small 7 (bytes_drop place bytes))
 
--- An instrument, by the step
-abbrev part_in : InstrumentPart → InstrumentStep → InstrumentPart
-part_in other (step.Read part) = part
-part_in other (step.Refused refusal) = other
-
-read_never : {A : Type 0} {part : InstrumentPart} {refusal : Refusal} → step.Read part ≡ step.Refused refusal → A
-read_never e = absurd (let z : ◌≡◌ {A = ℕ} 0 1 = cc in omega arith)
-
-abbrev part_next : Ahead → InstrumentPart → Ahead
-part_next ahead part = record {
-  patterns = ahead.patterns;
-  instruments = ahead.instruments - 1;
-  place = part.next;
-  heads = part.samples;
-  head = ahead.place + part.size;
-  head_size = part.head_size;
-}
-
-module _ (ahead : Ahead) where
-  pub instrument-handed : (g : Got InstrumentFound) {part : InstrumentPart} {x : Ahead} {r : Handed} → step.Read part ≡ instrument_step ahead.place g
-      → r ≡ handed_with (standing.Instrument ahead.place) x → Reads x (part_next ahead part) → r ≡ handed_of (hand_instrument g (ahead_in ahead))
-  instrument-handed (got i n) {part} e made reads =
-      handed_by made reads ∙ ap (λ (p : InstrumentPart). handed_with (standing.Instrument ahead.place) (part_next ahead p)) (ap (part_in part) e)
-  instrument-handed (refused r) e made reads = read_never e
-
-  pub instrument_not : (g : Got InstrumentFound) {s : InstrumentStep} {refusal : Refusal} → s ≡ instrument_step ahead.place g → s ≡ step.Refused refusal
-      → handed_with standing.End ahead ≡ handed_of (hand_instrument g (ahead_in ahead))
-  instrument_not (got i n) e told = read_never (sym e ∙ told)
-  instrument_not (refused r) e told = refl
-
 pub part-fits : (file : List ℕ) (place : ℕ) {part : InstrumentPart} → InstrumentIs file place part → place + part.size ≤ length file
 part-fits file place e = (part_lies file (kind_at file) place (as_read file (kind_at file) place e)).there
 
--- One call, by the tests in their order
-module _ (file : List ℕ) (ahead : Ahead) where
-  pub over_long : file_most < length file → handed_with standing.End ahead ≡ handed_of (hand_over file (ahead_in ahead))
-  unfolding hand_over
-  over_long l = rw (lt-leb (length file) file_most l) refl
+-- A structure's kind is told
+pub stands_some : (kind : Kind) (place : ℕ) → IsStructure kind → standing_at kind place ≡ None → ⊥
+stands_some header place h e = no_true h
+stands_some pattern_header place h e = no_true (cc)
+stands_some pattern_data place h e = no_true h
+stands_some instrument place h e = no_true (cc)
+stands_some sample_header place h e = no_true (cc)
+stands_some sample_data place h e = no_true h
 
-  module _ (small : length file ≤ file_most) where
-    pub over_head : 0 < ahead.heads → {h : Handed}
-        → h ≡ handed_of (cond (leb (ahead.head + ahead.head_size) (length file)) (hand_head (ahead_in ahead)) (ends_at (ahead_in ahead)))
-        → h ≡ handed_of (hand_over file (ahead_in ahead))
-    unfolding hand_over
-    over_head l e = rw (le-leb (length file) file_most small, lt-ltb 0 ahead.heads l) e
+-- A call that hands over none: how far has been read stays
+pub hand_none : (file : List ℕ) (a : paper.Ahead) → standing_in (hand_over file a).standing ≡ None → (hand_over file a).ahead ≡ a
+hand_none file a = go (hand_over file a).standing refl (hand_kind file a)
+  where
+    go : (s : paper.Standing) → (hand_over file a).standing ≡ s → OfStanding IsStructure s → standing_in s ≡ None → (hand_over file a).ahead ≡ a
+    go (paper.stands kind place) q k e = absurd (stands_some kind place k e)
+    go paper.ended q k e = hand_stays file a q
 
-    module _ (no_heads : ahead.heads ≤ 0) where
-      pub over_pattern : 0 < ahead.patterns → {h : Handed}
-          → h ≡ handed_of (cond (leb (ahead.place + least_pattern) (length file)) (hand_pattern (drop ahead.place file) (ahead_in ahead))
-          (ends_at (ahead_in ahead)))
-          → h ≡ handed_of (hand_over file (ahead_in ahead))
-      unfolding hand_over
-      over_pattern l e = rw (le-leb (length file) file_most small, le-ltb 0 ahead.heads no_heads, lt-ltb 0 ahead.patterns l) e
+none_of : {A B : Type 0} (f : A → B) (o : Option A) → option_map f o ≡ None → o ≡ None
+none_of f None e = refl
+none_of f (Some x) e = absurd (no_true (cc))
 
-      module _ (no_patterns : ahead.patterns ≤ 0) where
-        pub over_instrument : 0 < ahead.instruments → {h : Handed}
-            → h ≡ handed_of (cond (leb ahead.place (length file))
-            (hand_instrument (read_instrument (kind_at file) ahead.place (drop ahead.place file)) (ahead_in ahead)) (ends_at (ahead_in ahead)))
-            → h ≡ handed_of (hand_over file (ahead_in ahead))
-        unfolding hand_over
-        over_instrument l e =
-            rw (
-              le-leb (length file) file_most small,
-              le-ltb 0 ahead.heads no_heads,
-              le-ltb 0 ahead.patterns no_patterns,
-              lt-ltb 0 ahead.instruments l,
-            ) e
+pub hand_ends : (file : List ℕ) (ahead : Ahead) → handed_next (hand_over file (ahead_in ahead)) ≡ None
+    → handing file (Ok ahead) ≡ record { standing = Ok None; reached = Ok ahead }
+hand_ends file ahead e =
+    let none = none_of _ (standing_in (hand_over file (ahead_in ahead)).standing) e in
+    let stays = hand_none file (ahead_in ahead) none in
+    ap₂ (λ (s : Option Structure) (a : paper.Ahead). record { standing = Ok s; reached = Ok (ahead_of a) }) none stays
 
-        pub over_end : ahead.instruments ≤ 0 → handed_with standing.End ahead ≡ handed_of (hand_over file (ahead_in ahead))
-        unfolding hand_over
-        over_end l =
-            rw (
-              le-leb (length file) file_most small,
-              le-ltb 0 ahead.heads no_heads,
-              le-ltb 0 ahead.patterns no_patterns,
-              le-ltb 0 ahead.instruments l,
-            ) refl
-
--- The start
+-- The start, by the check's verdict
 module _ (file : List ℕ) where
-  pub start_refused : {f : Refusal} → verdict.Refused f ≡ verdict_of (checking file) → reached.Refused f ≡ reached_of (started file)
-  unfolding started
-  start_refused e =
-      verdict_refused file e refl λ r q same. ap reached.Refused (cc) ∙ sym (ap reached_of (answer_refuses (λ (found : Found) end. ahead_at_first file) q))
+  pub start_refused : {f : Refusal} → Err f ≡ outcome code_module (checking file) → Err f ≡ outcome ahead_of (started file)
+  unfolding checking started
+  start_refused {f} e = go (read_file file) e
+    where
+      go : (g : Got Found) → Err f ≡ outcome code_module (answered checked_as g) → Err f ≡ outcome ahead_of (answered (λ found end. ahead_at_first file) g)
+      go (got found end) q = absurd (no_true (cc))
+      go (refused r) q = cc
 
-  module _ {x : Module} (e : verdict.Accepted x ≡ verdict_of (checking file)) where
-    pub start_accepted : accepted (read_file file) ≡ true
-    start_accepted = verdict_got file e λ found end q v. rw q refl
+  pub start_accepted : {x : Module} → Ok x ≡ outcome code_module (checking file) → accepted (read_file file) ≡ true
+  unfolding checking
+  start_accepted {x} e = go (read_file file) e
+    where
+      go : (g : Got Found) → Ok x ≡ outcome code_module (answered checked_as g) → accepted g ≡ true
+      go (got found end) q = refl
+      go (refused r) q = absurd (no_true (cc))
 
-    pub start_reached : {c : HeaderPart} → c ≡ header_part file
-        → reached.Within (record { patterns = c.patterns; instruments = c.instruments; place = c.start; heads = 0; head = 0; head_size = 0 })
-        ≡ reached_of (started file)
-    unfolding started
-    start_reached same = verdict_got file e λ found end q v.
-        ap (λ (c : HeaderPart).
-        reached.Within (record { patterns = c.patterns; instruments = c.instruments; place = c.start; heads = 0; head = 0; head_size = 0 })) same
-        ∙ sym (ap reached_of (answer_gives (λ (found : Found) end. ahead_at_first file) q))
+  pub start_reached : {x : Module} → Ok x ≡ outcome code_module (checking file) → {c : HeaderPart} → c ≡ header_part file
+      → Ok (record { patterns = c.patterns; instruments = c.instruments; place = c.start; heads = 0; head = 0; head_size = 0 }) ≡ outcome ahead_of (started file)
+  unfolding checking started
+  start_reached {x} e {c} same = go (read_file file) e
+    where
+      go : (g : Got Found) → Ok x ≡ outcome code_module (answered checked_as g)
+          → Ok (record { patterns = c.patterns; instruments = c.instruments; place = c.start; heads = 0; head = 0; head_size = 0 })
+          ≡ outcome ahead_of (answered (λ found end. ahead_at_first file) g)
+      go (got found end) q = cc
+      go (refused r) q = absurd (no_true (cc))

@@ -2,35 +2,38 @@
 // small reader itself has only calls and a store. The file is checked once, at the start; a call reads one structure's own fields.
 #![tactic(auto)]
 
-ghost use Rattle.std.specs.Prelude.{◌≡◌, cond, ◌+◌, ◌≤◌, ◌<◌, leb, length, drop};
+ghost use Rattle.std.specs.Prelude.{◌≡◌, cond, ◌+◌, ◌<◌, leb, length, drop};
 ghost use Rattle.xm.specs.Header.{kind_at};
 ghost use Rattle.xm.specs.PatternInFile.{least_pattern};
 ghost use Rattle.xm.specs.Instrument.{read_instrument};
-ghost use Rattle.xm.specs.Module.{file_most};
 ghost use Rattle.xm.specs.Table.{checking};
 ghost use Rattle.xm.specs.Structure.{ends_at, hand_head, hand_pattern, hand_instrument, hand_over, started};
-ghost use Rattle.walk.specs.File.{verdict_of};
-ghost use Rattle.structures.specs.Handing.{ahead_in, handed_with, handed_of, reached_of, handing};
+ghost use Rattle.refusal.specs.Refusal.{outcome};
+ghost use Rattle.walk.specs.File.{code_module};
+ghost use Rattle.structures.specs.Handing.{ahead_of, ahead_in, handed_next, handing};
 
-use refusal::Refusal;
+use refusal::{Refusal, Step};
 use steps::header::header_part;
-use steps::instrument::{InstrumentStep, read_instrument};
+use steps::instrument::read_instrument;
 use steps::pattern::pattern_head;
-use walk::{Verdict, check};
+use walk::{FILE_MOST, Module, check};
 
-// A structure's kind and place; or that the end is reached; or the check's refusal.
-#[derive(Clone, Copy)]
-pub enum Standing {
-    Pattern(usize),
-    Instrument(usize),
-    SampleHeader(usize),
-    End,
-    Refused(Refusal),
+#[derive(Clone, Copy, Debug, PartialEq, Eq)]
+pub enum StructureKind {
+    Pattern,
+    Instrument,
+    SampleHeader,
+}
+
+#[derive(Clone, Copy, Debug, PartialEq, Eq)]
+pub struct Structure {
+    pub kind: StructureKind,
+    pub place: usize,
 }
 
 // So many patterns and then instruments are left, from a place on; and before them, of the instrument that was handed over last, so many
 // sample headers, of a size, from a place on.
-#[derive(Clone, Copy)]
+#[derive(Clone, Copy, Debug, PartialEq, Eq)]
 pub struct Ahead {
     pub patterns: usize,
     pub instruments: usize,
@@ -40,65 +43,39 @@ pub struct Ahead {
     pub head_size: usize,
 }
 
-// How far has been read; of a refused file the check's refusal.
-#[derive(Clone, Copy)]
-pub enum Reached {
-    Within(Ahead),
-    Refused(Refusal),
-}
-
-#[derive(Clone, Copy)]
+// A structure, or none, for the end is reached; and how far has been read then. Of a refused file each is the check's refusal.
+#[derive(Clone, Copy, Debug, PartialEq, Eq)]
 pub struct Handed {
-    pub standing: Standing,
-    pub reached: Reached,
-}
-
-// What is handed over, and what is left then.
-fn with_ahead(standing: Standing, ahead: Ahead) -> Handed
-    ensures { result ≡ handed_with standing ahead }
-{
-    Handed {
-        standing: standing,
-        reached: Reached::Within(ahead),
-    }
+    pub standing: Result<Option<Structure>, Refusal>,
+    pub reached: Result<Ahead, Refusal>,
 }
 
 // A sample header of the instrument handed over last, if it lies in a file of so many bytes.
-fn hand_head(length: usize, ahead: Ahead) -> Handed
+fn hand_head(length: usize, ahead: Ahead) -> Option<(Structure, Ahead)>
     requires { 0 < ahead.heads }
-    ensures { result ≡ handed_of (cond (leb (ahead.head + ahead.head_size) length) (hand_head (ahead_in ahead)) (ends_at (ahead_in ahead))) }
+    ensures { result ≡ handed_next (cond (leb (ahead.head + ahead.head_size) length) (hand_head (ahead_in ahead)) (ends_at (ahead_in ahead))) }
 {
-    let head = ahead.head;
-    let size = ahead.head_size;
-    if length < head {
-        return with_ahead(Standing::End, ahead);
-    }
-    if length - head < size {
-        return with_ahead(Standing::End, ahead);
+    let place = ahead.head;
+    if length < place || length - place < ahead.head_size {
+        return None;
     }
     let next = Ahead {
-        patterns: ahead.patterns,
-        instruments: ahead.instruments,
-        place: ahead.place,
         heads: ahead.heads - 1,
-        head: head + size,
-        head_size: size,
+        head: place + ahead.head_size,
+        ..ahead
     };
-    with_ahead(Standing::SampleHeader(head), next)
+    let kind = StructureKind::SampleHeader;
+    Some((Structure { kind, place }, next))
 }
 
 // A pattern: its cells are not read again.
-fn hand_pattern(file: &[u8], ahead: Ahead) -> Handed
-    requires file_len_bound { length file.now ≤ file_most }
-    requires patterns_nonzero { 0 < ahead.patterns }
-    ensures { result ≡ handed_of (cond (leb (ahead.place + least_pattern) (length file.now)) (hand_pattern (drop ahead.place file.now) (ahead_in ahead)) (ends_at (ahead_in ahead))) }
+fn hand_pattern(file: &[u8], ahead: Ahead) -> Option<(Structure, Ahead)>
+    requires { 0 < ahead.patterns }
+    ensures { result ≡ handed_next (cond (leb (ahead.place + least_pattern) (length file.now)) (hand_pattern (drop ahead.place file.now) (ahead_in ahead)) (ends_at (ahead_in ahead))) }
 {
     let place = ahead.place;
-    if file.len() < 9 {
-        return with_ahead(Standing::End, ahead);
-    }
-    if file.len() - 9 < place {
-        return with_ahead(Standing::End, ahead);
+    if file.len().saturating_sub(place) < 9 {
+        return None;
     }
     let pattern = pattern_head(file, place);
     let next = Ahead {
@@ -109,23 +86,22 @@ fn hand_pattern(file: &[u8], ahead: Ahead) -> Handed
         head: 0,
         head_size: 0,
     };
-    with_ahead(Standing::Pattern(place), next)
+    let kind = StructureKind::Pattern;
+    Some((Structure { kind, place }, next))
 }
 
 // An instrument, by the step that the check makes: its fields, and its sample headers, of which there are at most 16. With H = 0 they stand at
 // one place, and are counted.
-fn hand_instrument(file: &[u8], ahead: Ahead) -> Handed
-    requires file_len_bound { length file.now ≤ file_most }
-    requires instruments_nonzero { 0 < ahead.instruments }
-    ensures { result ≡ handed_of (cond (leb ahead.place (length file.now)) (hand_instrument (read_instrument (kind_at file.now) ahead.place (drop ahead.place file.now)) (ahead_in ahead)) (ends_at (ahead_in ahead))) }
+fn hand_instrument(file: &[u8], ahead: Ahead) -> Option<(Structure, Ahead)>
+    requires { 0 < ahead.instruments }
+    ensures { result ≡ handed_next (cond (leb ahead.place (length file.now)) (hand_instrument (read_instrument (kind_at file.now) ahead.place (drop ahead.place file.now)) (ahead_in ahead)) (ends_at (ahead_in ahead))) }
 {
     let place = ahead.place;
     if file.len() < place {
-        return with_ahead(Standing::End, ahead);
+        return None;
     }
-    let step = read_instrument(file, place);
-    let InstrumentStep::Read(part) = step else {
-        return with_ahead(Standing::End, ahead);
+    let Step::Given(part) = read_instrument(file, place) else {
+        return None;
     };
     let next = Ahead {
         patterns: ahead.patterns,
@@ -135,15 +111,17 @@ fn hand_instrument(file: &[u8], ahead: Ahead) -> Handed
         head: place + part.size,
         head_size: part.head_size,
     };
-    with_ahead(Standing::Instrument(place), next)
+    let kind = StructureKind::Instrument;
+    Some((Structure { kind, place }, next))
 }
 
 // One call, of any such numbers: where they are of no accepted file, what is not there is the end.
-fn hand_over(file: &[u8], ahead: Ahead) -> Handed
-    ensures { result ≡ handed_of (hand_over file.now (ahead_in ahead)) }
+#[tactic(auto, unfolding(xm::specs::Structure::hand_over))]
+fn hand_over(file: &[u8], ahead: Ahead) -> Option<(Structure, Ahead)>
+    ensures { result ≡ handed_next (hand_over file.now (ahead_in ahead)) }
 {
-    if 16777216 < file.len() {
-        return with_ahead(Standing::End, ahead);
+    if FILE_MOST < file.len() {
+        return None;
     }
     if 0 < ahead.heads {
         return hand_head(file.len(), ahead);
@@ -154,47 +132,52 @@ fn hand_over(file: &[u8], ahead: Ahead) -> Handed
     if 0 < ahead.instruments {
         return hand_instrument(file, ahead);
     }
-    with_ahead(Standing::End, ahead)
+    None
 }
 
 // Before the first call, by the check's verdict on the file.
-pub fn start_checked(file: &[u8], verdict: Verdict) -> Reached
-    requires { verdict ≡ verdict_of (checking file.now) }
-    ensures { result ≡ reached_of (started file.now) }
+pub fn start_checked(file: &[u8], verdict: Result<Module, Refusal>) -> Result<Ahead, Refusal>
+    requires { verdict ≡ outcome code_module (checking file.now) }
+    ensures { result ≡ outcome ahead_of (started file.now) }
 {
-    match verdict {
-        Verdict::Accepted(found) => {
-            let counts = header_part(file);
-            Reached::Within(Ahead {
-                patterns: counts.patterns,
-                instruments: counts.instruments,
-                place: counts.start,
-                heads: 0,
-                head: 0,
-                head_size: 0,
-            })
-        }
-        Verdict::Refused(refusal) => Reached::Refused(refusal),
-    }
+    verdict?;
+    let counts = header_part(file);
+    Ok(Ahead {
+        patterns: counts.patterns,
+        instruments: counts.instruments,
+        place: counts.start,
+        heads: 0,
+        head: 0,
+        head_size: 0,
+    })
 }
 
 // The same, and the file is checked here, once.
-pub fn start(file: &[u8]) -> Reached
-    ensures { result ≡ reached_of (started file.now) }
+pub fn start(file: &[u8]) -> Result<Ahead, Refusal>
+    ensures { result ≡ outcome ahead_of (started file.now) }
 {
-    let verdict = check(file);
-    start_checked(file, verdict)
+    start_checked(file, check(file))
 }
 
-// A call: the next structure, or that the end is reached; of a refused file the check's refusal, again and again.
-pub fn hand(file: &[u8], reached: Reached) -> Handed
+// A call: the next structure, or none at the end; of a refused file the check's refusal, again and again.
+#[tactic(auto, using(crate::proofs::HandingLaws::hand_ends))]
+pub fn hand(file: &[u8], reached: Result<Ahead, Refusal>) -> Handed
     ensures { result ≡ handing file.now reached }
 {
     match reached {
-        Reached::Within(ahead) => hand_over(file, ahead),
-        Reached::Refused(refusal) => Handed {
-            standing: Standing::Refused(refusal),
-            reached: Reached::Refused(refusal),
+        Ok(ahead) => match hand_over(file, ahead) {
+            Some((structure, next)) => Handed {
+                standing: Ok(Some(structure)),
+                reached: Ok(next),
+            },
+            None => Handed {
+                standing: Ok(None),
+                reached,
+            },
+        },
+        Err(refusal) => Handed {
+            standing: Err(refusal),
+            reached,
         },
     }
 }

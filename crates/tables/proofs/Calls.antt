@@ -23,20 +23,21 @@ use Rattle.xm.specs.Region.{of_kind}
 use Rattle.xm.specs.Demands.{heads_in, bytes_in, RowUnpacks, RowsUnpack, LoopReads, TellsHeads, AcceptedFile, stretch_at}
 use Rattle.xm.proofs.Accepted.{accepted_files, number_at, all_at, loop_at, decodes_at, normal-byte}
 use Rattle.refusal.specs.declared.Refusal.{Refusal}
-use Rattle.walk.specs.declared.Verdict.{Verdict}
-use Rattle.walk.specs.declared.Verdict.TheVariants.{Refused}
-use Rattle.walk.specs.File.{verdict_of, verdict_numbers}
+use Rattle.std.specs.Prelude.{Result, Err}
+use Rattle.refusal.specs.Refusal.{outcome}
+use Rattle.walk.specs.declared.Module.{Module}
+use Rattle.walk.specs.File.{code_module, verdict_numbers}
 use Rattle.walk.proofs.Calls.{verdict_numbers_lem}
 use Rattle.tables.proofs.IntoLaws.{into_accepted}
 
 -- The numbers are the paper's
-pub into_numbers : (room : Room) (file : List ℕ) {answer : Verdict} → answer ≡ verdict_of (checking_into room file)
+pub into_numbers : (room : Room) (file : List ℕ) {answer : Result Module Refusal} → answer ≡ outcome code_module (checking_into room file)
     → verdict_numbers answer ≡ check_into_numbers room file
 into_numbers room file met = ap verdict_numbers met ∙ verdict_numbers_lem (checking_into room file)
 
 -- No second answer fits, nor other tables
-pub into_once : (room : Room) (file : List ℕ) {answer other : Verdict} → answer ≡ verdict_of (checking_into room file)
-    → other ≡ verdict_of (checking_into room file) → answer ≡ other
+pub into_once : (room : Room) (file : List ℕ) {answer other : Result Module Refusal} → answer ≡ outcome code_module (checking_into room file)
+    → other ≡ outcome code_module (checking_into room file) → answer ≡ other
 into_once room file met e = met ∙ sym e
 
 pub tables_once : (room : Room) (file : List ℕ) (lent : Tables) {after other : Tables} → after ≡ tables_after (checking_into room file) lent
@@ -44,12 +45,12 @@ pub tables_once : (room : Room) (file : List ℕ) (lent : Tables) {after other :
 tables_once room file lent met e = met ∙ sym e
 
 -- A refused check leaves the tables as they were
-refused_tables : (answer : Answer CheckReport) (lent : Tables) {refusal : Refusal} → Refused refusal ≡ verdict_of answer → tables_after answer lent ≡ lent
+refused_tables : (answer : Answer CheckReport) (lent : Tables) {refusal : Refusal} → Err refusal ≡ outcome code_module answer → tables_after answer lent ≡ lent
 unfolding tables_after
 refused_tables (gives c) lent e = absurd (let z : ◌≡◌ {A = ℕ} 0 1 = cc in omega arith)
 refused_tables (refuses r) lent e = refl
 
-pub into_unchanged : (room : Room) (file : List ℕ) (lent : Tables) {refusal : Refusal} {after : Tables} → Refused refusal ≡ verdict_of (checking_into room file)
+pub into_unchanged : (room : Room) (file : List ℕ) (lent : Tables) {refusal : Refusal} {after : Tables} → Err refusal ≡ outcome code_module (checking_into room file)
     → after ≡ tables_after (checking_into room file) lent → after ≡ lent
 into_unchanged room file lent told met = met ∙ refused_tables (checking_into room file) lent told
 

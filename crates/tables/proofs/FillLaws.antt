@@ -29,7 +29,7 @@ use Rattle.steps.specs.declared.pattern.PatternHead.{PatternHead}
 use Rattle.steps.specs.declared.instrument.InstrumentHead.{InstrumentHead}
 use Rattle.rows.proofs.Reading.{accepted-small, accepted-header, some_accepted, reads_none}
 use Rattle.rows.proofs.InstrumentLaws.{instrument_at, InstrumentStands, instruments_next}
-use Rattle.rows.proofs.PlaceLoops.{Skipping, PatternFits, skipping_start, skipping_on, skipping_end}
+use Rattle.rows.proofs.PlaceLoops.{Skipping, PatternFits, skipping_start, skipping_left, skipping_on, skipping_end}
 use Rattle.rows.proofs.SampleLaws.{rows_in, some_instrument}
 
 -- There is room for a piece that is still to be laid
@@ -51,11 +51,11 @@ pub record FillingPatterns (file lent out : List ℕ) (left place to : ℕ) : Ty
   pub laid : Laid lent (pattern_goal file) out to (joined pattern_numbers (map pattern_row parts))
 
 module _ (file lent : List ℕ) where
-  pub patterns_start : accepted (read_file file) ≡ true → length (pattern_goal file) ≤ length lent
-      → FillingPatterns file lent lent (patterns_at file) (header_end file) 0
-  patterns_start h room = record {
+  pub patterns_start : accepted (read_file file) ≡ true → length (pattern_goal file) ≤ length lent → {left : ℕ} → left ≡ patterns_at file
+      → FillingPatterns file lent lent left (header_end file) 0
+  patterns_start h room e = record {
     parts = list_in (λ (found : Found). found.1.0) (read_file file);
-    skipping = skipping_start file h;
+    skipping = skipping_left file (skipping_start file h) e;
     laid = rw (← patterns_in (read_file file)) (laid_none lent (pattern_goal file) room);
   }
 
@@ -77,10 +77,14 @@ module _ (file lent : List ℕ) where
       patterns_room =
           skipping_on file w.skipping l e λ i more ep es en fits rest. laid_room w.laid (x.place ∷ x.size ∷ x.rows ∷ []) _ (row_first ep en)
 
-      pub patterns_on : {new : List ℕ} → new ≡ lay out to (x.place ∷ x.size ∷ x.rows ∷ [])
-          → FillingPatterns file lent new (left - 1) (x.place + x.size) (to + 3)
-      patterns_on n = skipping_on file w.skipping l e λ i more ep es en fits rest.
-          record { parts = more; skipping = rest; laid = laid_lay w.laid (x.place ∷ x.size ∷ x.rows ∷ []) _ (row_first ep en) n refl }
+      pub patterns_on : {new : List ℕ} {left' to' : ℕ} → new ≡ lay out to (x.place ∷ x.size ∷ x.rows ∷ []) → left' ≡ left - 1 → to' ≡ to + 3
+          → FillingPatterns file lent new left' (x.place + x.size) to'
+      patterns_on n q z = skipping_on file w.skipping l e λ i more ep es en fits rest.
+          record {
+            parts = more;
+            skipping = skipping_left file rest q;
+            laid = laid_lay w.laid (x.place ∷ x.size ∷ x.rows ∷ []) _ (row_first ep en) n z;
+          }
 
 -- Instruments
 instruments_in : (g : Got Found) → list_in instrument_rows g ≡ instrument_rows_from 0 (list_in (λ (found : Found). found.1.1) g)
@@ -100,13 +104,13 @@ pub record FillingInstruments (file lent out : List ℕ) (left place first to : 
 
 module _ (file lent : List ℕ) where
   pub instruments_start : accepted (read_file file) ≡ true → {place : ℕ} → InstrumentsFrom file place → length (instrument_goal file) ≤ length lent
-      → FillingInstruments file lent lent (instruments_at file) place 0 0
-  instruments_start h from room = record {
+      → {left : ℕ} → left ≡ instruments_at file → FillingInstruments file lent lent left place 0 0
+  instruments_start h from room e = record {
     small = accepted-small file h;
     parts = list_in (λ (found : Found). found.1.1) (read_file file);
     end = from.end;
-    reads = from.reads;
-    few = omega (arith, (accepted-header file h).1.1.1.1.1.1.1.0);
+    reads = rw e from.reads;
+    few = omega (arith, e, (accepted-header file h).1.1.1.1.1.1.1.0);
     laid = rw (← instruments_in (read_file file)) (laid_none lent (instrument_goal file) room);
   }
 
@@ -141,17 +145,17 @@ module _ (file lent : List ℕ) where
             instruments_next file w.small bytes w.reads l λ i n more ei s ep rest.
             laid_room w.laid (place ∷ x.samples ∷ first ∷ []) _ (instrument_first s ep)
 
-        pub instruments_on : {new : List ℕ} {there later : ℕ} → new ≡ lay out to (place ∷ x.samples ∷ first ∷ []) → there ≡ data_end file x
-            → later ≡ first + x.samples → FillingInstruments file lent new (left - 1) there later (to + 3)
-        instruments_on {there = there} n q f = instruments_next file w.small bytes w.reads l λ i m more ei s ep rest.
+        pub instruments_on : {new : List ℕ} {there later left' to' : ℕ} → new ≡ lay out to (place ∷ x.samples ∷ first ∷ []) → there ≡ data_end file x
+            → later ≡ first + x.samples → left' ≡ left - 1 → to' ≡ to + 3 → FillingInstruments file lent new left' there later to'
+        instruments_on {there = there} n q f o z = instruments_next file w.small bytes w.reads l λ i m more ei s ep rest.
             let behind : there ≡ place + m = q ∙ ap (data_end file) e ∙ sym s.next in
             record {
               small = w.small;
               parts = more;
               end = w.end;
-              reads = rw behind rest;
+              reads = rw (behind, o) rest;
               few = omega (arith, w.few, s.stands.few, ap InstrumentHead.samples e);
-              laid = rw f (laid_lay w.laid (place ∷ x.samples ∷ first ∷ []) _ (instrument_first s ep) n refl);
+              laid = rw f (laid_lay w.laid (place ∷ x.samples ∷ first ∷ []) _ (instrument_first s ep) n z);
             }
 
 -- Where there are samples, the first number of a filled table is the place where the instruments start

@@ -1,6 +1,7 @@
 -- The check beside rows for samples, and the check into the tables: refused as the check is, refused for room, or accepted and filled. Assumes nothing.
 use Prim.Native.Nat.{ℕ, ◌+◌, ◌/◌, ◌≤◌, ◌<◌, min}
-use mathlib.Core.Bool.{Bool, true, false}
+use mathlib.Core.Bool.{Bool, true, false, cond}
+use lib.Dec.{leb}
 use mathlib.Core.List.{List, [], ◌∷◌}
 use mathlib.Core.Path.{◌≡◌, refl, sym, ap, ap₂, ◌∙◌, subst}
 use native.Mathlib.Nat.{min-le_left, min-le_right}
@@ -8,7 +9,7 @@ use native.Mathlib.Omega.{arith}
 use lib.IntN.{ℤ}
 use lib.ListN.{length, get_or, length-map, length-replicate, replicate, drop}
 use Rattle.xm.specs.Number.{Bytes}
-use Rattle.xm.specs.Got.{got, ◌at◌, list_in, accepted}
+use Rattle.xm.specs.Got.{got, ◌at◌, Test, list_in, accepted}
 use Rattle.xm.specs.Got as paper
 use Rattle.xm.specs.Format.{joined}
 use Rattle.xm.specs.Answer.{Answer, gives, refuses, in_front}
@@ -24,21 +25,21 @@ use Rattle.xm.specs.Demands.{HasRoom}
 use Rattle.xm.proofs.Answer.{gives_bound, gives_passed, gives_same}
 use Rattle.xm.proofs.Format.{joined_length, read_length}
 use Rattle.xm.proofs.Demands.{tables_tell}
-use Rattle.refusal.specs.Refusal.{code_refusal}
+use Rattle.std.specs.Prelude.{Result, Ok, Err}
+use Rattle.refusal.specs.Refusal.{code_refusal, refusal_at, outcome}
 use Rattle.refusal.specs.declared.Refusal.{Refusal}
-use Rattle.xm.specs.Got.{all_pass}
-use Rattle.walk.specs.File.{verdict_of}
+use Rattle.walk.specs.File.{code_module}
 use Rattle.walk.specs.declared.Module.{Module}
-use Rattle.walk.specs.declared.Verdict.{Verdict}
-use Rattle.walk.specs.declared.Verdict.TheVariants as verdict
-use Rattle.walk.proofs.FileLaws.{same_module}
-use Rattle.xm.proofs.Got.{all_hold}
-use Rattle.refusal.proofs.TestLaws.{not_all_hold}
+use Rattle.xm.proofs.Got.{no_true}
+use Rattle.refusal.specs.Test.{tested}
+use Rattle.refusal.specs.declared.Cause.{Cause}
+use Rattle.refusal.specs.declared.Cause.TheVariants.{NoRoom}
+use Rattle.refusal.proofs.TestLaws.{tested_lem, tested_holds}
 use Rattle.tables.specs.Into.{lent, room_beside, room_tests_of, patterns_after, instruments_after}
 use Rattle.rows.specs.Accepted.{InstrumentsFrom}
 use Rattle.rows.proofs.Reading.{file_reads}
 use Rattle.tables.proofs.FillLaws.{instruments_first}
-use Rattle.tables.proofs.VerdictLaws.{never, verdict_got, verdict_refused}
+use Rattle.tables.proofs.VerdictLaws.{never, same_module, verdict_got, verdict_refused}
 
 -- As many rows as the check counts
 rows_from_lem : (first : ℕ) (is : List InstrumentFound) → length (instrument_rows_from first is) ≡ length is
@@ -51,7 +52,7 @@ pub record Counted (found : Found) (x : Module) : Type 0 where
   pub samples : length (sample_rows found) ≡ x.samples
 
 pub rows_counted : (file : List ℕ) (found : Found) (end : ℕ) → read_file file ≡ got found end → {x : Module}
-    → verdict.Accepted x ≡ verdict_of (gives (checked_as found end)) → Counted found x
+    → Ok x ≡ outcome code_module (gives (checked_as found end)) → Counted found x
 rows_counted file found end e {x} v =
     let w = file_reads file found end e in
     let same = same_module v in
@@ -71,6 +72,16 @@ rows_counted file found end e {x} v =
       samples = sym (ap Module.samples same);
     }
 
+-- Too little room is refused for that cause alone
+no_room : (room : Room) (x : Module) {cause : Cause} → tested (room_tests_of room x) ≡ Err cause → cause ≡ NoRoom
+no_room room x {cause} = go (leb x.patterns room.patterns) (leb x.instruments room.instruments) (leb x.samples room.samples)
+  where
+    go : (a b c : Bool) → cond a (cond b (cond c (Ok (tt {0})) (Err NoRoom)) (Err NoRoom)) (Err NoRoom) ≡ Err cause → cause ≡ NoRoom
+    go false b c e = cc
+    go true false c e = cc
+    go true true false e = cc
+    go true true true e = absurd (no_true (cc))
+
 -- Accepted, a check into some room says what is found, and that there is room for it
 module _ (room : Room) (file : List ℕ) where
   pub into_accepted : {R : Type 0} (c : CheckReport) → checking_into room file ≡ gives c
@@ -89,37 +100,38 @@ module _ (file patterns instruments : List ℕ) (rows : ℕ) where
   into = checking_into (room_beside (length patterns) (length instruments) rows) file
 
   -- what a call answers, and what it leaves in the two tables
-  pub record IntoTold (answer : Verdict) (patterns' instruments' : List ℕ) : Type 0 where
-    pub answers : answer ≡ verdict_of into
+  pub record IntoTold (answer : Result Module Refusal) (patterns' instruments' : List ℕ) : Type 0 where
+    pub answers : answer ≡ outcome code_module into
     pub leaves_patterns : patterns' ≡ patterns_after into patterns
     pub leaves_instruments : instruments' ≡ instruments_after into instruments
 
-  told_refused : {r : paper.Refusal} → into ≡ refuses r → IntoTold (verdict.Refused (code_refusal r)) patterns instruments
+  told_refused : {r : paper.Refusal} → into ≡ refuses r → IntoTold (Err (code_refusal r)) patterns instruments
   told_refused e = record {
-    answers = sym (ap verdict_of e);
+    answers = sym (ap (outcome code_module) e);
     leaves_patterns = sym (ap (λ (a : Answer CheckReport). patterns_after a patterns) e);
     leaves_instruments = sym (ap (λ (a : Answer CheckReport). instruments_after a instruments) e);
   }
 
-  pub beside_refused : {v : Verdict} {f : Refusal} → v ≡ verdict_of (checking file) → v ≡ verdict.Refused f → IntoTold v patterns instruments
+  pub beside_refused : {v : Result Module Refusal} {f : Refusal} → v ≡ outcome code_module (checking file) → v ≡ Err f → IntoTold v patterns instruments
   beside_refused e told = verdict_refused file e told λ r q same. rw same (told_refused ((tables_tell file _).own_first r q))
 
-  module _ {x : Module} (e : verdict.Accepted x ≡ verdict_of (checking file)) where
-    told_found : {R : Type 0} → ((found : Found) (end : ℕ) → read_file file ≡ got found end → verdict.Accepted x ≡ verdict_of (gives (checked_as found end))
+  module _ {x : Module} (e : Ok x ≡ outcome code_module (checking file)) where
+    told_found : {R : Type 0} → ((found : Found) (end : ℕ) → read_file file ≡ got found end → Ok x ≡ outcome code_module (gives (checked_as found end))
         → Counted found x → R) → R
     told_found k = verdict_got file e λ found end q v. k found end q v (rows_counted file found end q v)
 
-    abbrev fits : Bool
-    fits = all_pass (room_tests_of (room_beside (length patterns) (length instruments) rows) x)
+    abbrev tests : List Test
+    tests = room_tests_of (room_beside (length patterns) (length instruments) rows) x
 
-    pub beside_cramped : fits ≡ false → IntoTold (verdict.Refused (code_refusal (14 at 0))) patterns instruments
+    pub beside_cramped : {cause : Cause} → tested tests ≡ Err cause → IntoTold (Err (refusal_at cause 0)) patterns instruments
     beside_cramped f = told_found λ found end q v c.
-        told_refused (((tables_tell file _).no_room_exactly found end q).1
-        (λ h. not_all_hold _ f (omega (arith, h.0, c.patterns), (omega (arith, h.1, c.instruments), (omega (arith, h.2, c.samples), tt)))))
+        rw (no_room _ x f)
+        (told_refused (((tables_tell file _).no_room_exactly found end q).1
+        (λ h. no_true (cc (f, tested_lem tests (omega (arith, h.0, c.patterns), (omega (arith, h.1, c.instruments), (omega (arith, h.2, c.samples), tt))))))))
 
-    room_for : fits ≡ true → (found : Found) → Counted found x → HasRoom (room_beside (length patterns) (length instruments) rows) found
+    room_for : tested tests ≡ Ok tt → (found : Found) → Counted found x → HasRoom (room_beside (length patterns) (length instruments) rows) found
     room_for f found c =
-        let h = all_hold _ f in (omega (arith, h.0, c.patterns), omega (arith, h.1.0, c.instruments), omega (arith, h.1.1.0, c.samples))
+        let h = tested_holds tests f in (omega (arith, h.0, c.patterns), omega (arith, h.1.0, c.instruments), omega (arith, h.1.1.0, c.samples))
 
     -- there is room for every number, so that the tables can be filled
     pub record Roomy : Type 0 where
@@ -127,7 +139,7 @@ module _ (file patterns instruments : List ℕ) (rows : ℕ) where
       pub for_patterns : length (joined pattern_numbers (list_in pattern_rows (read_file file))) ≤ length patterns
       pub for_instruments : length (joined instrument_numbers (list_in instrument_rows (read_file file))) ≤ length instruments
 
-    pub beside_roomy : fits ≡ true → Roomy
+    pub beside_roomy : tested tests ≡ Ok tt → Roomy
     beside_roomy f = told_found λ found end q v c.
         let h = room_for f found c in
         record {
@@ -136,14 +148,14 @@ module _ (file patterns instruments : List ℕ) (rows : ℕ) where
           for_instruments = rw q (omega (arith, h.1, joined_length instrument_stride instrument_numbers (λ row. refl) (instrument_rows found)));
         }
 
-    pub beside_filled : fits ≡ true → {patterns' instruments' : List ℕ}
+    pub beside_filled : tested tests ≡ Ok tt → {patterns' instruments' : List ℕ}
         → patterns' ≡ in_front (joined pattern_numbers (list_in pattern_rows (read_file file))) patterns
         → instruments' ≡ in_front (joined instrument_numbers (list_in instrument_rows (read_file file))) instruments
-        → IntoTold (verdict.Accepted x) patterns' instruments'
+        → IntoTold (Ok x) patterns' instruments'
     beside_filled f p i = told_found λ found end q v c.
         let a : into ≡ gives (checked_as found end) = (tables_tell file _).filled_else found end q (room_for f found c) in
         record {
-          answers = v ∙ sym (ap verdict_of a);
+          answers = v ∙ sym (ap (outcome code_module) a);
           leaves_patterns = p ∙ rw q refl ∙ sym (ap (λ (a : Answer CheckReport). patterns_after a patterns) a);
           leaves_instruments = i ∙ rw q refl ∙ sym (ap (λ (a : Answer CheckReport). instruments_after a instruments) a);
         }
@@ -160,35 +172,35 @@ module _ (file patterns instruments samples : List ℕ) (tunes : List ℤ) where
   rows_lent = min (length samples / sample_stride) (length tunes / tune_stride)
 
   -- what a call answers, and what it leaves in the tables
-  pub record ToldInto (v : Verdict) (left : Tables) : Type 0 where
-    pub answers : v ≡ verdict_of answer
+  pub record ToldInto (v : Result Module Refusal) (left : Tables) : Type 0 where
+    pub answers : v ≡ outcome code_module answer
     pub leaves : left ≡ tables_after answer tables
 
   lent_path : {a b c d e f : List ℕ} {g h : List ℤ} → a ≡ b → c ≡ d → e ≡ f → g ≡ h → lent a c e g ≡ lent b d f h
   lent_path p q r s = cc
 
-  module _ {rows : ℕ} {v : Verdict} {patterns' instruments' : List ℕ} (n : rows ≡ rows_lent)
+  module _ {rows : ℕ} {v : Result Module Refusal} {patterns' instruments' : List ℕ} (n : rows ≡ rows_lent)
       (told : IntoTold file patterns instruments rows v patterns' instruments') where
     here : IntoTold file patterns instruments rows_lent v patterns' instruments'
     here = subst (λ (rows : ℕ). IntoTold file patterns instruments rows v patterns' instruments') n told
 
-    pub into_refused : {f : Refusal} → v ≡ verdict.Refused f → ToldInto v (lent patterns' instruments' samples tunes)
+    pub into_refused : {f : Refusal} → v ≡ Err f → ToldInto v (lent patterns' instruments' samples tunes)
     unfolding tables_after
     into_refused refused = record { answers = here.answers; leaves = go answer refl }
       where
         go : (a : Answer CheckReport) → answer ≡ a → lent patterns' instruments' samples tunes ≡ tables_after answer tables
-        go (gives c) q = never (sym (here.answers ∙ ap verdict_of q) ∙ refused)
+        go (gives c) q = never (sym (here.answers ∙ ap (outcome code_module) q) ∙ refused)
         go (refuses r) q = rw q (lent_path (here.leaves_patterns ∙ rw q refl) (here.leaves_instruments ∙ rw q refl) refl refl)
 
-    module _ {x : Module} (is : v ≡ verdict.Accepted x) where
+    module _ {x : Module} (is : v ≡ Ok x) where
       accepts : {R : Type 0} → ((c : CheckReport) → answer ≡ gives c → read_file file ≡ got c.found c.end → HasRoom (room_of tables) c.found
           → x.samples ≡ length (sample_rows c.found) → R) → R
       accepts {R} k = go answer refl
         where
           go : (a : Answer CheckReport) → answer ≡ a → R
           go (gives c) q =
-              into_accepted (room_of tables) file c q λ found h. k c q found h (ap Module.samples (same_module (sym is ∙ here.answers ∙ ap verdict_of q)))
-          go (refuses r) q = never (sym is ∙ here.answers ∙ ap verdict_of q)
+              into_accepted (room_of tables) file c q λ found h. k c q found h (ap Module.samples (same_module (sym is ∙ here.answers ∙ ap (outcome code_module) q)))
+          go (refuses r) q = never (sym is ∙ here.answers ∙ ap (outcome code_module) q)
 
       -- the instrument table tells where the samples are sought from, and there is room for every number of theirs
       pub record RoomyInto : Type 0 where
@@ -211,7 +223,7 @@ module _ (file patterns instruments samples : List ℕ) (tunes : List ℤ) where
       pub into_filled : {samples' : List ℕ} {tunes' : List ℤ}
           → samples' ≡ in_front (joined sample_numbers (list_in sample_rows (read_file file))) samples
           → tunes' ≡ in_front (joined sample_tunes (list_in sample_rows (read_file file))) tunes
-          → ToldInto (verdict.Accepted x) (lent patterns' instruments' samples' tunes')
+          → ToldInto (Ok x) (lent patterns' instruments' samples' tunes')
       unfolding tables_after
       into_filled s t = accepts λ c q found h n. record {
         answers = sym is ∙ here.answers;

@@ -5,40 +5,39 @@ pub mod fill;
 
 ghost use Rattle.std.specs.Prelude.{◌≡◌, ◌/◌, min, length, get_or};
 ghost use Rattle.xm.specs.Table.{sample_stride, tune_stride, checking_into};
-ghost use Rattle.xm.specs.Got.{all_pass};
-ghost use Rattle.walk.specs.File.{verdict_of};
+ghost use Rattle.refusal.specs.Refusal.{outcome};
+ghost use Rattle.refusal.specs.Test.{tested};
+ghost use Rattle.walk.specs.File.{code_module};
 ghost use Rattle.tables.specs.Into.{lent, checked_into, tables_then, room_beside, room_tests_of, patterns_after, instruments_after};
 
 use asking::SAMPLE_STRIDE;
 use fill::{INSTRUMENT_STRIDE, PATTERN_STRIDE, fill_instruments, fill_patterns, fill_samples};
-use refusal::Refusal;
+use refusal::{Cause, Refusal, ensure};
+use rows::accepted::Accepted;
 use rows::sample::TUNE_STRIDE;
-use walk::{Module, Verdict, check};
+use walk::{Module, check};
 
 // How many rows are lent for samples: seven numbers to a row, and apart its two tunes. What is left of a last row that is not whole
 // counts for none.
+// A stride divides, since only how many whole rows there are is asked.
 fn rows_lent(samples: usize, tunes: usize) -> usize
     ensures { result ≡ min (samples / sample_stride) (tunes / tune_stride) }
 {
-    let rows = samples / SAMPLE_STRIDE;
-    let tuned = tunes / TUNE_STRIDE;
-    if rows < tuned { rows } else { tuned }
+    (samples / SAMPLE_STRIDE).min(tunes / TUNE_STRIDE)
 }
 
-// Whether there is a row for each structure: the pattern and instrument tables by their numbers, the samples' by its rows.
-fn has_room(found: Module, patterns: usize, instruments: usize, rows: usize) -> bool
-    ensures { result ≡ all_pass (room_tests_of (room_beside patterns instruments rows) found) }
+// The tests of the room, in their order: a row for each structure, of the pattern and instrument tables by their numbers, of the samples'
+// by its rows.
+// A stride divides, since only how many whole rows there are is asked.
+fn room_tests(found: Module, patterns: usize, instruments: usize, rows: usize) -> Result<(), Cause>
+    ensures { result ≡ tested (room_tests_of (room_beside patterns instruments rows) found) }
 {
-    if patterns / PATTERN_STRIDE < found.patterns {
-        return false;
-    }
-    if instruments / INSTRUMENT_STRIDE < found.instruments {
-        return false;
-    }
-    if rows < found.samples {
-        return false;
-    }
-    true
+    ensure(found.patterns <= patterns / PATTERN_STRIDE, Cause::NoRoom)?;
+    ensure(
+        found.instruments <= instruments / INSTRUMENT_STRIDE,
+        Cause::NoRoom,
+    )?;
+    ensure(found.samples <= rows, Cause::NoRoom)
 }
 
 // The check of a file beside so many rows for its samples, which are filled apart: once nothing can be refused any more it fills the
@@ -48,58 +47,48 @@ pub fn check_beside(
     patterns: &mut [u32],
     instruments: &mut [u32],
     rows: usize,
-) -> Verdict
-    ensures answer { result ≡ verdict_of (checking_into (room_beside (length patterns.old) (length instruments.old) rows) file.now) }
+) -> Result<Module, Refusal>
+    ensures answer { result ≡ outcome code_module (checking_into (room_beside (length patterns.old) (length instruments.old) rows) file.now) }
     ensures patterns { patterns.new
         ≡ patterns_after (checking_into (room_beside (length patterns.old) (length instruments.old) rows) file.now) patterns.old }
     ensures instruments { instruments.new
         ≡ instruments_after (checking_into (room_beside (length patterns.old) (length instruments.old) rows) file.now) instruments.old }
 {
-    let verdict = check(file);
-    let Verdict::Accepted(found) = verdict else {
-        return verdict;
-    };
-    if !has_room(found, patterns.len(), instruments.len(), rows) {
-        return Verdict::Refused(Refusal {
-            number: 14,
-            place: 0,
-        });
+    let found = check(file)?;
+    if let Err(cause) = room_tests(found, patterns.len(), instruments.len(), rows) {
+        return Err(cause.at(0));
     }
-    let start = fill_patterns(file, patterns);
-    fill_instruments(file, start, instruments);
-    verdict
+    let accepted = Accepted { file };
+    let start = fill_patterns(accepted, patterns);
+    fill_instruments(accepted, start, instruments);
+    Ok(found)
 }
 
 // The first number of a table; 0 of an empty one.
 fn first_number(table: &[u32]) -> usize
     ensures { result ≡ get_or table.now 0 0 }
 {
-    if table.len() == 0 {
-        return 0;
-    }
-    table[0] as usize
+    table.first().map_or(0, |number| *number as usize)
 }
 
 // The check of a file, which fills the three tables once nothing can be refused any more: three numbers to a pattern, three to an
 // instrument; of a sample seven, and its two tunes apart.
+// Samples and tunes apart, as C lends them.
 pub fn check_into(
     file: &[u8],
     patterns: &mut [u32],
     instruments: &mut [u32],
     samples: &mut [u32],
     tunes: &mut [i8],
-) -> Verdict
-    ensures answer { result ≡ verdict_of (checked_into file.now (lent patterns.old instruments.old samples.old tunes.old)) }
+) -> Result<Module, Refusal>
+    ensures answer { result ≡ outcome code_module (checked_into file.now (lent patterns.old instruments.old samples.old tunes.old)) }
     ensures memory { lent patterns.new instruments.new samples.new tunes.new
         ≡ tables_then file.now (lent patterns.old instruments.old samples.old tunes.old) }
 {
     let rows = rows_lent(samples.len(), tunes.len());
-    let verdict = check_beside(file, patterns, instruments, rows);
-    let Verdict::Accepted(found) = verdict else {
-        return verdict;
-    };
+    let found = check_beside(file, patterns, instruments, rows)?;
     // A row of the instrument table begins with the instrument's place.
     let start = first_number(instruments);
     fill_samples(file, start, found.samples, samples, tunes);
-    verdict
+    Ok(found)
 }

@@ -1,5 +1,6 @@
 -- What holds of every answer that meets `check`'s contract. Assumes nothing.
 use Prim.Native.Nat.{ℕ}
+use Rattle.std.specs.Prelude.{Result}
 use mathlib.Core.List.{List, [], ◌∷◌}
 use mathlib.Core.Path.{◌≡◌, refl, sym, ap, ◌∙◌, subst}
 use Rattle.xm.specs.Number.{Bytes}
@@ -10,15 +11,17 @@ use Rattle.xm.specs.Module.{Content, module_format, read_file}
 use Rattle.xm.specs.Table.{CheckReport, checking, check_results, check_numbers}
 use Rattle.xm.specs.Demands.{FileOf, counts_of, Accepts}
 use Rattle.xm.proofs.Demands.{demand₂}
-use Rattle.walk.specs.declared.Verdict.{Verdict}
-use Rattle.walk.specs.File.{verdict_of, verdict_numbers}
+use Rattle.refusal.specs.Refusal.{outcome}
+use Rattle.refusal.specs.declared.Refusal as code
+use Rattle.walk.specs.declared.Module.{Module}
+use Rattle.walk.specs.File.{code_module, verdict_numbers}
 
 -- The numbers are the paper's
-pub verdict_numbers_lem : (answer : Answer CheckReport) → verdict_numbers (verdict_of answer) ≡ numbers check_results answer
+pub verdict_numbers_lem : (answer : Answer CheckReport) → verdict_numbers (outcome code_module answer) ≡ numbers check_results answer
 verdict_numbers_lem (gives c) = refl
 verdict_numbers_lem (refuses r) = refl
 
-module _ (file : List ℕ) {answer : Verdict} (met : answer ≡ verdict_of (checking file)) where
+module _ (file : List ℕ) {answer : Result Module code.Refusal} (met : answer ≡ outcome code_module (checking file)) where
   reported : verdict_numbers answer ≡ check_numbers file
   reported = ap verdict_numbers met ∙ verdict_numbers_lem (checking file)
 
@@ -36,5 +39,5 @@ module _ (file : List ℕ) {answer : Verdict} (met : answer ≡ verdict_of (chec
   check_refuses r e = reported ∙ demand₂.check.refused_so file r e
 
   -- No second answer fits
-  pub check_once : (other : Verdict) → other ≡ verdict_of (checking file) → answer ≡ other
+  pub check_once : (other : Result Module code.Refusal) → other ≡ outcome code_module (checking file) → answer ≡ other
   check_once other e = met ∙ sym e

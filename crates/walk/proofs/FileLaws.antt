@@ -10,68 +10,37 @@ use Rattle.xm.specs.Number.{Bytes, word_at}
 use Rattle.xm.specs.ModuleKind.{ModuleKind, normal, stripped}
 use Rattle.xm.specs.Got.{Got, got, refused, ◌>>=◌, ◌>>◌, ◌at◌}
 use Rattle.xm.specs.Got as paper
-use Rattle.xm.specs.Format.{Format, each, joined}
+use Rattle.xm.specs.Format.{Format, each}
+use Rattle.xm.specs.Answer.{answered}
 use Rattle.xm.specs.Header.{Header, HeaderFound, least_header, orders_most, GoodTracker, GoodHeader, kind_at, read_header, write_header, header_format}
 use Rattle.xm.specs.PatternInFile.{PatternFound, pattern_format}
 use Rattle.xm.specs.Instrument.{InstrumentFound, instrument_format}
 use Rattle.xm.specs.Module.{patterns_for, instruments_for, Found, file_most, module_format, read_whole, read_file}
-use Rattle.xm.specs.Table.{sample_rows_in, checking}
+use Rattle.xm.specs.Table.{checking}
 use Rattle.xm.proofs.Number.{bytes_drop}
 use Rattle.xm.proofs.Got.{no_true, test_fails, pass, passed, step as step_on, step_refused, got_value, got_carry}
 use Rattle.xm.proofs.Format.{many_keeps}
 use Rattle.xm.proofs.Header.{header_keeps}
 use Rattle.xm.proofs.PatternInFile.{pattern_keeps}
 use Rattle.xm.proofs.Module.{whole_read}
-use Rattle.refusal.specs.Refusal.{paper_refusal, place_step}
+use Rattle.std.specs.Prelude.{Ok, Err}
+use Rattle.refusal.specs.Refusal.{paper_refusal, outcome, step_by, place_step}
 use Rattle.refusal.specs.declared.Refusal.{Refusal}
-use Rattle.refusal.specs.declared.Step.TheVariants.{Next}
-use Rattle.refusal.proofs.Steps.{next_got}
+use Rattle.refusal.specs.declared.Step.TheVariants.{Given}
+use Rattle.refusal.proofs.Steps.{given_got, next_got}
 use Rattle.mark.specs.Mark.{Marks}
-use Rattle.steps.specs.Step.{header_step}
+use Rattle.steps.specs.Step.{header_given}
 use Rattle.steps.specs.declared.header.HeaderPart.{HeaderPart}
-use Rattle.steps.specs.declared.header.HeaderStep.TheVariants as header
-use Rattle.walk.specs.File.{run_step, patterns_step, instruments_step, run_refusal, count_step, count_refusal, walk_step, verdict_of}
+use Rattle.walk.specs.File.{run_given, count_given, pressed_as, code_module}
 use Rattle.walk.specs.declared.Run.{Run}
-use Rattle.walk.specs.declared.RunStep.{RunStep}
-use Rattle.walk.specs.declared.RunStep.TheVariants as run
 use Rattle.walk.specs.declared.Count.{Count}
-use Rattle.walk.specs.declared.CountStep.{CountStep}
-use Rattle.walk.specs.declared.CountStep.TheVariants as counted
-use Rattle.walk.specs.declared.WalkStep.TheVariants as walked
-use Rattle.walk.specs.declared.Module.{Module}
-use Rattle.walk.specs.declared.Verdict.TheVariants as verdict
-
--- An accepted verdict tells what it is of
-pub same_module : {one other : Module} → verdict.Accepted one ≡ verdict.Accepted other → one ≡ other
-same_module e = cc
-
--- What a step's answer says of its reading
-run_got : {R H I A : Type 0} (F : Format H I A) (place : ℕ) (g : Got (List I)) {part : Run} → run.Read part ≡ run_step F place g
-    → ((is : List I) (n : ℕ) → g ≡ got is n → part.next ≡ place + n → part.pressed ≡ length ((each F).write ((each F).view is)) → R) → R
-run_got F place (got is n) e k = k is n refl (cc) (cc)
-run_got F place (refused r) e k = absurd (no_true (cc))
-
-pub run_refused : {H I A : Type 0} (F : Format H I A) (place : ℕ) (g : Got (List I)) {step : RunStep} {f r : Refusal} → step ≡ run_step F place g
-    → step ≡ run.Refused f → r ≡ run_refusal step → g ≡ refused (paper_refusal r)
-run_refused F place (got is n) e told passed = cc
-run_refused F place (refused q) e told passed = cc
-
-count_got : {R : Type 0} (place : ℕ) (g : Got (List InstrumentFound)) {part : Count} → counted.Read part ≡ count_step place g
-    → ((is : List InstrumentFound) (n : ℕ) → g ≡ got is n → part.next ≡ place + n → part.samples ≡ length (joined sample_rows_in is) → R) → R
-count_got place (got is n) e k = k is n refl (cc) (cc)
-count_got place (refused r) e k = absurd (no_true (cc))
-
-pub count_refused : (place : ℕ) (g : Got (List InstrumentFound)) {step : CountStep} {f r : Refusal} → step ≡ count_step place g → step ≡ counted.Refused f
-    → r ≡ count_refusal step → g ≡ refused (paper_refusal r)
-count_refused place (got is n) e told passed = cc
-count_refused place (refused q) e told passed = cc
 
 -- A refusal is the answer, and leaves nothing to mark
 pub walk_refuses : (to : ModuleKind) (file marks : List ℕ) {r : Refusal} → read_file file ≡ refused (paper_refusal r)
-    → (walked.Refused r ≡ walk_step to (read_file file)) × ((found : Found) (end : ℕ) → read_file file ≡ got found end → Marks file 0 found.1.0 marks)
-walk_refuses to file marks e = (sym (ap (walk_step to) e), λ found end q. absurd (no_true (cc)))
+    → (Err r ≡ outcome length (answered (pressed_as to) (read_file file))) × ((found : Found) (end : ℕ) → read_file file ≡ got found end → Marks file 0 found.1.0 marks)
+walk_refuses to file marks e = (sym (ap (λ (g : Got Found). outcome length (answered (pressed_as to) g)) e), λ found end q. absurd (no_true (cc)))
 
-pub check_refuses : (file : List ℕ) {r : Refusal} → read_file file ≡ refused (paper_refusal r) → verdict.Refused r ≡ verdict_of (checking file)
+pub check_refuses : (file : List ℕ) {r : Refusal} → read_file file ≡ refused (paper_refusal r) → Err r ≡ outcome code_module (checking file)
 unfolding checking
 check_refuses file e = cc
 
@@ -123,7 +92,7 @@ module _ (file : List ℕ) where
   unfolding read_whole
   header_out e = refused_first _ _ _ e
 
-  module _ {part : HeaderPart} (e : header.Read part ≡ header_step (read_whole (header_format kind) file)) where
+  module _ {part : HeaderPart} (e : Given part ≡ step_by header_given (read_whole (header_format kind) file)) where
     record Began : Type 0 where
       head : HeaderFound
       small : length file ≤ file_most
@@ -135,7 +104,7 @@ module _ (file : List ℕ) where
     began : Began
     began = go (read_whole (header_format kind) file) refl e
       where
-        go : (g : Got HeaderFound) → read_whole (header_format kind) file ≡ g → header.Read part ≡ header_step g → Began
+        go : (g : Got HeaderFound) → read_whole (header_format kind) file ≡ g → Given part ≡ step_by header_given g → Began
         go (got i n) q e = whole_read (header_format kind) file i n q λ small r.
             record { head = i; small = small; reads = cc; channels = cc; patterns = cc; instruments = cc }
         go (refused r) q e = absurd (no_true (cc))
@@ -188,11 +157,11 @@ module _ (file : List ℕ) where
       pub ended : PatternsAt first.next
       pub pressed : first.pressed ≡ length ((each pattern_format).write ((each pattern_format).view ended.parts))
 
-    pub patterns_read : {first : Run} → run.Read first ≡ patterns_step part.start patterns → PatternsRead first
-    patterns_read d = run_got pattern_format part.start patterns d λ is n q z l.
-        record { ended = record { parts = is; used = n; reads = q; ends = z }; pressed = l }
+    pub patterns_read : {first : Run} → Given first ≡ step_by (run_given pattern_format part.start) patterns → PatternsRead first
+    patterns_read d = given_got (run_given pattern_format part.start) patterns d λ is n q e.
+        record { ended = record { parts = is; used = n; reads = q; ends = ap Run.next e }; pressed = ap Run.pressed e }
 
-    pub patterns_tried : {next : ℕ} → Next next ≡ place_step part.start patterns → PatternsAt next
+    pub patterns_tried : {next : ℕ} → Given next ≡ place_step part.start patterns → PatternsAt next
     patterns_tried d = next_got part.start patterns d λ is n q z. record { parts = is; used = n; reads = q; ends = z }
 
     module _ {next : ℕ} (ps : PatternsAt next) where
@@ -227,31 +196,34 @@ module _ (file : List ℕ) where
           whole ∙ step_on _ began.reads (step_on _ (step_on _ (same_patterns ∙ ps.reads) (step_on _ (same_instruments ∙ ei) refl)) (cc on))
 
       -- and measured
-      module _ (to : ModuleKind) {last : Run} (o : run.Read last ≡ instruments_step to next instruments) where
+      module _ (to : ModuleKind) {last : Run} (o : Given last ≡ step_by (run_given (instrument_format to) next) instruments) where
         pub walk_accepted : Bytes file → {size pressed : ℕ} → size ≡ least_header to (word_at 64 file) + 60
             → pressed ≡ size + length ((each pattern_format).write ((each pattern_format).view ps.parts)) + last.pressed
-            → walked.Accepted pressed ≡ walk_step to (read_file file)
-        walk_accepted b q x = run_got (instrument_format to) next instruments o λ is m ei z l.
+            → Ok pressed ≡ outcome length (answered (pressed_as to) (read_file file))
+        walk_accepted b q x = given_got (run_given (instrument_format to) next) instruments o λ is m ei e.
             let h = began in
             let good = ((header_keeps kind).keeps 0 file h.head part.start b h.reads).good in
             let front = header-length kind to h.head.content good
             ∙ ap (λ (n : ℕ). least_header to n + 60) (song-length kind 0 file h.head part.start h.reads) in
-            ap walked.Accepted (sym (simp length-append (omega (arith, front)))) ∙ sym (ap (walk_step to) (all_read is m last.next ei z))
+            let l : last.pressed ≡ length ((each (instrument_format to)).write ((each (instrument_format to)).view is)) = ap Run.pressed e in
+            ap Ok (sym (simp length-append (omega (arith, front))))
+            ∙ sym (ap (λ (g : Got Found). outcome length (answered (pressed_as to) g)) (all_read is m last.next ei (ap Run.next e)))
 
         -- with the marks of its patterns that their loop left
         pub walk_marked : (marks : List ℕ) → ((ps : List PatternFound) (n : ℕ) → patterns ≡ got ps n → Marks file 0 ps marks)
             → (found : Found) (end : ℕ) → read_file file ≡ got found end → Marks file 0 found.1.0 marks
-        walk_marked marks told found end f = run_got (instrument_format to) next instruments o λ is m ei z l.
-            got_carry (λ (r : Found) (u : ℕ). Marks file 0 r.1.0 marks) (sym (all_read is m last.next ei z) ∙ f)
+        walk_marked marks told found end f = given_got (run_given (instrument_format to) next) instruments o λ is m ei e.
+            got_carry (λ (r : Found) (u : ℕ). Marks file 0 r.1.0 marks) (sym (all_read is m last.next ei (ap Run.next e)) ∙ f)
             (told ps.parts ps.used ps.reads)
 
       -- or counted
-      pub check_accepted : {last : Count} → counted.Read last ≡ count_step next instruments → {end channels patterns instruments samples : ℕ} → end ≡ last.next
+      pub check_accepted : {last : Count} → Given last ≡ step_by (count_given next) instruments → {end channels patterns instruments samples : ℕ} → end ≡ last.next
           → channels ≡ part.channels
           → patterns ≡ part.patterns → instruments ≡ part.instruments → samples ≡ last.samples
-          → verdict.Accepted (record { end = end; channels = channels; patterns = patterns; instruments = instruments; samples = samples })
-          ≡ verdict_of (checking file)
+          → Ok (record { end = end; channels = channels; patterns = patterns; instruments = instruments; samples = samples })
+          ≡ outcome code_module (checking file)
       unfolding checking
-      check_accepted {last} o a b c d f = count_got next instruments o λ is m ei z s.
+      check_accepted {last} o a b c d f = given_got (count_given next) instruments o λ is m ei e.
           let h = began in
-          let w = all_read is m last.next ei z in cc
+          let w = all_read is m last.next ei (ap Count.next e) in
+          let s = ap Count.samples e in cc

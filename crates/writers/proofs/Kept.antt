@@ -1,5 +1,5 @@
 -- Bytes that are content are copied as they stand: they are the numbers that they read as. Assumes nothing.
-use Prim.Native.Nat.{ℕ, ◌+◌, ◌≤◌, ◌<◌}
+use Prim.Native.Nat.{ℕ, ◌+◌, ◌-◌, ◌≤◌, ◌<◌}
 use mathlib.Core.List.{List, ◌++◌}
 use mathlib.Core.Path.{◌≡◌, refl, ap, ap₂, ◌∙◌}
 use native.Mathlib.Omega.{arith}
@@ -7,10 +7,15 @@ use lib.ListN.{length, take, drop, length-drop}
 use lib.Seq.{take-add, drop-drop, drop-cons, length-take-le}
 use Rattle.xm.specs.Number.{Bytes, byte_at, word_at, part, byte, word}
 use Rattle.xm.proofs.Format.{cons_path}
+use Rattle.xm.proofs.Lay.{part_all}
 
 -- As many bytes as there are
 pub part_length : (offset size : ℕ) (s : List ℕ) → offset + size ≤ length s → length (part offset size s) ≡ size
 part_length offset size s h = length-take-le size (drop offset s) (omega (arith, length-drop offset s))
+
+-- and the front of what stands from a place on
+pub front_part : (place size : ℕ) (s : List ℕ) → take size (take (length s - place) (drop place s)) ≡ part place size s
+front_part place size s = ap (take size) (part_all place s)
 
 -- A part in two parts
 pub part_split : (offset n m : ℕ) (s : List ℕ) → part offset (n + m) s ≡ part offset n s ++ part (offset + n) m s

@@ -1,15 +1,12 @@
 -- Laws of a pattern that was read and is written. Assumes nothing.
 use Prim.Native.Nat.{ℕ, ◌+◌, ◌-◌, ◌≤◌}
-use mathlib.Core.Bool.{true}
 use mathlib.Core.List.{List, [], ◌++◌, append-nil}
 use mathlib.Core.Path.{◌≡◌, refl, sym, ap, ap₂, ◌∙◌}
 use native.Mathlib.Nat.{add-sub_cancel_left}
 use native.Mathlib.Omega.{arith}
-use lib.Dec.{eqb}
 use lib.ListN.{length, take, drop, length-drop}
 use lib.Seq.{drop-drop, length-take-le}
 use borrow.Rule.Slice.PartMut.{put_mid}
-use borrow.Author.Tests.{eqb-true, eqb-false}
 use Rattle.xm.specs.Number.{Bytes, word_at, long_at, part}
 use Rattle.xm.specs.Got.{Got, got, refused, AllHold, list_in, Told}
 use Rattle.xm.specs.Answer.{in_front}
@@ -20,13 +17,15 @@ use Rattle.xm.proofs.Got.{passed, bind_got, got_value, got_used, got-accepted}
 use Rattle.xm.proofs.Stored.{stored_keeps, stored_rows}
 use Rattle.xm.proofs.Run.{stored_anywhere, stored_nothing}
 use Rattle.shortest.specs.Found.{stored_pressed, Known}
-use Rattle.mark.specs.Mark.{copied, nothing, Marked}
-use Rattle.mark.proofs.MarkLaws.{marked-nothing, marked-copied}
+use Rattle.mark.specs.declared.Mark.{Mark}
+use Rattle.mark.specs.declared.Mark.TheVariants.{Copied, Nothing}
+use Rattle.mark.specs.Mark.{Marked}
+use Rattle.mark.proofs.MarkLaws.{marked-nothing, marked_some, marked-copied}
 use Rattle.writers.specs.Found.{read_at, pressed_at}
 use Rattle.writers.specs.Pattern.{written_head}
 use Rattle.writers.proofs.Writing.{first_last}
 
-module _ (file : List ℕ) (place channels mark : ℕ) where
+module _ (file : List ℕ) (place channels : ℕ) (mark : Mark) where
   abbrev from : List ℕ
   from = drop place file
 
@@ -50,8 +49,9 @@ module _ (file : List ℕ) (place channels mark : ℕ) where
     pattern : Pattern
     used : ℕ
     reads : read_stored channels (word_at 5 from) (place + L) d ≡ got pattern used
-    none : eqb mark nothing ≡ eqb (length (write_stored pattern)) 0
-    already : eqb mark copied ≡ true → d ≡ write_stored pattern
+    nothing : mark ≡ Nothing → length (write_stored pattern) ≡ 0
+    some : (mark ≡ Nothing → ⊥) → length (write_stored pattern) ≡ 0 → ⊥
+    already : mark ≡ Copied → d ≡ write_stored pattern
     written : pressed_at pattern_format channels file place ≡ write_pattern pattern
 
   as_read : Told (λ i. Marked file i mark) (read_at pattern_format channels file place) → AsRead
@@ -68,7 +68,8 @@ module _ (file : List ℕ) (place channels mark : ℕ) where
             pattern = p;
             used = u;
             reads = ep;
-            none = marked-nothing marked;
+            nothing = marked-nothing marked;
+            some = marked_some marked;
             already = λ t. part-drop place L S file ∙ marked-copied marked t;
             written = ap (list_in (λ (i : PatternFound). write_pattern i.content)) (e ∙ sym e₂);
           }
@@ -78,15 +79,15 @@ module _ (file : List ℕ) (place channels mark : ℕ) where
   pattern_inside told = let h = (as_read told).tests in omega (arith, h.0, h.1.1.1.0, length-drop place file)
 
   -- In the code's numbers, with the stored form as the code cuts it out
-  module _ {head row size : ℕ} (p : head ≡ L) (q : row ≡ word_at 5 from) (r : size ≡ S) where
+  module _ {start row size : ℕ} (p : start ≡ place + L) (q : row ≡ word_at 5 from) (r : size ≡ S) where
     abbrev cut : List ℕ
-    cut = take (place + head + size - (place + head)) (drop (place + head) file)
+    cut = take (start + size - start) (drop start file)
 
     pub record PatternLies : Type 0 where
-      pub there : place + head + size ≤ length file
+      pub there : start + size ≤ length file
       pub rows_high : row ≤ rows_most
       pub size_high : length (stored_pressed row channels cut) ≤ data_most
-      pub known : Known row channels cut (eqb mark nothing) (eqb mark copied)
+      pub known : Known row channels cut mark
       pub long : length (pressed_at pattern_format channels file place) ≡ 9 + length (stored_pressed row channels cut)
       pub written : {shortest : ℕ} → shortest ≡ length (stored_pressed row channels cut)
           → (lent : List ℕ) {left : List ℕ} → 9 ≤ length lent → left ≡ in_front (stored_pressed row channels cut) (take (length lent - 9) (drop 9 lent))
@@ -132,8 +133,8 @@ module _ (file : List ℕ) (place channels mark : ℕ) where
               rows_most = omega (arith, h.1.1.0.1);
               channels_most = high;
               fine = rw (q, same_cut) (got-accepted (stored_anywhere channels (word_at 5 from) (place + L) 0 d w.pattern w.used w.reads));
-              nothing = λ t. is_pressed ∙ stored_nothing w.pattern (eqb-true (length (write_stored w.pattern)) 0 (sym w.none ∙ t));
-              some = λ t. let some = eqb-false (length (write_stored w.pattern)) 0 (sym w.none ∙ t) in omega (arith, ap length is_pressed);
+              nothing = λ t. is_pressed ∙ stored_nothing w.pattern (w.nothing t);
+              some = λ t. let some = w.some t in omega (arith, ap length is_pressed);
               already = λ t. is_pressed ∙ sym (w.already t) ∙ sym same_cut;
             };
             long = ap length is_written ∙ omega arith;

@@ -1,8 +1,7 @@
 -- `ahead::look_ahead` meets its contract. Assumes nothing.
-use mathlib.Core.Path.{refl}
-use Prim.Native.Nat.{◌%◌}
+use mathlib.Core.Path.{refl, ap}
+use Prim.Native.Nat.{ℕ, ◌*◌}
 use native.Mathlib.Omega.{arith}
-use Rattle.ahead.proofs.Lengths.{length_six}
 use Rattle.ahead.proofs.AheadLaws.{ahead_run, ahead_one}
 use Rattle.ahead.proofs.look_ahead.Goals as goal
 
@@ -13,13 +12,10 @@ returns-then-eight-eq128 c =
     (ahead_run a.stored.now a.place a.eight (λ i. omega (arith, c.type_inv.stored i)) c.requires.eight_value _ _
     c.if-eight-eq128.true c.empty_run-empty.ensures refl)
 
-pub ahead_by-requires-2-clause-bits_bound : goal.ahead_by-requires-2-clause-bits_bound
-ahead_by-requires-2-clause-bits_bound c = omega (arith, c.cell_bits.ensures, length_six (c.args.eight % 256))
-
 pub returns : goal.returns
 returns c =
     let a = c.args in
     rw c.ahead_by-2.ensures
     (ahead_one a.stored.now a.place a.eight (λ i. omega (arith, c.type_inv.stored i)) c.requires.eight_value _
     c.if-eight-eq128.false
-    c.cell_bits.ensures)
+    (ap (λ (n : ℕ). 8 * n) c.first_length.ensures.value))

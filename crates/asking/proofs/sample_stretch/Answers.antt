@@ -3,4 +3,4 @@ use Rattle.asking.proofs.AskLaws.{asked_inside}
 use Rattle.asking.proofs.sample_stretch.Goals as goal
 
 pub asked_stretch-requires : goal.asked_stretch-requires
-asked_stretch-requires c = let a = c.args in asked_inside a.file.now _ a.number _ c.ask_sample-asked.ensures
+asked_stretch-requires c = let a = c.args in asked_inside a.file.now _ a.number _ c.ask_sample.ensures

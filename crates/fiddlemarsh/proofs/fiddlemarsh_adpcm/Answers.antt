@@ -4,12 +4,12 @@ use lib.ListN.{length}
 use Rattle.loader.proofs.NumberLaws.{adpcm-fits, adpcm_same}
 use Rattle.fiddlemarsh.proofs.fiddlemarsh_adpcm.Goals as goal
 
-pub decode_number-requires : goal.decode_number-requires
-decode_number-requires c =
+pub answer_number-requires : goal.answer_number-requires
+answer_number-requires c =
     let a = c.args in
     adpcm-fits a.count a.bytes.now (length a.values.now) c.decode_adpcm-decoded.ensures.answer
 
 pub returns-clause-answer : goal.returns-clause-answer
 returns-clause-answer c =
     let a = c.args in
-    c.decode_number.ensures ∙ adpcm_same a.count a.bytes.now (length a.values.now) c.decode_adpcm-decoded.ensures.answer
+    c.answer_number.ensures ∙ adpcm_same a.count a.bytes.now (length a.values.now) c.decode_adpcm-decoded.ensures.answer

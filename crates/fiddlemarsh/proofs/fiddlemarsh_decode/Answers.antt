@@ -4,12 +4,12 @@ use lib.ListN.{length}
 use Rattle.loader.proofs.NumberLaws.{decode_fits, decode_same}
 use Rattle.fiddlemarsh.proofs.fiddlemarsh_decode.Goals as goal
 
-pub decode_number-requires : goal.decode_number-requires
-decode_number-requires c =
+pub answer_number-requires : goal.answer_number-requires
+answer_number-requires c =
     let a = c.args in
     decode_fits a.width a.bytes.now (length a.values.now) c.decode-decoded.ensures.answer
 
 pub returns-clause-answer : goal.returns-clause-answer
 returns-clause-answer c =
     let a = c.args in
-    c.decode_number.ensures ∙ decode_same a.width a.bytes.now (length a.values.now) c.decode-decoded.ensures.answer
+    c.answer_number.ensures ∙ decode_same a.width a.bytes.now (length a.values.now) c.decode-decoded.ensures.answer

@@ -4,16 +4,17 @@ use lib.IntN.{ℤ}
 use mir.Facts.{to_z-of_z}
 use Rattle.loader.proofs.NumberLaws.{period_fits, period_same}
 use Rattle.periods.specs.Period.{tuning}
-use Rattle.periods.specs.Tuned.{tuned_of}
+use Rattle.refusal.specs.Refusal.{outcome}
+use Rattle.periods.specs.Tuned.{quotient_of}
 use Rattle.fiddlemarsh.proofs.fiddlemarsh_period.Goals as goal
 
 -- the call below is handed the finetune as the machine holds it
-pub period_number-requires : goal.period_number-requires
-period_number-requires c =
-    period_fits c.args.note c.args.finetune (c.period-tuned.ensures ∙ ap (λ (z : ℤ). tuned_of (tuning c.args.note z)) (to_z-of_z c.ranges.finetune))
+pub answer_number-requires : goal.answer_number-requires
+answer_number-requires c =
+    period_fits c.args.note c.args.finetune (c.period-tuned.ensures ∙ ap (λ (z : ℤ). outcome quotient_of (tuning c.args.note z)) (to_z-of_z c.ranges.finetune))
 
 pub returns : goal.returns
 returns c =
-    c.period_number.ensures
+    c.answer_number.ensures
     ∙ period_same c.args.note c.args.finetune
-    (c.period-tuned.ensures ∙ ap (λ (z : ℤ). tuned_of (tuning c.args.note z)) (to_z-of_z c.ranges.finetune))
+    (c.period-tuned.ensures ∙ ap (λ (z : ℤ). outcome quotient_of (tuning c.args.note z)) (to_z-of_z c.ranges.finetune))

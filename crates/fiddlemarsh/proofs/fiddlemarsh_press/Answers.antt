@@ -5,8 +5,8 @@ use lib.ListN.{length}
 use Rattle.loader.proofs.NumberLaws.{press_fits, press_same}
 use Rattle.fiddlemarsh.proofs.fiddlemarsh_press.Goals as goal
 
-pub press_number-requires : goal.press_number-requires
-press_number-requires c =
+pub answer_number-requires : goal.answer_number-requires
+answer_number-requires c =
     let a = c.args in
     press_fits a.file.now (length a.out.now) c.press-pressed.ensures.answer
     (record { below = λ i. omega (arith, c.type_inv.file i) })
@@ -14,4 +14,4 @@ press_number-requires c =
 pub returns-clause-answer : goal.returns-clause-answer
 returns-clause-answer c =
     let a = c.args in
-    c.press_number.ensures ∙ press_same a.file.now (length a.out.now) c.press-pressed.ensures.answer
+    c.answer_number.ensures ∙ press_same a.file.now (length a.out.now) c.press-pressed.ensures.answer

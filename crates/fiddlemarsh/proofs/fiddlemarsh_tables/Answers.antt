@@ -5,8 +5,8 @@ use Rattle.tables.specs.Into.{lent}
 use Rattle.loader.proofs.NumberLaws.{tables_fits, tables_same}
 use Rattle.fiddlemarsh.proofs.fiddlemarsh_tables.Goals as goal
 
-pub check_number-requires : goal.check_number-requires
-check_number-requires c =
+pub answer_number-requires : goal.answer_number-requires
+answer_number-requires c =
     let a = c.args in
     tables_fits a.file.now (lent a.patterns.now a.instruments.now a.samples.now a.tunes.now) c.check_into-verdict.ensures.answer
     (record { below = λ i. omega (arith, c.type_inv.file i) })
@@ -14,4 +14,4 @@ check_number-requires c =
 pub returns-clause-answer : goal.returns-clause-answer
 returns-clause-answer c =
     let a = c.args in
-    c.check_number.ensures ∙ tables_same a.file.now (lent a.patterns.now a.instruments.now a.samples.now a.tunes.now) c.check_into-verdict.ensures.answer
+    c.answer_number.ensures ∙ tables_same a.file.now (lent a.patterns.now a.instruments.now a.samples.now a.tunes.now) c.check_into-verdict.ensures.answer

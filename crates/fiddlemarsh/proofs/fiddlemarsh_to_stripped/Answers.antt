@@ -6,8 +6,8 @@ use Rattle.xm.specs.ModuleKind.{stripped}
 use Rattle.loader.proofs.NumberLaws.{convert_fits, convert_same}
 use Rattle.fiddlemarsh.proofs.fiddlemarsh_to_stripped.Goals as goal
 
-pub press_number-requires : goal.press_number-requires
-press_number-requires c =
+pub answer_number-requires : goal.answer_number-requires
+answer_number-requires c =
     let a = c.args in
     convert_fits stripped a.file.now (length a.out.now) c.to_stripped-converted.ensures.answer
     (record { below = λ i. omega (arith, c.type_inv.file i) })
@@ -15,4 +15,4 @@ press_number-requires c =
 pub returns-clause-answer : goal.returns-clause-answer
 returns-clause-answer c =
     let a = c.args in
-    c.press_number.ensures ∙ convert_same stripped a.file.now (length a.out.now) c.to_stripped-converted.ensures.answer
+    c.answer_number.ensures ∙ convert_same stripped a.file.now (length a.out.now) c.to_stripped-converted.ensures.answer

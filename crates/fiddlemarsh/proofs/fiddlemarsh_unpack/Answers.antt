@@ -5,8 +5,8 @@ use lib.ListN.{length}
 use Rattle.loader.proofs.NumberLaws.{unpack_fits, unpack_same}
 use Rattle.fiddlemarsh.proofs.fiddlemarsh_unpack.Goals as goal
 
-pub unpack_number-requires : goal.unpack_number-requires
-unpack_number-requires c =
+pub answer_number-requires : goal.answer_number-requires
+answer_number-requires c =
     let a = c.args in
     unpack_fits a.rows a.channels a.stored.now (length a.cells.now) c.unpack-unpacked.ensures.value
     (record { below = λ i. omega (arith, c.type_inv.stored i) })
@@ -14,4 +14,4 @@ unpack_number-requires c =
 pub returns-clause-answer : goal.returns-clause-answer
 returns-clause-answer c =
     let a = c.args in
-    c.unpack_number.ensures ∙ unpack_same a.rows a.channels a.stored.now (length a.cells.now) c.unpack-unpacked.ensures.value
+    c.answer_number.ensures ∙ unpack_same a.rows a.channels a.stored.now (length a.cells.now) c.unpack-unpacked.ensures.value

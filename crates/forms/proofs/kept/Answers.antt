@@ -3,11 +3,11 @@ use native.Mathlib.Omega.{arith}
 use Rattle.forms.proofs.KeptLaws.{kept_none, kept-zero, kept_some}
 use Rattle.forms.proofs.kept.Goals as goal
 
-pub returns-then-file-place-ne0 : goal.returns-then-file-place-ne0
-returns-then-file-place-ne0 c = kept_some c.loop-left.invariant c.loop-left-test.true c.if-file-place-ne0.true
+pub returns-then-bytes-last-ne0 : goal.returns-then-bytes-last-ne0
+returns-then-bytes-last-ne0 c = omega (arith, c.loop-last-test.true, kept_some c.loop-last.invariant (omega (arith, c.loop-last-test.true)) c.if-bytes-last-ne0.true)
 
-pub loop-left-preserved : goal.loop-left-preserved
-loop-left-preserved c = kept-zero c.loop-left.invariant c.loop-left-test.true c.if-file-place-ne0.false
+pub loop-last-preserved : goal.loop-last-preserved
+loop-last-preserved c = kept-zero c.loop-last.invariant (omega (arith, c.loop-last-test.true)) c.if-bytes-last-ne0.false
 
 pub returns : goal.returns
-returns c = kept_none c.loop-left.invariant (omega arith)
+returns c = kept_none c.loop-last.invariant (omega (arith, c.loop-last-test.false))

@@ -2,8 +2,5 @@
 use Rattle.forms.proofs.KeptLaws.{KeptLeft}
 use Rattle.forms.proofs.kept.Given as goal
 
-abbrev pub invariant-loop-left : goal.invariant-loop-left
-invariant-loop-left l = KeptLeft l.file l.place l.count l.left
-
-abbrev pub decreases-loop-left : goal.decreases-loop-left
-decreases-loop-left l = l.left
+abbrev pub invariant-loop-last : goal.invariant-loop-last
+invariant-loop-last l = KeptLeft l.bytes l.last

@@ -7,4 +7,4 @@ use Rattle.forms.proofs.kept_by_eights.Goals as goal
 
 pub loop-left-preserved : goal.loop-left-preserved
 loop-left-preserved c =
-    (omega arith, eight_kept c.loop-left.invariant.1 (omega arith) (sym c.eight_at.ensures ∙ c.if-eight_at-ne0.false))
+    eight_kept c.loop-left.invariant (omega arith) (sym c.eight_at.ensures ∙ c.if-eight_at-ne0.false)

@@ -4,21 +4,21 @@ use native.Mathlib.Omega.{arith}
 use Rattle.heads.proofs.SampleLaws.{heads_start, heads_on, heads_out, heads_end}
 use Rattle.heads.proofs.read_heads.Goals as goal
 
-pub loop-read-init : goal.loop-read-init
-loop-read-init c = heads_start _ _ _ _
+pub loop-init : goal.loop-init
+loop-init c = heads_start _ _ _ _
 
 pub returns-in_default : goal.returns-in_default
 returns-in_default c =
-    let l = c.loop-read in
+    let l = c.loop in
     let a = c.args in
     heads_out a.file.now a.at a.size a.count l.invariant (omega arith) c.read_head-step.ensures c.in_default.is
 
-pub loop-read-preserved : goal.loop-read-preserved
-loop-read-preserved c =
-    let l = c.loop-read in
+pub loop-preserved : goal.loop-preserved
+loop-preserved c =
+    let l = c.loop in
     let a = c.args in
     heads_on a.file.now a.at a.size a.count l.invariant (omega arith)
-    (sym c.in-Next.is ∙ c.read_head-step.ensures)
+    (sym c.in-Given.is ∙ c.read_head-step.ensures)
 
 pub returns : goal.returns
-returns c = let a = c.args in heads_end a.file.now a.at a.size a.count c.loop-read.invariant (omega arith)
+returns c = let a = c.args in heads_end a.file.now a.at a.size a.count c.loop.invariant (omega arith)

@@ -12,10 +12,10 @@ returns-in_default c =
 pub read_all_data-requires-clause-at_in_bounds : goal.read_all_data-requires-clause-at_in_bounds
 read_all_data-requires-clause-at_in_bounds c =
     let behind = heads_behind c.args.file.now c.args.at c.args.size c.args.count
-    (sym c.in-Next.is ∙ c.read_heads-step.ensures) in
+    (sym c.in-Given.is ∙ c.read_heads-step.ensures) in
     omega arith
 
 pub returns : goal.returns
 returns c =
     let a = c.args in
-    c.read_all_data.ensures ∙ samples_on a.file.now a.at a.size a.count (sym c.in-Next.is ∙ c.read_heads-step.ensures)
+    c.read_all_data.ensures ∙ samples_on a.file.now a.at a.size a.count (sym c.in-Given.is ∙ c.read_heads-step.ensures)

@@ -3,19 +3,18 @@ use native.Mathlib.Omega.{arith}
 use Rattle.line.proofs.Put.{written_none, written_next, written_more, written_done}
 use Rattle.line.proofs.put_numbers.Goals as goal
 
-pub loop-done-init : goal.loop-done-init
-loop-done-init c = let a = c.args in (omega arith, written_none a.line.now a.at a.numbers.now)
+pub loop-number-init : goal.loop-number-init
+loop-number-init c = written_none c.args.line.now c.args.at c.args.numbers.now
 
 pub bounds-line-next : goal.bounds-line-next
 bounds-line-next c =
-    omega (arith, written_next c.args.line.now c.args.at c.args.numbers.now c.loop-done.invariant.1 c.requires (omega arith))
+    omega (arith, written_next c.args.line.now c.args.at c.args.numbers.now c.loop-number.invariant c.requires (omega (arith, c.loop-number-test.true)))
 
-pub loop-done-preserved : goal.loop-done-preserved
-loop-done-preserved c =
-    let l = c.loop-done in
-    let a = c.args in
-    (omega arith, written_more a.line.now a.at a.numbers.now l.invariant.1 c.requires (omega arith) (c.put_decimal-next.ensures.place, c.put_decimal-next.ensures.memory))
+pub loop-number-preserved : goal.loop-number-preserved
+loop-number-preserved c =
+    written_more c.args.line.now c.args.at c.args.numbers.now c.loop-number.invariant c.requires (omega (arith, c.loop-number-test.true))
+    (c.put_decimal-next.ensures.place, c.put_decimal-next.ensures.memory)
 
 pub returns-clause-memory : goal.returns-clause-memory
 returns-clause-memory c =
-    (written_done c.args.line.now c.args.at c.args.numbers.now c.loop-done.invariant.1 c.requires (omega arith)).1
+    (written_done c.args.line.now c.args.at c.args.numbers.now c.loop-number.invariant c.requires (omega (arith, c.loop-number-test.false))).1

@@ -2,22 +2,19 @@
 -- came to. Assumes nothing.
 use native.Mathlib.Omega.{arith}
 use borrow.Author.Tests.{ltb-true}
+use lib.Seq.{length-take-le}
 use Rattle.measure.proofs.Weighing.{weighing_block, weighed_less}
 use Rattle.measure.proofs.measure_cells.Goals as goal
 
 pub loop-left-smaller : goal.loop-left-smaller
 loop-left-smaller c =
-    let l = c.loop-left in
-    weighed_less c.fill_lengths.new.lengths c.fill_weights.new.weights c.block_of-size.result l.left l.extra l.odd
-    (c.block_of-size.ensures.some (omega (arith, ltb-true))) (omega arith) c.weigh_block-walk.ensures
+    let b = c.block_of-size.ensures in
+    let size = length-take-le c.block_of-size.result c.fill_lengths.new.lengths (omega (arith, b.most)) in
+    weighed_less _ _ _ _ (omega (arith, size, b.some (omega (arith, ltb-true)))) (omega arith) c.weigh_block-walk.ensures
 
 pub loop-left-preserved : goal.loop-left-preserved
 loop-left-preserved c =
-    let l = c.loop-left in (
-      weighing_block (λ i. omega (arith, c.type_inv.stored i)) l.used _ _ _ c.fill_lengths.ensures
-          c.fill_weights.ensures
-          (omega (arith, c.block_of-size.ensures.inside, l.invariant.0.measuring.inside)) l.invariant.0 c.weigh_block-walk.ensures
-          (omega (arith, l.invariant.0.measuring.inside)),
-      c.fill_lengths.ensures.long,
-      c.fill_weights.ensures.long,
-    )
+    let b = c.block_of-size.ensures in
+    let v = c.loop-left.invariant in
+    weighing_block (λ i. omega (arith, c.type_inv.stored i)) c.loop-left.used _ c.fill_lengths.ensures c.fill_weights.ensures b.most
+    (omega (arith, b.inside, v.measuring.inside)) v c.weigh_block-walk.ensures (omega (arith, v.measuring.inside))

@@ -19,10 +19,9 @@ loop-left-init c = (weighing_start _ _, c.first_eight-eight.ensures)
 pub loop-left-preserved : goal.loop-left-preserved
 loop-left-preserved c =
     let i = c.loop-left in (
-      weighing_turn (λ i. omega (arith, c.shared_slice_known-1.given i))
-          c.requires i.invariant.0 (omega arith) (wide (goal.at.loop-left-preserved c).Then-stored-used-ge21)
-          c.look_ahead-turn.ensures (sym c.is_longer.ensures ∙ c.if-is_longer.false)
-          (sym c.is_longer-in-loop-left.ensures ∙ c.if-is_longer-2.false),
+      weighing_turn (λ i. omega (arith, c.type_inv.stored i)) c.requires i.invariant.0 (omega arith)
+          (wide (goal.at.loop-left-preserved c).Then-stored-used-ge21) c.look_ahead-turn.ensures (sym c.is_longer.ensures ∙ c.if-is_longer.false)
+          (sym c.is_longer-else-is_longer.ensures ∙ c.if-is_longer-2.false),
       record { right = λ h. c.eight_at-eight.ensures },
     )
 
@@ -33,11 +32,4 @@ pub returns-after-loop-left : goal.returns-after-loop-left
 returns-after-loop-left c = skip_end _ _ _ _ c.requires c.loop-left.invariant.0
 
 pub returns-then-is_longer : goal.returns-then-is_longer
-returns-then-is_longer c =
-    let l = c.loop-left in
-    skip_end _ _ _ _ c.requires l.invariant.0
-
-pub returns-then-is_longer-2 : goal.returns-then-is_longer-2
-returns-then-is_longer-2 c =
-    let l = c.loop-left in
-    skip_end _ _ _ _ c.requires l.invariant.0
+returns-then-is_longer c = skip_end _ _ _ _ c.requires c.loop-left.invariant.0

@@ -6,17 +6,17 @@ use Rattle.module.proofs.LoopLaws.{instrument-accepted, instrument_room, instrum
 use Rattle.module.proofs.write_instruments.Goals as goal
 
 pub part_at-part-requires-clause-file_value : goal.part_at-part-requires-clause-file_value
-part_at-part-requires-clause-file_value c =
-    instrument-accepted _ _ _ _ _ c.loop-left.invariant c.loop-left-test.true
+part_at-part-requires-clause-file_value c = instrument-accepted _ _ _ _ _ c.loop.invariant (omega arith)
 
 pub write_instrument-written-requires-clause-at_in_bounds : goal.write_instrument-written-requires-clause-at_in_bounds
 write_instrument-written-requires-clause-at_in_bounds c =
-    let room = instrument_room _ _ _ _ _ c.loop-left.invariant c.loop-left-test.true in
+    let room = instrument_room _ _ _ _ _ c.loop.invariant (omega arith) in
     rw (part_all, length-drop) (omega (arith, room))
 
-pub loop-left-preserved : goal.loop-left-preserved
-loop-left-preserved c =
-    instruments_more _ _ _ _ _ c.loop-left.invariant c.loop-left-test.true c.part_at-part.ensures c.write_instrument-written.ensures.value c.write_instrument-written.ensures.out_after
+pub loop-preserved : goal.loop-preserved
+loop-preserved c =
+    instruments_more _ _ _ _ _ c.loop.invariant (omega arith) (omega arith) c.part_at-part.ensures c.write_instrument-written.ensures.value
+    c.write_instrument-written.ensures.out_after
 
 pub returns : goal.returns
-returns c = instruments_done _ _ _ _ _ c.loop-left.invariant (omega arith)
+returns c = instruments_done _ _ _ _ _ c.loop.invariant (omega arith)

@@ -1,10 +1,8 @@
 -- `module::write_instruments` meets its contract: the instruments that are left are still to be laid. Assumes nothing.
-use Rattle.xm.specs.ModuleKind.{kind_by}
+use Prim.Native.Nat.{◌-◌}
+use Rattle.steps.specs.Kind.{kind_of}
 use Rattle.module.proofs.LoopLaws.{InstrumentsLeft}
 use Rattle.module.proofs.write_instruments.Given as goal
 
-abbrev pub invariant-loop-left : goal.invariant-loop-left
-invariant-loop-left l = InstrumentsLeft l.file l.initial.out (kind_by l.to) l.at l.count l.left l.place l.out l.written
-
-abbrev pub decreases-loop-left : goal.decreases-loop-left
-decreases-loop-left l = l.left
+abbrev pub invariant-loop : goal.invariant-loop
+invariant-loop l = InstrumentsLeft l.file l.initial.out (kind_of l.kind) l.at l.count (l.count - l.counter) l.place l.out l.written

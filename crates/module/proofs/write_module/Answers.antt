@@ -3,7 +3,7 @@ use Prim.Native.Nat.{ℕ, ◌+◌, ◌-◌}
 use mathlib.Core.Path.{refl, sym, ap}
 use native.Mathlib.Omega.{arith}
 use lib.ListN.{take, drop, replicate, length-drop}
-use Rattle.xm.specs.ModuleKind.{kind_by}
+use Rattle.steps.specs.Kind.{kind_of}
 use Rattle.xm.specs.Format.{each}
 use Rattle.xm.specs.Header.{least_header, write_header}
 use Rattle.xm.specs.PatternInFile.{pattern_format}
@@ -18,17 +18,17 @@ use Rattle.module.proofs.write_module.Goals.{After-has_tracker}
 
 -- Where its parts lie, by the numbers of its header
 lies : (t : After-has_tracker) →
-    ModuleLies t.args.file.now t.args.marks.now t.requires.told (kind_by t.args.to) t.args.kept t.header_part-part.ensures
-    t.word-song_length.ensures.value t.has_tracker.ensures
+    ModuleLies t.args.file.now t.args.marks.now t.requires.told (kind_of t.args.kind) t.args.kept t.header_part-part.ensures
+    t.read-song_length.ensures.value t.has_tracker.ensures
 lies t =
-    module_lies _ _ t.requires.told (kind_by t.args.to) t.args.kept t.header_part-part.ensures
-    t.word-song_length.ensures.value t.has_tracker.ensures
+    module_lies _ _ t.requires.told (kind_of t.args.kind) t.args.kept t.header_part-part.ensures
+    t.read-song_length.ensures.value t.has_tracker.ensures
 
 pub header_part-part-requires : goal.header_part-part-requires
 header_part-part-requires c = numbers_inside _ _ c.requires.told
 
-pub word-song_length-requires : goal.word-song_length-requires
-word-song_length-requires c = omega (arith, numbers_inside _ _ c.requires.told)
+pub read-song_length-requires : goal.read-song_length-requires
+read-song_length-requires c = omega (arith, numbers_inside _ _ c.requires.told)
 
 pub slice_bounds-write_header-end : goal.slice_bounds-write_header-end
 slice_bounds-write_header-end c = omega (arith, (lies c).orders_inside)
@@ -36,7 +36,7 @@ slice_bounds-write_header-end c = omega (arith, (lies c).orders_inside)
 pub write_header-requires : goal.write_header-requires
 write_header-requires c =
     let l = lies (goal.at.write_header-requires c).After-has_tracker in
-    let size = ap (least_header (kind_by c.args.to)) l.orders_long in record { orders_from_in_bounds = numbers_inside _ _ c.requires.told; patterns_bound = omega (arith, l.many); orders_len_bound = omega (arith, l.orders_long, l.song_few); orders_in_bounds = omega (arith, size, l.long, c.requires.file_in_bounds) }
+    let size = ap (least_header (kind_of c.args.kind)) l.orders_long in record { orders_from_in_bounds = numbers_inside _ _ c.requires.told; patterns_bound = omega (arith, l.many); orders_len_bound = omega (arith, l.orders_long, l.song_few); orders_in_bounds = omega (arith, size, l.long, c.requires.file_in_bounds) }
 
 pub slice_bounds-write_patterns-count : goal.slice_bounds-write_patterns-count
 slice_bounds-write_patterns-count c =
@@ -46,9 +46,12 @@ pub slice_bounds-write_patterns-start : goal.slice_bounds-write_patterns-start
 slice_bounds-write_patterns-start c =
     omega (arith, c.least_header-first.ensures, (lies (goal.at.slice_bounds-write_patterns-start c).After-has_tracker).long, c.requires.file_in_bounds)
 
+pub invariant_of-channels : goal.invariant_of-channels
+invariant_of-channels c = let l = lies (goal.at.invariant_of-channels c).After-has_tracker in record { in_range = (l.some, l.high) }
+
 pub write_patterns-reached-requires : goal.write_patterns-reached-requires
 write_patterns-reached-requires c =
-    let l = lies (goal.at.write_patterns-reached-requires c).After-has_tracker in record { le_channels = (l.some, l.high); count_bound = l.many; told = l.told_first; at_in_bounds = rw (part_all, length-drop) (omega (arith, c.least_header-first.ensures, l.long, c.requires.file_in_bounds)) }
+    let l = lies (goal.at.write_patterns-reached-requires c).After-has_tracker in record { count_bound = l.many; told = l.told_first; at_in_bounds = rw (part_all, length-drop) (omega (arith, c.least_header-first.ensures, l.long, c.requires.file_in_bounds)) }
 
 pub slice_bounds-write_instruments-count : goal.slice_bounds-write_instruments-count
 slice_bounds-write_instruments-count c =
@@ -87,9 +90,9 @@ returns c =
     let l = lies (goal.at.returns c).After-has_tracker in
     let a = c.args in
     let file = a.file.now in
-    let to = kind_by a.to in
+    let to = kind_of a.kind in
     let part = c.header_part-part.result in
-    let song = c.word-song_length.result in
+    let song = c.read-song_length.result in
     let head = write_header to (header_with (tracker_by c.has_tracker.result file) part.patterns (take (80 + song - 80) (drop 80 file)) file) in
     let header =
     laid_first a.out.now (written_file to a.kept file) head _ {next = 60 + c.least_header-first.result} l.written

@@ -1,20 +1,28 @@
 -- `packing::measure_cells` meets its contract: each cell adds its length. Assumes nothing.
+use mathlib.Core.List.{[]}
 use native.Mathlib.Omega.{arith}
-use lib.ListN.{drop}
-use Rattle.packing.proofs.Measure.{lent-kept-five, measuring_done, measuring_small, measuring_more}
+use lib.ListN.{get_or}
+use Rattle.xm.proofs.Cell.{kepts_most}
+use Rattle.xm.proofs.Stored.{cells_most_lem}
+use Rattle.packing.proofs.Lent.{fives, measured}
 use Rattle.packing.proofs.measure_cells.Goals as goal
 
 pub shortest_by-shortest-requires : goal.shortest_by-shortest-requires
 shortest_by-shortest-requires c =
-    lent-kept-five (drop c.loop-left.place c.args.cells.now) c.kept_in-kept.ensures
+    let i = c.loop-cell.cell-index in
+    omega (arith, c.kept_in.ensures, kepts_most (get_or c.args.cells.now i []), c.told-cells i c.loop-cell-test.true)
+
+pub loop-cell-preserved : goal.loop-cell-preserved
+loop-cell-preserved c =
+    let i = c.loop-cell.cell-index in
+    measured c.args.cells.now i c.loop-cell-test.true (c.told-cells i c.loop-cell-test.true) c.loop-cell.shortest c.loop-cell.invariant c.kept_in.ensures c.shortest_by-shortest.ensures
 
 pub overflow_add-shortest : goal.overflow_add-shortest
 overflow_add-shortest c =
-    omega (arith, measuring_small c.loop-left.invariant (omega arith) c.kept_in-kept.ensures c.shortest_by-shortest.ensures)
-
-pub loop-left-preserved : goal.loop-left-preserved
-loop-left-preserved c =
-    measuring_more c.loop-left.invariant (omega arith) c.kept_in-kept.ensures c.shortest_by-shortest.ensures
-
-pub returns-after-loop-left : goal.returns-after-loop-left
-returns-after-loop-left c = measuring_done c.loop-left.invariant (λ h. omega arith)
+    let cells = c.args.cells.now in
+    let i = c.loop-cell.cell-index in
+    omega (
+      arith,
+      measured cells i c.loop-cell-test.true (c.told-cells i c.loop-cell-test.true) c.loop-cell.shortest c.loop-cell.invariant c.kept_in.ensures c.shortest_by-shortest.ensures,
+      cells_most_lem cells (fives cells c.told-cells),
+    )

@@ -1,7 +1,5 @@
 -- `periods::period_at` meets its contract. Assumes nothing.
-use mathlib.Core.Path.{ap₂}
-use native.Mathlib.Omega.{arith}
-use Prim.Native.Nat.{ℕ, ◌+◌, ◌/◌}
+use Rattle.std.proofs.Common.{ℕ, ◌+◌, ◌/◌, ap₂, ◌∙◌, arith}
 use Rattle.periods.specs.Period.{period_at}
 use Rattle.periods.proofs.Entries.{power_held}
 use Rattle.periods.proofs.period_at.Goals as goal
@@ -9,5 +7,5 @@ use Rattle.periods.proofs.period_at.Goals as goal
 pub returns : goal.returns
 unfolding period_at
 returns c =
-    ap₂ (λ (dividend divisor : ℕ). record { dividend = dividend; divisor = divisor }) c.entry-dividend.ensures
+    ap₂ (λ (dividend divisor : ℕ). record { dividend = dividend; divisor = divisor }) (c.from.ensures ∙ c.entry.ensures)
     (power_held (c.args.q / 96 + 1) (omega arith))

@@ -1,6 +1,9 @@
--- `periods::position` meets its contract. Assumes nothing.
-use Rattle.periods.proofs.Tuning.{sum_held}
+-- q as the code sums it. Assumes nothing.
+use Rattle.std.proofs.Common.{arith}
+use Rattle.std.proofs.lemmas.Int.{ints, to_z-of_z}
+use Rattle.periods.specs.Period.{position}
 use Rattle.periods.proofs.position.Goals as goal
 
 pub returns : goal.returns
-returns c = sum_held c.args.note c.args.finetune c.requires c.ranges.finetune c.rounded_down.ensures
+unfolding position
+returns c = grind (arith, ints, to_z-of_z)

@@ -1,15 +1,12 @@
--- `records::row_at` meets its contract: a row is lent, or is beyond those that are. Assumes nothing.
-use mathlib.Core.Path.{ap, ◌∙◌}
-use Rattle.std.proofs.lemmas.List.{get_or_default}
-use Rattle.records.specs.Records.{no_record}
-use Rattle.records.specs.declared.row.RowAsked.TheVariants as asked
-use Rattle.records.proofs.RecordsLaws.{row_lent, row_beyond}
+-- `records::row_at` meets its contract: it is a look-up. Assumes nothing.
+use Rattle.std.proofs.Common.{rules, ◌≡◌, ◌∙◌}
+use Rattle.std.specs.Option.{ok_or, option_copied}
+use Rattle.xm.specs.Got.{◌at◌}
+use Rattle.refusal.specs.Refusal.{code_refusal}
+use Rattle.records.proofs.RecordsLaws.{row_asked}
 use Rattle.records.proofs.row_at.Goals as goal
 
-pub returns-then-number-samples : goal.returns-then-number-samples
-returns-then-number-samples c =
-    ap asked.Row (get_or_default c.args.samples.now c.args.number _ no_record c.if-number-samples.true)
-    ∙ row_lent c.args.samples.now c.args.number c.if-number-samples.true
-
-pub returns-else-number-samples : goal.returns-else-number-samples
-returns-else-number-samples c = row_beyond c.args.samples.now c.args.number c.if-number-samples.false
+pub returns : goal.returns
+returns c =
+    let given : c.ok_or.result ≡ ok_or (option_copied c.get.result) (code_refusal (16 at 0)) = search rules in
+    given ∙ row_asked c.args.samples.now c.args.number c.get.result c.get.ensures.lookup

@@ -14,9 +14,8 @@ pub loop-number-preserved : goal.loop-number-preserved
 loop-number-preserved c =
     let i = c.loop-number.invariant in
     let e = c.row_step-step.ensures in (
-      omega arith,
-      stored_next c.args.file.now c.args.samples.now c.loop-number.number (e.0 ∙ ap (λ (j : _). code_row (get_or (list_in sample_rows (read_file c.args.file.now)) j no_row)) i.2)
-          i.1 (omega arith) (omega arith),
+      stored_next c.args.file.now c.args.samples.now c.loop-number.number (e.0 ∙ ap (λ (j : _). code_row (get_or (list_in sample_rows (read_file c.args.file.now)) j no_row)) i.1)
+          i.0 (omega arith) (omega arith),
       omega arith,
       λ l. e.2,
     )

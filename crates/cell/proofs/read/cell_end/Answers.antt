@@ -4,5 +4,5 @@ use Rattle.cell.proofs.read.cell_end.Goals as goal
 
 pub returns : goal.returns
 returns c =
-    fields_end_lem c.first_field-first.ensures c.next_field-second.ensures c.next_field-third.ensures c.next_field-fourth.ensures
-    c.next_field-fifth.ensures c.next_field-behind.ensures
+    let f = c.fields_of.ensures in
+    fields_end_lem f.note f.instrument f.volume f.effect f.parameter c.next_field.ensures

@@ -10,12 +10,14 @@ use Rattle.cell.proofs.read.try_cell.Goals as goal
 pub returns-then-left-eq0 : goal.returns-then-left-eq0
 returns-then-left-eq0 c =
     let a = c.args in
-    sym (ap (place_step a.place) (read_short_at a.place a.stored.now (omega (arith, length_some (get_or a.stored.now a.place 0)))))
+    rw c.at.ensures
+    (sym (ap (place_step a.place) (read_short_at a.place a.stored.now (omega (arith, length_some (get_or a.stored.now a.place 0))))))
 
 pub returns-then-left-used : goal.returns-then-left-used
 returns-then-left-used c =
     let a = c.args in
-    sym (ap (place_step a.place) (read_short_at a.place a.stored.now (omega (arith, c.cell_length-used.ensures))))
+    rw c.at-then-left-used.ensures
+    (sym (ap (place_step a.place) (read_short_at a.place a.stored.now (omega (arith, c.cell_length-used.ensures)))))
 
 pub returns : goal.returns
 returns c =

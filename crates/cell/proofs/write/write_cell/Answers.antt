@@ -6,60 +6,58 @@ use mathlib.Core.List.{List}
 use native.Mathlib.Omega.{arith}
 use lib.ListN.{length, get_or, set, length-set}
 use Rattle.xm.specs.Answer.{in_front}
-use Rattle.xm.specs.Cell.{bit, marks, kepts, plain_by, write_cell}
-use Rattle.xm.proofs.Cell.{kepts_sum}
-use Rattle.cell.proofs.ReadLaws.{bytes_at, five_at}
+use Rattle.xm.specs.Cell.{five, bit, marks, kepts, plain_by, write_cell}
+use Rattle.xm.proofs.Cell.{five_same, kepts_sum}
 use Rattle.cell.proofs.WriteLaws.{count_plain, written_marked, lead_plain, put_first, put_more, put_done}
 use Rattle.cell.proofs.write.write_cell.Goals as goal
 use Rattle.cell.proofs.write.write_cell.Goals.{After-lead_of-lead, Then-goes_plain, Else-goes_plain}
 
 -- The cell by its bytes: its lead byte, and the room for it
-lead : (c : After-lead_of-lead) → (let a = c.args in c.lead_of-lead.result ≡ 128 + marks (bytes_at a.place a.cells.now))
-lead c = let a = c.args in c.lead_of-lead.ensures ∙ ap (λ (l : List ℕ). 128 + marks l) (five_at a.place a.cells.now)
+same : (c : After-lead_of-lead) → five c.args.cell.now ≡ c.args.cell.now
+same c = five_same c.args.cell.now (omega arith)
 
-room : (c : After-lead_of-lead) → (let a = c.args in length (write_cell (bytes_at a.place a.cells.now)) ≤ length a.out.now)
-room c = rw (five_at c.args.place c.args.cells.now) at c.requires.cells_in_bounds
+lead : (c : After-lead_of-lead) → c.lead_of-lead.result ≡ 128 + marks (five c.args.cell.now)
+lead c = c.lead_of-lead.ensures ∙ ap (λ (l : List ℕ). 128 + marks l) (sym (same c))
 
 -- A plain one is as it stands
-plain : (c : Then-goes_plain)
-    → (let a = c.args in write_cell (bytes_at a.place a.cells.now) ≡ bytes_at a.place a.cells.now)
+plain : (c : Then-goes_plain) → write_cell (five c.args.cell.now) ≡ five c.args.cell.now
 plain c =
-    let a = c.args in
-    count_plain (bytes_at a.place a.cells.now)
+    count_plain (five c.args.cell.now)
     (sym (lead_plain _ _ _ _ _ c.lead_of-lead.result (lead (goal.at.Then-goes_plain c).After-lead_of-lead)) ∙ sym c.goes_plain.ensures ∙ c.if-goes_plain.true)
 
 -- and a marked one has its lead byte, and a byte for each field that is kept
-marked : (c : Else-goes_plain) → (let a = c.args in let cell = bytes_at a.place a.cells.now in
+marked : (c : Else-goes_plain) → (let a = c.args in let cell = five a.cell.now in
     (plain_by (get_or cell 0 0) (length (kepts cell)) ≡ false) × (1 + length (kepts cell) ≤ length a.out.now))
 marked c =
     let a = c.args in
+    let all = same (goal.at.Else-goes_plain c).After-lead_of-lead in
     let mark = sym (lead_plain _ _ _ _ _ c.lead_of-lead.result (lead (goal.at.Else-goes_plain c).After-lead_of-lead)) ∙ sym c.goes_plain.ensures ∙ c.if-goes_plain.false in
-    (mark, omega (arith, written_marked (bytes_at a.place a.cells.now) mark, room (goal.at.Else-goes_plain c).After-lead_of-lead))
+    (mark, omega (arith, written_marked (five a.cell.now) mark, ap (λ (l : List ℕ). length (write_cell l)) all, c.requires))
 
-bits : (c : Else-goes_plain) → (let a = c.args in let s = a.cells.now in
-    1 + (bit (get_or s a.place 0)
-    + (bit (get_or s (a.place + 1) 0) + (bit (get_or s (a.place + 2) 0) + (bit (get_or s (a.place + 3) 0) + bit (get_or s (a.place + 4) 0)))))
+bits : (c : Else-goes_plain) → (let a = c.args in let s = a.cell.now in
+    1 + (bit (get_or s 0 0) + (bit (get_or s 1 0) + (bit (get_or s 2 0) + (bit (get_or s 3 0) + bit (get_or s 4 0)))))
     ≤ length (set a.out.now 0 c.lead_of-lead.result))
 bits c =
     let a = c.args in
-    let s = a.cells.now in
+    let s = a.cell.now in
     omega (
       arith,
-      kepts_sum (get_or s a.place 0) (get_or s (a.place + 1) 0) (get_or s (a.place + 2) 0) (get_or s (a.place + 3) 0) (get_or s (a.place + 4) 0),
+      kepts_sum (get_or s 0 0) (get_or s 1 0) (get_or s 2 0) (get_or s 3 0) (get_or s 4 0),
       (marked c).1,
       length-set a.out.now 0 c.lead_of-lead.result,
     )
 
-pub copy_plain-requires-clause-cell_size_in_bounds_2 : goal.copy_plain-requires-clause-cell_size_in_bounds_2
-copy_plain-requires-clause-cell_size_in_bounds_2 c =
-    omega (arith, ap length (plain (goal.at.copy_plain-requires-clause-cell_size_in_bounds_2 c).Then-goes_plain), room (goal.at.copy_plain-requires-clause-cell_size_in_bounds_2 c).After-lead_of-lead)
+pub copy_plain-requires : goal.copy_plain-requires
+copy_plain-requires c =
+    let all = same (goal.at.copy_plain-requires c).After-lead_of-lead in
+    omega (arith, ap length (plain (goal.at.copy_plain-requires c).Then-goes_plain), ap (λ (l : List ℕ). length (write_cell l)) all, c.requires)
 
 pub returns-then-goes_plain : goal.returns-then-goes_plain
 returns-then-goes_plain c =
     let a = c.args in
-    let same = five_at a.place a.cells.now in
-    rw same
-    (record { value = sym (ap length (plain (goal.at.returns-then-goes_plain c).Then-goes_plain)); out_after = c.copy_plain.ensures ∙ ap (λ (l : List ℕ). in_front l a.out.now) (same ∙ sym (plain (goal.at.returns-then-goes_plain c).Then-goes_plain)) })
+    let all = same (goal.at.returns-then-goes_plain c).After-lead_of-lead in
+    let stands : write_cell a.cell.now ≡ a.cell.now = rw all at (plain (goal.at.returns-then-goes_plain c).Then-goes_plain) in
+    record { value = omega (arith, ap length stands); out_after = c.copy_plain.ensures ∙ ap (λ (l : List ℕ). in_front l a.out.now) (sym stands) }
 
 pub bounds-out-0 : goal.bounds-out-0
 bounds-out-0 c = omega (arith, (marked c).1)
@@ -82,12 +80,12 @@ put-requires c = omega (arith, bits (goal.at.put-requires c).Else-goes_plain)
 pub returns : goal.returns
 returns c =
     let a = c.args in
-    let cell = bytes_at a.place a.cells.now in
+    let cell = five a.cell.now in
     let s₀ = put_first a.out.now cell _ (lead (goal.at.returns c).After-lead_of-lead) (marked (goal.at.returns c).Else-goes_plain).1 in
     let s₁ = put_more _ _ s₀ (c.put-p1.ensures.value, c.put-p1.ensures.out_after) in
     let s₂ = put_more _ _ s₁ (c.put-p2.ensures.value, c.put-p2.ensures.out_after) in
     let s₃ = put_more _ _ s₂ (c.put-p3.ensures.value, c.put-p3.ensures.out_after) in
     let s₄ = put_more _ _ s₃ (c.put-p4.ensures.value, c.put-p4.ensures.out_after) in
-    rw (five_at a.place a.cells.now)
+    rw (← same (goal.at.returns c).After-lead_of-lead)
     (let both = put_done cell (put_more _ _ s₄ (c.put.ensures.value, c.put.ensures.out_after)) (marked (goal.at.returns c).Else-goes_plain).0 in
     record { value = both.0; out_after = both.1 })

@@ -2,25 +2,25 @@
 use mathlib.Core.Path.{ap}
 use native.Mathlib.Omega.{arith}
 use Rattle.rows.proofs.Reading.{accepted-header}
-use Rattle.rows.proofs.PlaceLoops.{skipping_start, skipping_room, skipping_on}
+use Rattle.rows.proofs.PlaceLoops.{skipping_start, skipping_room, skipping_on, skipping_left}
 use Rattle.steps.specs.declared.header.HeaderPart.{HeaderPart}
 use Rattle.rows.proofs.place.first_instrument.Goals as goal
 
 pub header_part-counts-requires : goal.header_part-counts-requires
-header_part-counts-requires c = (accepted-header _ c.requires).0
+header_part-counts-requires c = (accepted-header _ c.args.accepted.sound).0
 
-pub loop-left-init : goal.loop-left-init
-loop-left-init c = let e = c.header_part-counts.ensures in rw (ap HeaderPart.patterns e, ap HeaderPart.start e) (_, skipping_start _ c.requires)
+pub loop-init : goal.loop-init
+loop-init c = let e = c.header_part-counts.ensures in rw (ap HeaderPart.patterns e, ap HeaderPart.start e) (_, skipping_left _ (skipping_start _ c.args.accepted.sound) (omega arith))
 
 pub pattern_head-pattern-requires : goal.pattern_head-pattern-requires
-pattern_head-pattern-requires c = skipping_room _ c.loop-left.invariant.1 c.loop-left-test.true
+pattern_head-pattern-requires c = skipping_room _ c.loop.invariant.1 (omega (arith, c.loop-test.true))
 
 pub overflow_add-place : goal.overflow_add-place
 overflow_add-place c =
-    let w = c.loop-left.invariant.1 in
-    skipping_on _ w c.loop-left-test.true c.pattern_head-pattern.ensures λ i more ep es en fits rest. omega (arith, w.small, fits.inside)
+    let w = c.loop.invariant.1 in
+    skipping_on _ w (omega (arith, c.loop-test.true)) c.pattern_head-pattern.ensures λ i more ep es en fits rest. omega (arith, w.small, fits.inside)
 
-pub loop-left-preserved : goal.loop-left-preserved
-loop-left-preserved c =
-    skipping_on _ c.loop-left.invariant.1 c.loop-left-test.true c.pattern_head-pattern.ensures
-    λ i more ep es en fits rest. (more, rest)
+pub loop-preserved : goal.loop-preserved
+loop-preserved c =
+    skipping_on _ c.loop.invariant.1 (omega (arith, c.loop-test.true)) c.pattern_head-pattern.ensures
+    λ i more ep es en fits rest. (more, skipping_left _ rest (omega arith))

@@ -1,22 +1,17 @@
 -- `rows::place::part_at` meets its contract: the step's numbers stand in the fields, and behind them the data end. Assumes nothing.
 use native.Mathlib.Omega.{arith}
-use Rattle.xm.specs.Number.{Bytes}
 use Rattle.rows.proofs.InstrumentLaws.{accepted_tests, accepted-stands, accepted-part}
 use Rattle.rows.proofs.place.part_at.Goals as goal
-use Rattle.rows.proofs.place.part_at.Goals.{After-shared_slice_known-1}
 
-bytes : (t : After-shared_slice_known-1) → Bytes t.args.file.now
-bytes t = record { below = λ i. omega (arith, t.type_inv.file i) }
-
-pub instrument_head-head-requires-clause-all_hold : goal.instrument_head-head-requires-clause-all_hold
-instrument_head-head-requires-clause-all_hold c =
-    accepted_tests c.args.file.now c.args.place c.requires.file_len_bound (bytes c) c.requires.file_value
+pub instrument_head-head-requires : goal.instrument_head-head-requires
+instrument_head-head-requires c =
+    accepted_tests c.args.file.now c.args.place c.requires.file_len_bound (record { below = λ i. omega (arith, c.type_inv.file i) }) c.requires.file_value
 
 pub data_end-next-requires : goal.data_end-next-requires
 data_end-next-requires c =
-    accepted-stands c.args.file.now c.args.place c.requires.file_len_bound (bytes (goal.at.data_end-next-requires c).After-shared_slice_known-1) c.requires.file_value c.instrument_head-head.ensures
+    accepted-stands c.args.file.now c.args.place c.requires.file_len_bound (record { below = λ i. omega (arith, c.type_inv.file i) }) c.requires.file_value c.instrument_head-head.ensures
 
 pub returns : goal.returns
 returns c =
     let head = c.instrument_head-head.ensures in
-    accepted-part c.args.file.now c.args.place c.requires.file_len_bound (bytes (goal.at.returns c).After-shared_slice_known-1) c.requires.file_value head c.data_end-next.ensures (omega arith)
+    accepted-part c.args.file.now c.args.place c.requires.file_len_bound (record { below = λ i. omega (arith, c.type_inv.file i) }) c.requires.file_value head c.data_end-next.ensures (omega arith)

@@ -9,8 +9,8 @@ use Rattle.rows.specs.declared.sample.SampleRow.{SampleRow}
 use Rattle.rows.proofs.SampleLaws.{seeks_fits, seeks_found, seeks_after, seeks_tests, seeks_stands, seeks_on, seeks_less}
 use Rattle.rows.proofs.sample.row_step.Goals as goal
 
-pub instrument_head-instrument-requires-clause-all_hold : goal.instrument_head-instrument-requires-clause-all_hold
-instrument_head-instrument-requires-clause-all_hold c =
+pub instrument_head-instrument-requires : goal.instrument_head-instrument-requires
+instrument_head-instrument-requires c =
     let bytes : Bytes c.args.file.now = record { below = λ i. omega (arith, c.type_inv.file i) } in
     seeks_tests _ _ c.requires.0 bytes c.loop-left.invariant c.loop-left-test.true
 

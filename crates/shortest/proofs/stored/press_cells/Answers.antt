@@ -13,7 +13,7 @@ pub bounds-out-to : goal.bounds-out-to
 bounds-out-to c = empty_room c.loop-left.invariant (omega arith) c.if-lead.true
 
 pub loop-left-preserved-then-lead : goal.loop-left-preserved-then-lead
-loop-left-preserved-then-lead c = rewriting_empty c.loop-left.invariant (omega arith) c.if-lead.true
+loop-left-preserved-then-lead c = rewriting_empty c.loop-left.invariant (omega arith) c.if-lead.true refl
 
 pub rewrite_over-to-requires : goal.rewrite_over-to-requires
 rewrite_over-to-requires c =
@@ -22,7 +22,7 @@ rewrite_over-to-requires c =
 
 pub loop-left-preserved : goal.loop-left-preserved
 loop-left-preserved c =
-    rewriting_over c.loop-left.invariant (omega arith) refl _ c.cell_end-place.ensures _ _ c.rewrite_over-to.ensures.value (omega arith) c.rewrite_over-to.ensures.over c.rewrite_over-to.auto.out
+    rewriting_over c.loop-left.invariant (omega arith) refl _ c.cell_end-place.ensures _ _ c.rewrite_over-to.ensures.value refl (omega arith) c.rewrite_over-to.ensures.over c.rewrite_over-to.auto.out
 
 pub returns-clause-out_after : goal.returns-clause-out_after
 returns-clause-out_after c =

@@ -8,22 +8,22 @@ use Rattle.shortest.proofs.FoundLaws.{rewriting_done, rewriting_here, rewriting_
 use Rattle.shortest.proofs.stored.press_each.Goals as goal
 
 pub bounds-stored-at : goal.bounds-stored-at
-bounds-stored-at c = rewriting_here c.loop-unwritten.invariant (omega arith)
+bounds-stored-at c = rewriting_here c.loop.invariant (omega arith)
 
 pub overflow_add-place : goal.overflow_add-place
-overflow_add-place c = omega (arith, c.cell_length-place.ensures, rewriting_fits c.loop-unwritten.invariant (omega arith), c.well_formed)
+overflow_add-place c = omega (arith, c.cell_length-place.ensures, rewriting_fits c.loop.invariant (omega arith), c.well_formed)
 
 pub rewrite_cell-to-requires : goal.rewrite_cell-to-requires
 rewrite_cell-to-requires c =
-    let l = c.loop-unwritten in
+    let l = c.loop in
     rw (part_all l.to l.out)
     (record { place_in_bounds = rewriting_fits l.invariant (omega arith); stored_in_bounds = omega (arith, rewriting_room l.invariant (omega arith) refl, length-drop l.to l.out) })
 
-pub loop-unwritten-preserved : goal.loop-unwritten-preserved
-loop-unwritten-preserved c =
-    rewriting_part c.loop-unwritten.invariant (omega arith) refl _ (ap (λ (n : ℕ). c.loop-unwritten.place + n) c.cell_length-place.ensures) _ _ c.rewrite_cell-to.ensures.value c.rewrite_cell-to.ensures.out_after
+pub loop-preserved : goal.loop-preserved
+loop-preserved c =
+    rewriting_part c.loop.invariant (omega arith) refl _ (ap (λ (n : ℕ). c.loop.place + n) c.cell_length-place.ensures) _ _ c.rewrite_cell-to.ensures.value (omega arith) c.rewrite_cell-to.ensures.out_after
 
 pub returns : goal.returns
 returns c =
-    let both = rewriting_done c.loop-unwritten.invariant (omega arith) in
+    let both = rewriting_done c.loop.invariant (omega arith) in
     record { value = both.0; out_after = both.1 }

@@ -1,4 +1,5 @@
 -- `shortest::stored::press_each` meets its contract: what is left of the cells is what is still to be written. Assumes nothing.
+use Prim.Native.Nat.{◌-◌}
 use lib.ListN.{drop}
 use Rattle.xm.specs.Format.{joined}
 use Rattle.xm.specs.Cell.{write_cell}
@@ -6,9 +7,6 @@ use Rattle.xm.specs.Run.{cells_in}
 use Rattle.shortest.proofs.FoundLaws.{Rewriting}
 use Rattle.shortest.proofs.stored.press_each.Given as goal
 
-abbrev pub invariant-loop-unwritten : goal.invariant-loop-unwritten
-invariant-loop-unwritten l =
-    Rewriting l.stored l.initial.out (joined write_cell (cells_in l.count (drop l.from l.stored))) l.out l.place l.to l.unwritten
-
-abbrev pub decreases-loop-unwritten : goal.decreases-loop-unwritten
-decreases-loop-unwritten l = l.unwritten
+abbrev pub invariant-loop : goal.invariant-loop
+invariant-loop l =
+    Rewriting l.stored l.initial.out (joined write_cell (cells_in l.count (drop l.from l.stored))) l.out l.place l.to (l.count - l.counter)

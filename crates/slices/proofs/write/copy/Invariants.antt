@@ -1,11 +1,6 @@
--- `slices::write::copy` meets its contract: what is left of `from` is still to be laid. Assumes nothing.
-use Prim.Native.Nat.{◌≤◌, ◌-◌}
-use lib.ListN.{length, drop}
-use Rattle.xm.proofs.Lay.{Laid}
+-- So many bytes are copied, and what lies beyond is as it was. Assumes nothing.
+use Rattle.std.proofs.Common.{◌≡◌, ◌++◌, take, drop}
 use Rattle.slices.proofs.write.copy.Given as goal
 
-abbrev pub invariant-loop-done : goal.invariant-loop-done
-invariant-loop-done l = (l.done ≤ length l.from) × Laid l.initial.out l.from l.out l.done (drop l.done l.from)
-
-abbrev pub decreases-loop-done : goal.decreases-loop-done
-decreases-loop-done l = length l.from - l.done
+abbrev pub invariant-loop-i : goal.invariant-loop-i
+invariant-loop-i l = l.out ≡ take l.i l.from ++ drop l.i l.initial.out

@@ -2,35 +2,31 @@
 use mathlib.Core.Path.{◌≡◌, sym, ap, ◌∙◌}
 use Rattle.xm.specs.ModuleKind.{ModuleKind}
 use Rattle.xm.specs.Header.{kind_at, header_tests}
-use Rattle.refusal.specs.Test.{first_refusal}
-use Rattle.steps.specs.Step.{header_step}
-use Rattle.steps.specs.declared.header.HeaderStep.TheVariants.{Read}
-use Rattle.steps.proofs.HeaderLaws.{header_fails, header-holds, header_read}
-use Rattle.steps.proofs.KindLaws.{own_kind}
+use Rattle.refusal.specs.Refusal.{step_by}
+use Rattle.refusal.specs.Test.{tested}
+use Rattle.refusal.specs.declared.Step.TheVariants.{Given, Refused}
+use Rattle.refusal.proofs.TestLaws.{tested_holds}
+use Rattle.steps.specs.Step.{header_given}
+use Rattle.steps.proofs.HeaderLaws.{header_fails, header_passes}
 use Rattle.steps.proofs.header.read_header.Goals as goal
-use Rattle.steps.proofs.header.read_header.Goals.{After-header_refusal-refusal}
+use Rattle.steps.proofs.header.read_header.Goals.{After-header_refusal}
 
 -- The tests were those of the file's own kind
-own : (t : After-header_refusal-refusal) →
+own : (t : After-header_refusal) →
     let file = t.args.file.now in
-    t.header_refusal-refusal.result ≡ first_refusal (header_tests (kind_at file) 0 file)
+    tested (header_tests (kind_at file) 0 file) ≡ t.header_refusal.result
 own t =
     let file = t.args.file.now in
-    t.header_refusal-refusal.ensures ∙ ap (λ (kind : ModuleKind). first_refusal (header_tests kind 0 file)) (own_kind file t.is_stripped.ensures)
+    sym (t.header_refusal.ensures ∙ ap (λ (kind : ModuleKind). tested (header_tests kind 0 file)) t.of.ensures)
 
-pub returns-then-refusal-ne0 : goal.returns-then-refusal-ne0
-returns-then-refusal-ne0 c =
+pub returns-in-Err : goal.returns-in-Err
+returns-in-Err c =
     let file = c.args.file.now in
-    sym (ap header_step (header_fails (kind_at file) file (own (goal.at.returns-then-refusal-ne0 c).After-header_refusal-refusal) c.if-refusal-ne0.true))
-
-pub header_part-requires : goal.header_part-requires
-header_part-requires c =
-    let file = c.args.file.now in
-    (header-holds (kind_at file) file (own (goal.at.header_part-requires c).After-header_refusal-refusal) c.if-refusal-ne0.false).0
+    ap Refused c.at.ensures
+    ∙ sym (ap (step_by header_given) (header_fails (kind_at file) file (own (goal.at.returns-in-Err c).After-header_refusal ∙ c.in-Err.is)))
 
 pub returns : goal.returns
 returns c =
-    let a = c.args in
-    let file = a.file.now in
-    ap Read c.header_part.ensures
-    ∙ sym (ap header_step (header_read (kind_at file) file (header-holds (kind_at file) file (own (goal.at.returns c).After-header_refusal-refusal) c.if-refusal-ne0.false)))
+    let file = c.args.file.now in
+    let held = tested_holds (header_tests (kind_at file) 0 file) (own (goal.at.returns c).After-header_refusal ∙ c.in_default.is) in
+    ap Given c.header_part.ensures ∙ sym (ap (step_by header_given) (header_passes (kind_at file) file held))

@@ -2,7 +2,7 @@
 use mathlib.Core.Path.{refl, sym}
 use native.Mathlib.Omega.{arith}
 use lib.ListN.{length}
-use Rattle.xm.specs.ModuleKind.{kind_by}
+use Rattle.steps.specs.Kind.{kind_of}
 use Rattle.xm.specs.Header.{write_header}
 use Rattle.xm.proofs.Lay.{laid_first, laid_part, laid_last}
 use Rattle.writers.specs.Header.{tracker_by, header_with, names_of, header_numbers}
@@ -14,7 +14,7 @@ returns c =
     let a = c.args in
     let file = a.file.now in
     let orders = a.orders.now in
-    let kind = kind_by a.to in
+    let kind = kind_of a.kind in
     let tracker = tracker_by a.kept file in
     let named = tracker_size a.kept file c.requires.orders_from_in_bounds in
     let names =

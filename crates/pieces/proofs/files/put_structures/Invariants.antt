@@ -1,9 +1,0 @@
--- Each turn leaves one fewer.
-use Rattle.std.proofs.Common.{◌≤◌}
-use Rattle.pieces.proofs.files.put_structures.Given as goal
-
-abbrev pub invariant-loop-left : goal.invariant-loop-left
-invariant-loop-left g l = 0 ≤ l.left
-
-abbrev pub decreases-loop-left : goal.decreases-loop-left
-decreases-loop-left g l = l.left
