@@ -63,6 +63,7 @@ fn goes_plain(lead: u8, note: u8) -> bool
 }
 
 // A lent cell in its shortest form at the front of out; its length.
+#[inline(always)]
 pub fn write_cell(cell: &[u8; 5], out: &mut [u8]) -> usize
     requires { length (write_cell cell.now) ≤ length out.old }
     ensures value { result ≡ length (write_cell cell.now) }

@@ -49,7 +49,9 @@ fn fill_first(stored: &[u8], place: usize, eight: u64, out: &mut [u8])
     }
 }
 
-// A run of cells that were accepted, five bytes each, at the front, two or more at a time: the cells say how far a turn goes.
+// A run of cells that were accepted, five bytes each, at the front, two or more at a time: the cells say how far a turn goes. A call of its
+// own, so that what it keeps does not stand on the stack during the first pass.
+#[inline(never)]
 fn fill_cells(stored: &[u8], count: usize, out: &mut [u8])
     requires stored_value { accepted (read_run count 0 stored.now) ≡ true }
     requires cell_size_in_bounds { count * cell_size ≤ length out.old }

@@ -11,15 +11,19 @@ ghost use Rattle.fields.specs.Fields.{voice_in, fields_in, heads_cut};
 use forms::{Form, least_size};
 use slices::write::{clear, copy, copy_front, put};
 
-// `count` bytes of a structure, from an offset on; those that are not there are 0.
-// How much is written is not how long the part is.
+// `count` bytes of a structure, from an offset on; those that are not there are 0. Mostly all are there: then so many are copied, which most
+// callers tell the compiler. How much is written is not how long the part is.
 fn write_cut(own: &[u8], from: usize, count: usize, out: &mut [u8])
     requires { count ≤ length out.old }
     ensures { out.new ≡ in_front (padded count (drop from own.now)) out.old }
 {
     let cut = &own[from.min(own.len())..];
-    let there = count.min(cut.len());
-    copy(&cut[..there], out);
+    let there = cut.len();
+    if count <= there {
+        copy(&cut[..count], out);
+        return;
+    }
+    copy(cut, out);
     clear(count - there, &mut out[there..]);
 }
 

@@ -1,10 +1,12 @@
 -- Laws of the steps over sample headers and sample data. Assumes nothing.
 use borrow.Author.Rules.{rules}
 use Prim.Native.Nat.{ℕ, zero, suc, ◌+◌, ◌-◌, ◌*◌, ◌≤◌, ◌<◌}
+use mathlib.Core.Bool.{Bool, true, false, cond}
 use mathlib.Core.List.{List, [], ◌∷◌}
 use mathlib.Core.Path.{◌≡◌, refl, sym, ap, ap₂, ◌∙◌}
 use native.Mathlib.Nat.{add_assoc, add-sub_cancel_left, zero-mul}
 use native.Mathlib.Omega.{arith}
+use lib.Dec.{eqb}
 use lib.ListN.{length, get_or, take, drop, replicate, length-take, length-drop, length-append, length-replicate, get_or-replicate}
 use lib.Seq.{drop-drop, length-take-le}
 use Rattle.std.specs.Prelude.{Ok, Err}
@@ -12,7 +14,7 @@ use Rattle.xm.specs.ModuleKind.{padded}
 use Rattle.xm.specs.Answer.{in_front}
 use Rattle.xm.specs.Got.{Got, got, refused, ◌>>=◌, ◌>>◌, checked, ◌at◌}
 use Rattle.xm.specs.Format.{each}
-use Rattle.xm.specs.Sample.{least_head, head_bytes, data_size_by, data_size, StretchFound, read_head, read_data, head_format, data_format}
+use Rattle.xm.specs.Sample.{least_head, head_bytes, adpcm, adpcm_size, data_size_by, data_size, StretchFound, read_head, read_data, head_format, data_format}
 use Rattle.xm.specs.Sample.{SamplesFound}
 use Rattle.xm.specs.Sample.{samples_format, size_of_first}
 use Rattle.xm.proofs.Number.{Agree, agree_byte, agree_long}
@@ -95,6 +97,14 @@ module _ {bytes : List ℕ} {head : SampleHead} (v : HeadAt bytes head) where
   pub head_size : data_size_by head.kind head.length ≡ data_size bytes
   unfolding data_size
   head_size = ap (λ (h : SampleHead). data_size_by h.kind h.length) v.value
+
+  pub size_small : data_size_by head.kind head.length < 4294967296
+  size_small = go (eqb head.kind adpcm) head.length v.length_small
+    where
+      go : (b : Bool) (n : ℕ) → n < 4294967296 → cond b (adpcm_size n) n < 4294967296
+      go true zero h = omega arith
+      go true (suc n) h = omega arith
+      go false n h = h
 
 module _ (file : List ℕ) (head_place size place : ℕ) {head : SampleHead} (v : HeadAt (head_bytes size (drop head_place file)) head) {bytes : ℕ}
     (said : bytes ≡ data_size_by head.kind head.length) where

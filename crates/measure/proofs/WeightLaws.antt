@@ -276,6 +276,10 @@ weight_by s place ea eb ec ed ee ep em ew =
       get_or-drop place s 5 0,
     )
 
+pub cond_most : (t : Bool) {a b n : ℕ} → a ≤ n → b ≤ n → cond t a b ≤ n
+cond_most true h k = h
+cond_most false h k = k
+
 -- Where all are some, none is 0
 pub some_all : (n : ℕ) (s : List ℕ) → some_of n s ≡ n → (i : ℕ) → i < n → get_or s i 0 ≡ 0 → ⊥
 unfolding some_of

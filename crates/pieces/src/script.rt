@@ -1,4 +1,5 @@
 // A line of the script: a file's name, a call's, and up to five numbers, with a space between.
+ghost use Rattle.std.specs.Prelude.{◌≤◌, length};
 
 // What is called, told by the first two letters of its name.
 #[derive(Clone, Copy, PartialEq, Eq)]
@@ -51,8 +52,10 @@ fn number_of(word: &[u8]) -> usize {
 }
 
 impl<'a> Words<'a> {
-    // 0 for each letter and number that the line doesn't have.
-    pub fn of(line: &'a [u8]) -> Words<'a> {
+    // 0 for each letter and number that the line doesn't have. The name lies in the line.
+    pub fn of(line: &'a [u8]) -> Words<'a>
+        ensures { length result.name.now ≤ length line.now }
+    {
         let mut words = line.split(|byte| *byte == b' ');
         let name = words.next().unwrap_or(line);
         let letter = |behind: usize| line.get(name.len() + behind).copied().unwrap_or(0);

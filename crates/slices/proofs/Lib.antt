@@ -1,2 +1,3 @@
 pub mod Sign
 pub mod Stores
+pub mod Whole

@@ -66,7 +66,7 @@ impl Number for u8 {
     }
 }
 
-#[tactic(auto, unfolding(xm::specs::Number::word_at))]
+#[tactic(auto, using(crate::proofs::Whole::word_whole), unfolding(xm::specs::Number::word_at))]
 impl Number for u16 {
     ghost bytes = { 2 };
 
@@ -82,6 +82,10 @@ impl Number for u16 {
     }
 
     fn number_in(file: &[u8], place: usize, size: usize, offset: usize) -> usize {
+        // mostly it is there whole: then it is one load
+        if 2 <= size && offset <= size - 2 {
+            return Self::number(file, place, offset);
+        }
         if size <= offset {
             return 0;
         }
@@ -95,7 +99,7 @@ impl Number for u16 {
     }
 }
 
-#[tactic(auto, unfolding(xm::specs::Number::long_at))]
+#[tactic(auto, using(crate::proofs::Whole::long_whole), unfolding(xm::specs::Number::long_at))]
 impl Number for u32 {
     ghost bytes = { 4 };
 
@@ -111,6 +115,9 @@ impl Number for u32 {
     }
 
     fn number_in(file: &[u8], place: usize, size: usize, offset: usize) -> usize {
+        if 4 <= size && offset <= size - 4 {
+            return Self::number(file, place, offset);
+        }
         if size <= offset {
             return 0;
         }

@@ -1,23 +1,28 @@
 -- `fields::write_cut` meets its contract: the bytes that are there, and zeros. Assumes nothing.
-use Prim.Native.Nat.{◌-◌}
-use mathlib.Core.Path.{refl, sym, ◌∙◌}
+use Prim.Native.Nat.{◌-◌, ◌≤◌}
+use mathlib.Core.Path.{refl, ap, sym, ◌∙◌}
 use native.Mathlib.Omega.{arith}
 use lib.ListN.{length, take, drop}
-use lib.Seq.{length-take-le}
 use Rattle.xm.specs.ModuleKind.{padded}
-use Rattle.xm.proofs.Cut.{padded-length}
+use Rattle.xm.proofs.Cut.{padded-length, padded-long}
 use Rattle.xm.proofs.Lay.{part_all, laid_first, laid_last}
-use Rattle.fields.proofs.CutLaws.{padded_there, cut_from}
+use Rattle.fields.proofs.CutLaws.{named, padded_short, cut_from}
 use Rattle.fields.proofs.write_cut.Goals as goal
+
+pub returns-then-count-there : goal.returns-then-count-there
+returns-then-count-there c =
+    let a = c.args in
+    let all = drop a.from a.own.now in
+    let same = part_all c.min.result a.own.now ∙ cut_from a.from a.own.now c.min.ensures in
+    named a.out.now c.copy.ensures (ap (take a.count) same ∙ sym (padded-long a.count all (omega (arith, ap length same, c.if-count-there.true))))
 
 pub returns : goal.returns
 returns c =
     let a = c.args in
     let own = a.own.now in
     let all = drop a.from own in
-    let there = c.min-there.result in
     let cut = take (length own - c.min.result) (drop c.min.result own) in
     let same = part_all c.min.result own ∙ cut_from a.from own c.min.ensures in
-    let few = rw same at c.min-there.ensures in
-    laid_last (laid_first a.out.now (padded a.count all) (take there cut) _ (rw same (padded_there a.count all few))
-    (omega (arith, padded-length a.count all)) (sym (length-take-le there cut (omega (arith, c.min-there.ensures)))) c.copy.ensures) refl c.clear.ensures
+    let few : length all ≤ a.count = omega (arith, ap length same, c.if-count-there.false) in
+    laid_last (laid_first a.out.now (padded a.count all) cut _ (rw same (padded_short a.count all few))
+    (omega (arith, padded-length a.count all)) refl c.copy-2.ensures) refl c.clear.ensures
