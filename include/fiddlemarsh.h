@@ -44,13 +44,13 @@
    Stack is what a call takes below its caller's, return address included: the most that was measured on x86-64.
 
        call       stack, bytes    time grows with
-       check               376    file_len: what stands in headers and patterns is read once, sample data are passed over
-       unpack              256    data_len + rows x channels
-       pack                 88    cells_len
-       press               712    file_len: as the check, and once more what is written
-       to_normal           712    file_len: as the check, and once more what is written
-       to_stripped         712    file_len: as the check, and once more what is written
-       tables              568    file_len: as the check, and once more the headers
+       check               360    file_len: what stands in headers and patterns is read once, sample data are passed over
+       unpack              224    data_len + rows x channels
+       pack                 72    cells_len
+       press               696    file_len: as the check, and once more what is written
+       to_normal           696    file_len: as the check, and once more what is written
+       to_stripped         696    file_len: as the check, and once more what is written
+       tables              552    file_len: as the check, and once more the headers
        decode               40    bytes_len
        code                 64    values_len
        adpcm                56    length
@@ -98,8 +98,8 @@ extern "C" {
 
 #define FIDDLEMARSH_VERSION_MAJOR 6
 #define FIDDLEMARSH_VERSION_MINOR 0
-#define FIDDLEMARSH_VERSION_PATCH 4
-#define FIDDLEMARSH_VERSION "6.0.4"
+#define FIDDLEMARSH_VERSION_PATCH 5
+#define FIDDLEMARSH_VERSION "6.0.5"
 
 /* The refusal numbers, and the place that comes with each. */
 enum fiddlemarsh_number {

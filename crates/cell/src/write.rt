@@ -62,7 +62,7 @@ fn goes_plain(lead: u8, note: u8) -> bool
     lead == 159 && note < 128
 }
 
-// A lent cell in its shortest form at the front of out; its length.
+// A lent cell in its shortest form at the front of out; its length. Inlined, so that packing makes no call.
 #[inline(always)]
 pub fn write_cell(cell: &[u8; 5], out: &mut [u8]) -> usize
     requires { length (write_cell cell.now) ≤ length out.old }

@@ -16,7 +16,7 @@ use walk::FILE_MOST;
 
 // A file as a module of either kind, with its tracker name kept or not. One pass over its cells checks and measures, so that nothing is written
 // before the room is known to do; the other writes. What keeps the name keeps the kind, and is no longer than the file.
-// Inlined, so that each pass stays a call of its own and their stack does not add up: 712 bytes in all, and 792 otherwise.
+// Inlined, so that each pass stays a call of its own and their stack does not add up.
 // The marks are numbers of two bits, 64 bytes of stack, as the header for C states it.
 #[inline(always)]
 fn write_as(file: &[u8], kind: ModuleKind, kept: bool, out: &mut [u8]) -> Result<usize, Refusal>

@@ -12,14 +12,17 @@ pub enum ModuleKind {
 }
 
 impl ModuleKind {
-    // A file's: stripped if it has a stripped module's mark and version.
+    // A file's: stripped if it has a stripped module's mark and version. Where the mark is another the version is not looked at.
     pub fn of(file: &[u8]) -> ModuleKind
         ensures { kind_of result ≡ kind_at file.now }
     {
         let size = file.len();
         let mark = read_in::<u8>(file, 0, size, 37);
+        if mark != 0 {
+            return ModuleKind::Normal;
+        }
         let version = read_in::<u16>(file, 0, size, 58);
-        if mark == 0 && version == 0 {
+        if version == 0 {
             ModuleKind::Stripped
         } else {
             ModuleKind::Normal
