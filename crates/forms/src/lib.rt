@@ -133,8 +133,7 @@ pub fn normal_form(at: usize, part: InstrumentPart) -> Form
 }
 
 // The same in a stripped one, where I and H are measured and not the least: both in one function would ask of a normal one what only this
-// one needs. A call of its own, for which a normal one sets nothing aside.
-#[inline(never)]
+// one needs.
 pub fn stripped_form(file: &[u8], at: usize, part: InstrumentPart) -> Form
     requires instrument_is { InstrumentIs file.now at part }
     requires file_len_bound { length file.now ≤ file_most }
@@ -153,7 +152,6 @@ pub fn stripped_form(file: &[u8], at: usize, part: InstrumentPart) -> Form
 }
 
 // In either kind. What part it is of is one clause of each form: a struct of file, place and part would ask it of a normal one too.
-#[inline(never)]
 pub fn form_of(file: &[u8], at: usize, part: InstrumentPart, kind: ModuleKind) -> Form
     requires instrument_is { InstrumentIs file.now at part }
     requires file_len_bound { length file.now ≤ file_most }
