@@ -47,10 +47,10 @@
        check               360    file_len: what stands in headers and patterns is read once, sample data are passed over
        unpack              224    data_len + rows x channels
        pack                 72    cells_len
-       press               696    file_len: as the check, and once more what is written
-       to_normal           696    file_len: as the check, and once more what is written
-       to_stripped         696    file_len: as the check, and once more what is written
-       tables              552    file_len: as the check, and once more the headers
+       press               680    file_len: as the check, and once more what is written
+       to_normal           680    file_len: as the check, and once more what is written
+       to_stripped         680    file_len: as the check, and once more what is written
+       tables              536    file_len: as the check, and once more the headers
        decode               40    bytes_len
        code                 64    values_len
        adpcm                56    length
